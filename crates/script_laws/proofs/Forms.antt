@@ -15,7 +15,7 @@ use Rattle.script_words.specs.Hexes.{hex_in, tag_in}
 use Rattle.script_words.specs.Numbers.{number_within, signed_within}
 use Rattle.script_words.specs.Places.{choice_in, word32, word64}
 use Rattle.script_lines.specs.declared.kind.ScriptKind.{ScriptKind}
-use Rattle.script_lines.specs.declared.line.Line.TheVariants.{Mode as ModeLine, Limits as LimitsLine, Pages as PagesLine, Block as BlockLine, Expect as ExpectLine, Linear as LinearLine, Stripe as StripeLine, Flip as FlipLine, Shift as ShiftLine, Schedule as ScheduleLine}
+use Rattle.script_lines.specs.declared.line.ScriptLine.TheVariants.{Mode as ModeLine, Limits as LimitsLine, Pages as PagesLine, Block as BlockLine, Expect as ExpectLine, Linear as LinearLine, Stripe as StripeLine, Flip as FlipLine, Shift as ShiftLine, Schedule as ScheduleLine}
 use Rattle.script_lines.specs.declared.line.Spot.{Spot}
 use Rattle.script_lines.specs.declared.line.Spot.TheVariants.{Host, Wire, Medium}
 use Rattle.script_lines.specs.Forms.{block_form, expect_form, fault_form, flip_form, flip_spot, leg_word, len_in, limits_form, linear_form, mask_by, mask_in, mode_form, pages_form, place_form, protect_by, protect_in, schedule_form, shift_form, shift_spot, size_by, size_in, stripe_form, striped_form}

@@ -12,8 +12,8 @@ use Rattle.script_words.specs.Hexes.{byte_in, hex_in, long_tag_in, tag_in}
 use Rattle.script_words.specs.Numbers.{as_negative, as_positive, number_within, signed_within}
 use Rattle.script_words.specs.Places.{both as both_numbers, choice_by, choice_in, leg_in, pair_by, seg_in, segs_in, spot_in, word32, word64}
 use Rattle.script_lines.specs.declared.kind.ScriptKind.{ScriptKind}
-use Rattle.script_lines.specs.declared.line.Line.{Line}
-use Rattle.script_lines.specs.declared.line.Line.TheVariants.{Mode as ModeLine, Limits as LimitsLine, Pages as PagesLine, Block as BlockLine, Expect as ExpectLine, Inner as InnerLine, Linear as LinearLine, Stripe as StripeLine, Over as OverLine, Flip as FlipLine, Shift as ShiftLine, Schedule as ScheduleLine, Op as AnOp}
+use Rattle.script_lines.specs.declared.line.ScriptLine.{ScriptLine}
+use Rattle.script_lines.specs.declared.line.ScriptLine.TheVariants.{Mode as ModeLine, Limits as LimitsLine, Pages as PagesLine, Block as BlockLine, Expect as ExpectLine, Inner as InnerLine, Linear as LinearLine, Stripe as StripeLine, Over as OverLine, Flip as FlipLine, Shift as ShiftLine, Schedule as ScheduleLine, Op as AnOp}
 use Rattle.script_lines.specs.declared.line.ModeLine.{ModeLine as Moded}
 use Rattle.script_lines.specs.declared.line.OpLine.{OpLine}
 use Rattle.script_lines.specs.declared.line.OpLine.TheVariants.{Fill, Put, Show, Seal, Write, Read, WritePi, ReadPi, Flip, Copy, Wait}
@@ -36,7 +36,7 @@ protect_by_ok n (Some m) h = by (eqb m 2) refl h
 protect_ok : (n : ℕ) (w : List ℕ) → protect_in w ≡ Some n → IsProtect n
 protect_ok n w h = let r = protect_by_ok n (number_within 1 4 w) h in record { range = within_ok 1 4 n w r.0; taken_is = r.1 }
 
-pub mode_gives : (ws : List (List ℕ)) (line : Line) → mode_form ws ≡ Ok line → (m : Moded) × (line ≡ ModeLine m) × IsProtect m.protect
+pub mode_gives : (ws : List (List ℕ)) (line : ScriptLine) → mode_form ws ≡ Ok line → (m : Moded) × (line ≡ ModeLine m) × IsProtect m.protect
 unfolding mode_form
 mode_gives ws line h =
     let a = ok_of (either (codes "ip") (codes "crc") ws) _ line h in
@@ -46,7 +46,7 @@ mode_gives ws line h =
     let v = value_ok protect_in (c.0).1 d.0 d.1 in
     (record { kind = guard_by (a.0).0; dix = (b.0).0; dif = (c.0).0; protect = (d.0).0 }, ended_ok _ (d.0).1 line d.2, protect_ok (d.0).0 v.0 v.1)
 
-pub limits_gives : (ws : List (List ℕ)) (line : Line) → limits_form ws ≡ Ok line → (l : Limits) × (line ≡ LimitsLine l) × AreLimits l
+pub limits_gives : (ws : List (List ℕ)) (line : ScriptLine) → limits_form ws ≡ Ok line → (l : Limits) × (line ≡ LimitsLine l) × AreLimits l
 unfolding limits_form
 limits_gives ws line h =
     let a = ok_of (value (number_within 1 1024) ws) _ line h in
@@ -57,7 +57,7 @@ limits_gives ws line h =
       record { blocks = within_got 1 1024 ws a.0 a.1; segs = within_got 4 1024 (a.0).1 b.0 b.1; pi_segs = within_got 1 1024 (b.0).1 c.0 c.1 },
     )
 
-pub pages_gives : (ws : List (List ℕ)) (line : Line) → pages_form ws ≡ Ok line → (n : ℕ) × (line ≡ PagesLine n) × IsWithin 1 256 n
+pub pages_gives : (ws : List (List ℕ)) (line : ScriptLine) → pages_form ws ≡ Ok line → (n : ℕ) × (line ≡ PagesLine n) × IsWithin 1 256 n
 unfolding pages_form
 pages_gives ws line h = let a = ok_of (value (number_within 1 256) ws) _ line h in ((a.0).0, ended_ok _ (a.0).1 line a.2, within_got 1 256 ws a.0 a.1)
 
@@ -79,7 +79,7 @@ size_by_ok n (Some m) h = by (eqb m 512 || eqb m 4096) refl h
     by true e h = let s : m ≡ n = cc in subst (λ k. (k ≡ 512) ⊎ (k ≡ 4096)) s (size_is m e)
     by false e h = absurd (cc)
 
-pub block_gives : (ws : List (List ℕ)) (line : Line) → block_form ws ≡ Ok line → (n : ℕ) × (line ≡ BlockLine n) × ((n ≡ 512) ⊎ (n ≡ 4096))
+pub block_gives : (ws : List (List ℕ)) (line : ScriptLine) → block_form ws ≡ Ok line → (n : ℕ) × (line ≡ BlockLine n) × ((n ≡ 512) ⊎ (n ≡ 4096))
 unfolding block_form
 block_gives ws line h =
     let a = ok_of (value size_in ws) _ line h in
@@ -94,7 +94,7 @@ mask_by_ok n (Some m) h = by (eqb m 0) refl h
     by true e h = absurd (cc)
     by false e h = let s : m ≡ n = cc in (h, ap (λ k. eqb k 0) (sym s) ∙ e)
 
-pub expect_gives : (ws : List (List ℕ)) (line : Line) → expect_form ws ≡ Ok line → (app : ℕ) × (mask : ℕ) × (line ≡ ExpectLine app mask) × (app < 2 ^ 16) × (mask < 2 ^ 16) × (eqb mask 0 ≡ false)
+pub expect_gives : (ws : List (List ℕ)) (line : ScriptLine) → expect_form ws ≡ Ok line → (app : ℕ) × (mask : ℕ) × (line ≡ ExpectLine app mask) × (app < 2 ^ 16) × (mask < 2 ^ 16) × (eqb mask 0 ≡ false)
 unfolding expect_form
 expect_gives ws line h =
     let a = ok_of (value tag_in ws) _ line h in
@@ -116,7 +116,7 @@ place_gives ws p h =
 ok_same : {A : Type 0} (a b : A) → ◌≡◌ {A = Result A ScriptKind} (Ok a) (Ok b) → b ≡ a
 ok_same a b h = cc
 
-pub inner_gives : (ws : List (List ℕ)) (line : Line) → inner_form ws ≡ Ok line → (volume : ℕ) × (len : ℕ) × (dev : ℕ) × (at : ℕ) × (line ≡ InnerLine volume len dev at) × IsWithin 1 1048576 len × (dev < 2 ^ 32) × (at < 2 ^ 64)
+pub inner_gives : (ws : List (List ℕ)) (line : ScriptLine) → inner_form ws ≡ Ok line → (volume : ℕ) × (len : ℕ) × (dev : ℕ) × (at : ℕ) × (line ≡ InnerLine volume len dev at) × IsWithin 1 1048576 len × (dev < 2 ^ 32) × (at < 2 ^ 64)
 unfolding inner_form
 inner_gives ws line h =
     let a = ok_of (value (number_within 0 7) ws) _ line h in
@@ -125,7 +125,7 @@ inner_gives ws line h =
     let p = place_gives (b.0).1 c.0 c.1 in
     ((a.0).0, (b.0).0, (c.0).0, (c.0).1, ok_same _ line c.2, within_got 1 1048576 (a.0).1 b.0 b.1, p.0, p.1)
 
-pub linear_gives : (ws : List (List ℕ)) (line : Line) → linear_form ws ≡ Ok line → (e : Linear) × (line ≡ LinearLine e) × (e.start < 2 ^ 64) × IsWithin 1 1048576 e.len × (e.dev < 2 ^ 32) × (e.at < 2 ^ 64)
+pub linear_gives : (ws : List (List ℕ)) (line : ScriptLine) → linear_form ws ≡ Ok line → (e : Linear) × (line ≡ LinearLine e) × (e.start < 2 ^ 64) × IsWithin 1 1048576 e.len × (e.dev < 2 ^ 32) × (e.at < 2 ^ 64)
 unfolding linear_form
 linear_gives ws line h =
     let a = ok_of (value word64 ws) _ line h in
@@ -179,7 +179,7 @@ leg_by_ok (Some p) l h = let e : record { dev = p.0; at = p.1 } ≡ l = cc in ap
 leg_ok : (w : List ℕ) (l : Leg) → leg_word w ≡ Some l → IsLeg l
 leg_ok w l h = let r = pair_ok word64 (cut 58 w) (l.dev, l.at) (leg_by_ok (leg_in w) l h) in record { dev_fits = word32_ok l.dev r.0 r.2; at_fits = word64_ok l.at r.1 r.3 }
 
-pub stripe_gives : (ws : List (List ℕ)) (line : Line) → stripe_form ws ≡ Ok line
+pub stripe_gives : (ws : List (List ℕ)) (line : ScriptLine) → stripe_form ws ≡ Ok line
     → (start : ℕ) × (len : ℕ) × (chunk : ℕ) × (legs : List Leg) × (line ≡ StripeLine start len chunk legs) × (start < 2 ^ 64) × IsWithin 1 1048576 len × IsWithin 1 65536 chunk × Each IsLeg legs × (1 ≤ length legs)
 unfolding stripe_form
 stripe_gives ws line h =
@@ -189,7 +189,7 @@ stripe_gives ws line h =
     let g = some_give IsLeg leg_word leg_ok (a.0).1 b.0 b.1 in
     (((a.0).0).start, ((a.0).0).len, ((a.0).0).chunk, b.0, ok_same _ line b.2, s.start_fits, s.len_is, s.chunk_is, g.0, g.1)
 
-pub over_gives : (ws : List (List ℕ)) (line : Line) → over_form ws ≡ Ok line
+pub over_gives : (ws : List (List ℕ)) (line : ScriptLine) → over_form ws ≡ Ok line
     → (start : ℕ) × (len : ℕ) × (chunk : ℕ) × (volumes : List ℕ) × (line ≡ OverLine start len chunk volumes) × (start < 2 ^ 64) × IsWithin 1 1048576 len × IsWithin 1 65536 chunk × (1 ≤ length volumes)
 unfolding over_form
 over_gives ws line h =
@@ -209,7 +209,7 @@ flip_gives size ws p h =
     let x = hex_got 32 (a.0).1 b.0 b.1 in
     (subst (λ (k : ℕ). k ≤ size + 7) (sym (ap (λ (q : ℕ × List ℕ). q.0) e)) r.high_is, subst IsBytes (sym (ap (λ (q : ℕ × List ℕ). q.1) e)) x.0, subst (λ (k : List ℕ). length k ≤ 32) (sym (ap (λ (q : ℕ × List ℕ). q.1) e)) x.1)
 
-pub fault_gives : (size : ℕ) (ws : List (List ℕ)) (line : Line) → fault_form size ws ≡ Ok line
+pub fault_gives : (size : ℕ) (ws : List (List ℕ)) (line : ScriptLine) → fault_form size ws ≡ Ok line
     → (op : ℕ) × (k : ℕ) × (spot : Spot) × (off : ℕ) × (bytes : List ℕ) × (line ≡ FlipLine op k spot off bytes) × IsWithin 1 1024 op × (k ≤ 2047) × (off ≤ size + 7) × IsBytes bytes × (length bytes ≤ 32)
 unfolding fault_form
 fault_gives size ws line h =
@@ -261,7 +261,7 @@ signed_ok (b ∷ w) z h = by (eqb b 45) h
     by true e = negative_ok z (number_within 1 64 w) (λ n i. within_ok 1 64 n w i) e
     by false e = positive_ok z (number_within 0 64 (b ∷ w)) (λ n i. within_ok 0 64 n (b ∷ w) i) e
 
-pub shift_gives : (ws : List (List ℕ)) (line : Line) → shift_form ws ≡ Ok line → (op : ℕ) × (spot : Spot) × (by : ℤ) × (line ≡ ShiftLine op spot by) × IsWithin 1 1024 op × IsShiftSpot spot × IsSmall by
+pub shift_gives : (ws : List (List ℕ)) (line : ScriptLine) → shift_form ws ≡ Ok line → (op : ℕ) × (spot : Spot) × (by : ℤ) × (line ≡ ShiftLine op spot by) × IsWithin 1 1024 op × IsShiftSpot spot × IsSmall by
 unfolding shift_form
 shift_gives ws line h =
     let a = ok_of (value (number_within 1 1024) ws) _ line h in
@@ -277,7 +277,7 @@ choice_ok w e h = by (cut 47 w) h
     by None i = let r = both_ok (word32 w) (Some 0) e i in let z : 0 ≡ e.1 = some_same 0 e.1 r.1 in (word32_ok e.0 w r.0, subst (λ (k : ℕ). k < 2 ^ 32) z (omega arith))
     by (Some c) i = let r = pair_ok word32 (Some c) e i in (word32_ok e.0 r.0 r.2, word32_ok e.1 r.1 r.3)
 
-pub schedule_gives : (ws : List (List ℕ)) (line : Line) → schedule_form ws ≡ Ok line → (es : List (ℕ × ℕ)) × (line ≡ ScheduleLine es) × Each IsChoice es
+pub schedule_gives : (ws : List (List ℕ)) (line : ScriptLine) → schedule_form ws ≡ Ok line → (es : List (ℕ × ℕ)) × (line ≡ ScheduleLine es) × Each IsChoice es
 unfolding schedule_form
 schedule_gives ws line h =
     let a = ok_of (some_of choice_in ws) _ line h in
@@ -390,6 +390,6 @@ overwrite_gives size ws line h =
     let c = ok_of (either (codes "flip") (codes "from") (b.0).1) _ line b.2 in
     change_gives size (a.0).0 (b.0).0 (c.0).0 (c.0).1 line (got32 ws a.0 a.1) (got64 (a.0).1 b.0 b.1) c.2
 
-pub as_line_ok : (r : Result OpLine ScriptKind) (line : Line) → as_line r ≡ Ok line → (op : OpLine) × (r ≡ Ok op) × (line ≡ AnOp op)
+pub as_line_ok : (r : Result OpLine ScriptKind) (line : ScriptLine) → as_line r ≡ Ok line → (op : OpLine) × (r ≡ Ok op) × (line ≡ AnOp op)
 as_line_ok (Ok op) line h = (op, refl, ok_same (AnOp op) line h)
 as_line_ok (Err k) line h = absurd (cc)

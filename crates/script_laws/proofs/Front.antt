@@ -7,10 +7,10 @@ use Rattle.merge_queue.specs.declared.Limits.{Limits}
 use Rattle.pi_guard.specs.declared.GuardKind.{GuardKind}
 use Rattle.pi_guard.specs.declared.GuardKind.TheVariants.{Crc, Ip}
 use Rattle.script_lines.specs.declared.kind.ScriptKind.TheVariants.{NoIntegrity}
-use Rattle.script_lines.specs.declared.line.Line.TheVariants.{Mode as ModeLine, Limits as LimitsLine, Pages as PagesLine, Block as BlockLine, Expect as ExpectLine}
+use Rattle.script_lines.specs.declared.line.ScriptLine.TheVariants.{Mode as ModeLine, Limits as LimitsLine, Pages as PagesLine, Block as BlockLine, Expect as ExpectLine}
 use Rattle.script_lines.specs.declared.verb.Verb.TheVariants.{Mode as ModeVerb, Limits as LimitsVerb, Pages as PagesVerb, Block as BlockVerb, Expect as ExpectVerb, Linear as LinearVerb}
-use Rattle.script_lines.specs.declared.verb.Place.{Place}
-use Rattle.script_lines.specs.declared.verb.Place.TheVariants.{Dix as AtDix, Mode as AtMode, Limits as AtLimits, Pages as AtPages, Block as AtBlock, Expect as AtExpect}
+use Rattle.script_lines.specs.declared.verb.Section.{Section}
+use Rattle.script_lines.specs.declared.verb.Section.TheVariants.{Dix as AtDix, Mode as AtMode, Limits as AtLimits, Pages as AtPages, Block as AtBlock, Expect as AtExpect}
 use Rattle.script_text.specs.Drafts.{Drafted}
 use Rattle.script_text.specs.declared.script.Script.{Script}
 use Rattle.script_text.specs.Language.{is_behind, nothing_read, taken}
@@ -36,14 +36,14 @@ switch_is_word true = record { clean_is = refl; filled_is = refl }
 switch_is_word false = record { clean_is = refl; filled_is = refl }
 
 abbrev at_dix : Bool → Drafted
-at_dix is_new = record nothing_read { is_new = is_new; place = Some AtDix }
+at_dix is_new = record nothing_read { is_new = is_new; section = Some AtDix }
 
 version_step : (b : Bool) (rest : List ℕ) → Step 1 (version_text b ++ rest) nothing_read 2 rest (at_dix b)
 version_step true rest = line_step 1 (codes "dix" ∷ codes "2" ∷ []) rest nothing_read (at_dix true) (record { clean_is = refl; filled_is = refl }, (record { clean_is = refl; filled_is = refl }, tt)) refl
 version_step false rest = line_step 1 (codes "dix" ∷ codes "1" ∷ []) rest nothing_read (at_dix false) (record { clean_is = refl; filled_is = refl }, (record { clean_is = refl; filled_is = refl }, tt)) refl
 
 abbrev at_mode : Bool → Mode → Drafted
-at_mode is_new m = record (at_dix is_new) { mode = record { kind = m.kind; dix = m.dix; dif = m.dif; protect = m.protect }; place = Some AtMode }
+at_mode is_new m = record (at_dix is_new) { mode = record { kind = m.kind; dix = m.dix; dif = m.dif; protect = m.protect }; section = Some AtMode }
 
 mode_step : (b : Bool) (m : Mode) (rest : List ℕ) → IsMode m → Step 2 (mode_text m ++ rest) (at_dix b) 3 rest (at_mode b m)
 unfolding taken
@@ -55,7 +55,7 @@ mode_step b m rest h =
     (record (at_dix b) { mode = record { kind = m.kind; dix = m.dix; dif = m.dif; protect = m.protect } }) refl refl refl (behind b ModeVerb AtDix refl refl) (mode_by m.kind m.dix m.dif m.protect h.protect_is) refl refl))
 
 abbrev at_limits : Bool → Mode → Limits → Drafted
-at_limits is_new m l = record (at_mode is_new m) { limits = l; place = Some AtLimits }
+at_limits is_new m l = record (at_mode is_new m) { limits = l; section = Some AtLimits }
 
 limits_step : (b : Bool) (m : Mode) (l : Limits) (rest : List ℕ) → AreLimits l → Step 3 (limits_text l ++ rest) (at_mode b m) 4 rest (at_limits b m l)
 unfolding taken
@@ -66,7 +66,7 @@ limits_step b m l rest h =
     (verb_step 3 (codes "limits") (limits_words l) (at_mode b m) LimitsVerb AtMode (LimitsLine l) (record (at_mode b m) { limits = l }) refl refl refl (behind b LimitsVerb AtMode refl refl) (limits_back l h) refl refl))
 
 abbrev at_pages : Bool → Mode → Limits → ℕ → Drafted
-at_pages is_new m l n = record (at_limits is_new m l) { pages = n; place = Some AtPages }
+at_pages is_new m l n = record (at_limits is_new m l) { pages = n; section = Some AtPages }
 
 pages_step : (b : Bool) (m : Mode) (l : Limits) (n : ℕ) (rest : List ℕ) → IsWithin 1 256 n → Step 4 (pages_text n ++ rest) (at_limits b m l) 5 rest (at_pages b m l n)
 unfolding taken
@@ -76,7 +76,7 @@ pages_step b m l n rest h =
     (verb_step 4 (codes "pages") (decimal n ∷ []) (at_limits b m l) PagesVerb AtLimits (PagesLine n) (record (at_limits b m l) { pages = n }) refl refl refl (behind b PagesVerb AtLimits refl refl) (pages_back n h) refl refl))
 
 abbrev at_block : Mode → Limits → ℕ → ℕ → Drafted
-at_block m l n size = record (at_pages true m l n) { block = size; place = Some AtBlock }
+at_block m l n size = record (at_pages true m l n) { block = size; section = Some AtBlock }
 
 block_word : (size : ℕ) → (size ≡ 512) ⊎ (size ≡ 4096) → IsWord (decimal size)
 block_word size (inl e) = decimal_word size (omega (arith, e))
@@ -90,7 +90,7 @@ block_step m l n size rest h =
     (verb_step 5 (codes "block") (decimal size ∷ []) (at_pages true m l n) BlockVerb AtPages (BlockLine size) (record (at_pages true m l n) { block = size }) refl refl refl refl (block_back size h) refl refl))
 
 abbrev at_expect : Mode → Limits → ℕ → ℕ → Drafted
-at_expect m l n size = record (at_block m l n size) { app = m.app; mask = m.mask; expect_line = 6; place = Some AtExpect }
+at_expect m l n size = record (at_block m l n size) { app = m.app; mask = m.mask; expect_line = 6; section = Some AtExpect }
 
 expect_step : (m : Mode) (l : Limits) (n size : ℕ) (rest : List ℕ) → IsMode m → eqb m.mask 0 ≡ false → Step 6 (expect_text m.app m.mask ++ rest) (at_block m l n size) 7 rest (at_expect m l n size)
 unfolding taken
@@ -102,10 +102,10 @@ expect_step m l n size rest h z =
     (ap (λ b. if not b || not m.dif then Some NoIntegrity else None) (h.expects_dix z) ∙ ap (λ b. if not b then Some NoIntegrity else None) (h.expects_dif z)) refl))
 
 -- what is read before the volume
-abbrev pub fronted : Script → (expect : ℕ) → Bool → Place → Drafted
-fronted s expect is_new place = record nothing_read {
+abbrev pub fronted : Script → (expect : ℕ) → Bool → Section → Drafted
+fronted s expect is_new section = record nothing_read {
   is_new = is_new;
-  place = Some place;
+  section = Some section;
   mode = record { kind = s.mode.kind; dix = s.mode.dix; dif = s.mode.dif; protect = s.mode.protect };
   app = s.mode.app;
   mask = s.mode.mask;
@@ -119,9 +119,9 @@ pub record Fronted (s : Script) (rest : List ℕ) : Type 0 where
   pub number : ℕ
   pub expect : ℕ
   pub is_new : Bool
-  pub place : Place
-  pub step : Step 1 (front_text s ++ rest) nothing_read number rest (fronted s expect is_new place)
-  pub volume : is_behind is_new LinearVerb (Some place) ≡ true
+  pub section : Section
+  pub step : Step 1 (front_text s ++ rest) nothing_read number rest (fronted s expect is_new section)
+  pub volume : is_behind is_new LinearVerb (Some section) ≡ true
 
 first_front : (b : Bool) (s : Script) (rest : List ℕ) → IsMode s.mode → AreLimits s.limits → IsWithin 1 256 s.pages
     → Step 1 (version_text b ++ (mode_text s.mode ++ (limits_text s.limits ++ (pages_text s.pages ++ rest)))) nothing_read 5 rest (at_pages b s.mode s.limits s.pages)
@@ -151,7 +151,7 @@ by_mask true s rest z m l p k v =
       number = 6;
       expect = 0;
       is_new = true;
-      place = AtBlock;
+      section = AtBlock;
       step =
           from_text 1 (front_text s ++ rest) (version_text true ++ (mode_text s.mode ++ (limits_text s.limits ++ (pages_text s.pages ++ (block_text s.block ++ rest))))) nothing_read 6 rest _ text
           (joined 1 (version_text true ++ (mode_text s.mode ++ (limits_text s.limits ++ (pages_text s.pages ++ (block_text s.block ++ rest))))) nothing_read 5 (block_text s.block ++ rest) (at_pages true s.mode s.limits s.pages) 6 rest _ (first_front true s (block_text s.block ++ rest) m l p)
@@ -170,7 +170,7 @@ by_mask false s rest z m l p k v =
       number = 7;
       expect = 6;
       is_new = true;
-      place = AtExpect;
+      section = AtExpect;
       step =
           from_text 1 (front_text s ++ rest) (version_text true ++ (mode_text s.mode ++ (limits_text s.limits ++ (pages_text s.pages ++ (block_text s.block ++ (expect_text s.mode.app s.mode.mask ++ rest)))))) nothing_read 7 rest _ text
           (joined 1 (version_text true ++ (mode_text s.mode ++ (limits_text s.limits ++ (pages_text s.pages ++ (block_text s.block ++ (expect_text s.mode.app s.mode.mask ++ rest)))))) nothing_read 5 (block_text s.block ++ (expect_text s.mode.app s.mode.mask ++ rest)) (at_pages true s.mode s.limits s.pages) 7 rest _ (first_front true s (block_text s.block ++ (expect_text s.mode.app s.mode.mask ++ rest)) m l p)
@@ -193,7 +193,7 @@ by_version false s rest v m l p k =
       number = 5;
       expect = 0;
       is_new = false;
-      place = AtPages;
+      section = AtPages;
       step =
           from_text 1 (front_text s ++ rest) (version_text false ++ (mode_text s.mode ++ (limits_text s.limits ++ (pages_text s.pages ++ rest)))) nothing_read 5 rest _ text
           (to_draft 1 (version_text false ++ (mode_text s.mode ++ (limits_text s.limits ++ (pages_text s.pages ++ rest)))) nothing_read 5 rest (at_pages false s.mode s.limits s.pages) _

@@ -19,9 +19,9 @@ use Rattle.script_lines.specs.declared.line.OpLine.{OpLine}
 use Rattle.script_lines.specs.declared.line.OpLine.TheVariants.{Fill, Put, Show, Seal, Write, Read, WritePi, ReadPi, Flip, Copy, Wait}
 use Rattle.script_lines.specs.declared.line.Spot.{Spot}
 use Rattle.script_lines.specs.declared.line.Spot.TheVariants.{Host, Wire, Medium}
-use Rattle.script_lines.specs.declared.verb.Place.{Place}
-use Rattle.script_lines.specs.declared.verb.Place.TheVariants.{Dix as AtDix, Mode as AtMode, Limits as AtLimits, Pages as AtPages, Block as AtBlock, Expect as AtExpect, Inner as AtInner, Volume as AtVolume, Fault as AtFault, Schedule as AtSchedule, Begin as AtBegin, Op as AtOp}
-use Rattle.script_lines.specs.Verbs.{comes_before, place_number}
+use Rattle.script_lines.specs.declared.verb.Section.{Section}
+use Rattle.script_lines.specs.declared.verb.Section.TheVariants.{Dix as AtDix, Mode as AtMode, Limits as AtLimits, Pages as AtPages, Block as AtBlock, Expect as AtExpect, Inner as AtInner, Volume as AtVolume, Fault as AtFault, Schedule as AtSchedule, Begin as AtBegin, Op as AtOp}
+use Rattle.script_lines.specs.Verbs.{comes_before, section_number}
 use Rattle.script_text.specs.Crossings.{Raw, crossed, crossing_of, is_read, spot_of}
 use Rattle.script_text.specs.Drafts.{Drafted}
 use Rattle.script_text.specs.Language.{nothing_read}
@@ -65,9 +65,9 @@ pub record InOrder (n mask : ℕ) (entries : List Entry) (faults : List Raw) (op
   pub no_ops : n ≤ 6 → ops ≡ []
   pub with_volume : 7 ≤ n → 1 ≤ length entries
 
-abbrev pub number_of : Option Place → ℕ
+abbrev pub number_of : Option Section → ℕ
 number_of None = 0
-number_of (Some p) = place_number p
+number_of (Some p) = section_number p
 
 pub record Held (d : Drafted) : Type 0 where
   pub front : HoldsFront d.mode d.app d.mask d.limits d.pages d.block
@@ -79,7 +79,7 @@ pub record Held (d : Drafted) : Type 0 where
   pub choices_are : Each IsChoice d.schedule
   pub choices_count : length d.schedule ≤ 16384
   pub ops_hold : HoldsOps d.mode.dix d.pages d.block d.ops d.blocks d.op_lines
-  pub order : InOrder (number_of d.place) d.mask d.entries d.faults d.ops
+  pub order : InOrder (number_of d.section) d.mask d.entries d.faults d.ops
 
 pub nothing_held : Held nothing_read
 nothing_held = record {
@@ -139,27 +139,27 @@ or_by : (a b : Bool) (P : Type 0) → a || b ≡ true → (a ≡ true → P) →
 or_by true b P h f g = f refl
 or_by false b P h f g = g h
 
-pub goes : (p q : Place) (b : Bool) → comes_before p q b ≡ true → Goes (place_number p) (place_number q)
-goes AtDix q b h = goes_to 0 (place_number q) 1 h (omega arith) (omega arith) (λ m. absurd (omega (arith, m)))
-goes AtMode q b h = goes_to 1 (place_number q) 2 h (omega arith) (omega arith) (λ m. absurd (omega (arith, m)))
-goes AtLimits q b h = goes_to 2 (place_number q) 3 h (omega arith) (omega arith) (λ m. absurd (omega (arith, m)))
-goes AtPages q true h = goes_to 3 (place_number q) 4 h (omega arith) (omega arith) (λ m. absurd (omega (arith, m)))
-goes AtPages q false h = goes_to 3 (place_number q) 7 h (omega arith) (omega arith) (λ m. absurd (omega (arith, m)))
+pub goes : (p q : Section) (b : Bool) → comes_before p q b ≡ true → Goes (section_number p) (section_number q)
+goes AtDix q b h = goes_to 0 (section_number q) 1 h (omega arith) (omega arith) (λ m. absurd (omega (arith, m)))
+goes AtMode q b h = goes_to 1 (section_number q) 2 h (omega arith) (omega arith) (λ m. absurd (omega (arith, m)))
+goes AtLimits q b h = goes_to 2 (section_number q) 3 h (omega arith) (omega arith) (λ m. absurd (omega (arith, m)))
+goes AtPages q true h = goes_to 3 (section_number q) 4 h (omega arith) (omega arith) (λ m. absurd (omega (arith, m)))
+goes AtPages q false h = goes_to 3 (section_number q) 7 h (omega arith) (omega arith) (λ m. absurd (omega (arith, m)))
 goes AtBlock q b h =
-    or_by (eqb (place_number q) 5) (eqb (place_number q) 6 || eqb (place_number q) 7) (Goes 4 (place_number q)) h (λ e. goes_to 4 (place_number q) 5 e (omega arith) (omega arith) (λ m. absurd (omega (arith, m))))
-    (λ i. or_by (eqb (place_number q) 6) (eqb (place_number q) 7) (Goes 4 (place_number q)) i (λ e. goes_to 4 (place_number q) 6 e (omega arith) (omega arith) (λ m. absurd (omega (arith, m)))) (λ e. goes_to 4 (place_number q) 7 e (omega arith) (omega arith) (λ m. absurd (omega (arith, m)))))
-goes AtExpect q b h = or_by (eqb (place_number q) 6) (eqb (place_number q) 7) (Goes 5 (place_number q)) h (λ e. goes_to 5 (place_number q) 6 e (omega arith) (omega arith) (λ m. absurd (omega (arith, m)))) (λ e. goes_to 5 (place_number q) 7 e (omega arith) (omega arith) (λ m. absurd (omega (arith, m))))
-goes AtInner q b h = or_by (eqb (place_number q) 6) (eqb (place_number q) 7) (Goes 6 (place_number q)) h (λ e. goes_to 6 (place_number q) 6 e (omega arith) (omega arith) (λ m. absurd (omega (arith, m)))) (λ e. goes_to 6 (place_number q) 7 e (omega arith) (omega arith) (λ m. absurd (omega (arith, m))))
+    or_by (eqb (section_number q) 5) (eqb (section_number q) 6 || eqb (section_number q) 7) (Goes 4 (section_number q)) h (λ e. goes_to 4 (section_number q) 5 e (omega arith) (omega arith) (λ m. absurd (omega (arith, m))))
+    (λ i. or_by (eqb (section_number q) 6) (eqb (section_number q) 7) (Goes 4 (section_number q)) i (λ e. goes_to 4 (section_number q) 6 e (omega arith) (omega arith) (λ m. absurd (omega (arith, m)))) (λ e. goes_to 4 (section_number q) 7 e (omega arith) (omega arith) (λ m. absurd (omega (arith, m)))))
+goes AtExpect q b h = or_by (eqb (section_number q) 6) (eqb (section_number q) 7) (Goes 5 (section_number q)) h (λ e. goes_to 5 (section_number q) 6 e (omega arith) (omega arith) (λ m. absurd (omega (arith, m)))) (λ e. goes_to 5 (section_number q) 7 e (omega arith) (omega arith) (λ m. absurd (omega (arith, m))))
+goes AtInner q b h = or_by (eqb (section_number q) 6) (eqb (section_number q) 7) (Goes 6 (section_number q)) h (λ e. goes_to 6 (section_number q) 6 e (omega arith) (omega arith) (λ m. absurd (omega (arith, m)))) (λ e. goes_to 6 (section_number q) 7 e (omega arith) (omega arith) (λ m. absurd (omega (arith, m))))
 goes AtVolume q b h =
-    or_by (eqb (place_number q) 7) (eqb (place_number q) 8 || (eqb (place_number q) 9 || eqb (place_number q) 10)) (Goes 7 (place_number q)) h (λ e. goes_to 7 (place_number q) 7 e (omega arith) (omega arith) (λ m. omega arith))
-    (λ i. or_by (eqb (place_number q) 8) (eqb (place_number q) 9 || eqb (place_number q) 10) (Goes 7 (place_number q)) i (λ e. goes_to 7 (place_number q) 8 e (omega arith) (omega arith) (λ m. omega arith))
-    (λ j. or_by (eqb (place_number q) 9) (eqb (place_number q) 10) (Goes 7 (place_number q)) j (λ e. goes_to 7 (place_number q) 9 e (omega arith) (omega arith) (λ m. omega arith)) (λ e. goes_to 7 (place_number q) 10 e (omega arith) (omega arith) (λ m. omega arith))))
+    or_by (eqb (section_number q) 7) (eqb (section_number q) 8 || (eqb (section_number q) 9 || eqb (section_number q) 10)) (Goes 7 (section_number q)) h (λ e. goes_to 7 (section_number q) 7 e (omega arith) (omega arith) (λ m. omega arith))
+    (λ i. or_by (eqb (section_number q) 8) (eqb (section_number q) 9 || eqb (section_number q) 10) (Goes 7 (section_number q)) i (λ e. goes_to 7 (section_number q) 8 e (omega arith) (omega arith) (λ m. omega arith))
+    (λ j. or_by (eqb (section_number q) 9) (eqb (section_number q) 10) (Goes 7 (section_number q)) j (λ e. goes_to 7 (section_number q) 9 e (omega arith) (omega arith) (λ m. omega arith)) (λ e. goes_to 7 (section_number q) 10 e (omega arith) (omega arith) (λ m. omega arith))))
 goes AtFault q b h =
-    or_by (eqb (place_number q) 8) (eqb (place_number q) 9 || eqb (place_number q) 10) (Goes 8 (place_number q)) h (λ e. goes_to 8 (place_number q) 8 e (omega arith) (omega arith) (λ m. omega arith))
-    (λ j. or_by (eqb (place_number q) 9) (eqb (place_number q) 10) (Goes 8 (place_number q)) j (λ e. goes_to 8 (place_number q) 9 e (omega arith) (omega arith) (λ m. omega arith)) (λ e. goes_to 8 (place_number q) 10 e (omega arith) (omega arith) (λ m. omega arith)))
-goes AtSchedule q b h = or_by (eqb (place_number q) 9) (eqb (place_number q) 10) (Goes 9 (place_number q)) h (λ e. goes_to 9 (place_number q) 9 e (omega arith) (omega arith) (λ m. omega arith)) (λ e. goes_to 9 (place_number q) 10 e (omega arith) (omega arith) (λ m. omega arith))
-goes AtBegin q b h = goes_to 10 (place_number q) 11 h (omega arith) (omega arith) (λ m. omega arith)
-goes AtOp q b h = goes_to 11 (place_number q) 11 h (omega arith) (omega arith) (λ m. omega arith)
+    or_by (eqb (section_number q) 8) (eqb (section_number q) 9 || eqb (section_number q) 10) (Goes 8 (section_number q)) h (λ e. goes_to 8 (section_number q) 8 e (omega arith) (omega arith) (λ m. omega arith))
+    (λ j. or_by (eqb (section_number q) 9) (eqb (section_number q) 10) (Goes 8 (section_number q)) j (λ e. goes_to 8 (section_number q) 9 e (omega arith) (omega arith) (λ m. omega arith)) (λ e. goes_to 8 (section_number q) 10 e (omega arith) (omega arith) (λ m. omega arith)))
+goes AtSchedule q b h = or_by (eqb (section_number q) 9) (eqb (section_number q) 10) (Goes 9 (section_number q)) h (λ e. goes_to 9 (section_number q) 9 e (omega arith) (omega arith) (λ m. omega arith)) (λ e. goes_to 9 (section_number q) 10 e (omega arith) (omega arith) (λ m. omega arith))
+goes AtBegin q b h = goes_to 10 (section_number q) 11 h (omega arith) (omega arith) (λ m. omega arith)
+goes AtOp q b h = goes_to 11 (section_number q) 11 h (omega arith) (omega arith) (λ m. omega arith)
 
 -- lines that leave entries, faults, ops and mask
 pub order_on : (n q mask : ℕ) (entries : List Entry) (faults : List Raw) (ops : List Op) → (q ≡ 7 → ⊥) → Goes n q → InOrder n mask entries faults ops → InOrder q mask entries faults ops

@@ -4,20 +4,20 @@ use Rattle.std.specs.Prelude.{if◌then◌else◌}
 use Rattle.script_words.specs.Cuts.{is_plain, lines_of, words_of}
 use Rattle.script_lines.specs.declared.kind.ScriptKind.{ScriptKind}
 use Rattle.script_lines.specs.declared.kind.ScriptKind.TheVariants.{LongLine, NotAscii, OutOfPlace, TooMany}
-use Rattle.script_lines.specs.declared.line.Line.{Line}
+use Rattle.script_lines.specs.declared.line.ScriptLine.{ScriptLine}
 use Rattle.script_lines.specs.declared.line.OpLine.TheVariants.{Wait}
 use Rattle.script_lines.specs.declared.verb.Verb.{Verb}
 use Rattle.script_lines.specs.declared.verb.Verb.TheVariants.{Dix as DixVerb, Mode as ModeVerb, Limits as LimitsVerb, Pages as PagesVerb, Block as BlockVerb, Expect as ExpectVerb, Inner as InnerVerb, Linear as LinearVerb, Stripe as StripeVerb, Over as OverVerb, Fault as FaultVerb, Shift as ShiftVerb, Schedule as ScheduleVerb, Begin as BeginVerb, Fill as FillVerb, Put as PutVerb, Show as ShowVerb, Seal as SealVerb, Write as WriteVerb, Read as ReadVerb, WritePi as WritePiVerb, ReadPi as ReadPiVerb, Overwrite as OverwriteVerb, Wait as WaitVerb}
-use Rattle.script_lines.specs.declared.verb.Place.{Place}
-use Rattle.script_lines.specs.declared.verb.Place.TheVariants.{Dix as AtDix, Mode as AtMode, Limits as AtLimits, Pages as AtPages, Block as AtBlock, Expect as AtExpect, Inner as AtInner, Volume as AtVolume, Fault as AtFault, Schedule as AtSchedule, Begin as AtBegin, Op as AtOp}
+use Rattle.script_lines.specs.declared.verb.Section.{Section}
+use Rattle.script_lines.specs.declared.verb.Section.TheVariants.{Dix as AtDix, Mode as AtMode, Limits as AtLimits, Pages as AtPages, Block as AtBlock, Expect as AtExpect, Inner as AtInner, Volume as AtVolume, Fault as AtFault, Schedule as AtSchedule, Begin as AtBegin, Op as AtOp}
 use Rattle.script_lines.specs.Forms.{line_form, op_form}
-use Rattle.script_lines.specs.Verbs.{comes_before, is_new_verb, place_number, place_of, verb_of}
+use Rattle.script_lines.specs.Verbs.{comes_before, is_new_verb, section_number, section_of, verb_of}
 use Rattle.stack_ops.specs.declared.op.Op.{Op}
 use Rattle.script_text.specs.Crossings.{Raw, crossed}
 use Rattle.script_text.specs.Drafts.{Drafted}
 use Rattle.script_text.specs.declared.fault.ScriptFault.{ScriptFault}
 use Rattle.script_text.specs.declared.script.Script.{Script}
-use Rattle.script_text.specs.Language.{at_end, at_place, end_fault, finished, go_on, header_taken, is_behind, is_comment, line_taken, lines_read, nothing_read, script_in, taken, text_taken, unless_broken, verb_taken, version_of, words_behind, words_taken}
+use Rattle.script_text.specs.Language.{at_end, in_section, end_fault, finished, go_on, header_taken, is_behind, is_comment, line_taken, lines_read, nothing_read, script_in, taken, text_taken, unless_broken, verb_taken, version_of, words_behind, words_taken}
 use Rattle.script_text.specs.Rules.{broken_rule}
 use Rattle.script_laws.specs.Keeping.{Each, IsFault, Keeps}
 use Rattle.script_laws.proofs.FormsGive.{Numbers, fill_gives, overwrite_gives, put_gives, read_gives, readpi_gives, seal_gives, show_gives, write_gives, writepi_gives}
@@ -27,8 +27,8 @@ use Rattle.script_laws.proofs.Kept.{Rules, begin_kept, block_kept, expect_kept, 
 use Rattle.small_laws.proofs.Tests.{and_second}
 
 -- a line of this verb that is taken
-pub verb_kept : (verb : Verb) (n : ℕ) (words : List (List ℕ)) (d e : Drafted) → Held d → Goes (number_of d.place) (place_number (place_of verb)) → (line : Line) → line_form verb d.block words ≡ Ok line → Rules d line → taken n line d ≡ Ok e
-    → Held (record e { place = Some (place_of verb) })
+pub verb_kept : (verb : Verb) (n : ℕ) (words : List (List ℕ)) (d e : Drafted) → Held d → Goes (number_of d.section) (section_number (section_of verb)) → (line : ScriptLine) → line_form verb d.block words ≡ Ok line → Rules d line → taken n line d ≡ Ok e
+    → Held (record e { section = Some (section_of verb) })
 verb_kept DixVerb n words d e h g line f r t = let s = g.some in absurd (omega (arith, s))
 verb_kept ModeVerb n words d e h g line f r t = mode_kept n words d e h g line f t
 verb_kept LimitsVerb n words d e h g line f r t = limits_kept n words d e h g line f t
@@ -58,30 +58,30 @@ pub no_rule : (f : Option ScriptKind) (r : Result Drafted ScriptKind) (e : Draft
 no_rule None r e h = (refl, h)
 no_rule (Some k) r e h = absurd (cc)
 
-line_kept : (n : ℕ) (verb : Verb) (words : List (List ℕ)) (d e : Drafted) → Held d → Goes (number_of d.place) (place_number (place_of verb)) → line_taken n verb words d ≡ Ok e → Held e
+line_kept : (n : ℕ) (verb : Verb) (words : List (List ℕ)) (d e : Drafted) → Held d → Goes (number_of d.section) (section_number (section_of verb)) → line_taken n verb words d ≡ Ok e → Held e
 unfolding line_taken
 line_kept n verb words d e h g t =
     let a = ok_of (line_form verb d.block words) _ e t in
-    let b = ok_of (unless_broken (broken_rule d a.0) (taken n a.0 d)) (at_place verb) e a.2 in
+    let b = ok_of (unless_broken (broken_rule d a.0) (taken n a.0 d)) (in_section verb) e a.2 in
     let c = no_rule (broken_rule d a.0) (taken n a.0 d) b.0 b.1 in
-    subst Held (sym (ok_draft (record b.0 { place = Some (place_of verb) }) e b.2)) (verb_kept verb n words d b.0 h g a.0 a.1 (rules_of d a.0 c.0) c.1)
+    subst Held (sym (ok_draft (record b.0 { section = Some (section_of verb) }) e b.2)) (verb_kept verb n words d b.0 h g a.0 a.1 (rules_of d a.0 c.0) c.1)
 
-may_come : (is_new : Bool) (verb : Verb) (place : Option Place) → is_behind is_new verb place ≡ true → Goes (number_of place) (place_number (place_of verb))
+may_come : (is_new : Bool) (verb : Verb) (section : Option Section) → is_behind is_new verb section ≡ true → Goes (number_of section) (section_number (section_of verb))
 may_come is_new verb None h = absurd (cc)
-may_come is_new verb (Some p) h = goes p (place_of verb) is_new (and_second (is_new || not (is_new_verb verb)) (comes_before p (place_of verb) is_new) h)
+may_come is_new verb (Some p) h = goes p (section_of verb) is_new (and_second (is_new || not (is_new_verb verb)) (comes_before p (section_of verb) is_new) h)
 
-where_in_place : (b : Bool) (n : ℕ) (verb : Verb) (words : List (List ℕ)) (d e : Drafted) → Held d → is_behind d.is_new verb d.place ≡ b → (if b then line_taken n verb words d else Err OutOfPlace) ≡ Ok e → Held e
-where_in_place true n verb words d e h b t = line_kept n verb words d e h (may_come d.is_new verb d.place b) t
+where_in_place : (b : Bool) (n : ℕ) (verb : Verb) (words : List (List ℕ)) (d e : Drafted) → Held d → is_behind d.is_new verb d.section ≡ b → (if b then line_taken n verb words d else Err OutOfPlace) ≡ Ok e → Held e
+where_in_place true n verb words d e h b t = line_kept n verb words d e h (may_come d.is_new verb d.section b) t
 where_in_place false n verb words d e h b t = absurd (cc)
 
 known_kept : (n : ℕ) (verb : Option Verb) (words : List (List ℕ)) (d e : Drafted) → Held d → verb_taken n verb words d ≡ Ok e → Held e
 known_kept n None words d e h t = absurd (cc)
-known_kept n (Some verb) words d e h t = where_in_place (is_behind d.is_new verb d.place) n verb words d e h refl t
+known_kept n (Some verb) words d e h t = where_in_place (is_behind d.is_new verb d.section) n verb words d e h refl t
 
-header_kept : (v : Option Bool) (d e : Drafted) → Held d → d.place ≡ None → header_taken v d ≡ Ok e → Held e
+header_kept : (v : Option Bool) (d e : Drafted) → Held d → d.section ≡ None → header_taken v d ≡ Ok e → Held e
 header_kept None d e h p t = absurd (cc)
 header_kept (Some is_new) d e h p t =
-    subst Held (sym (ok_draft (record d { is_new = is_new; place = Some AtDix }) e t))
+    subst Held (sym (ok_draft (record d { is_new = is_new; section = Some AtDix }) e t))
     (record {
       front = h.front;
       inner_are = h.inner_are;
@@ -95,14 +95,14 @@ header_kept (Some is_new) d e h p t =
       order = subst (λ q. InOrder (number_of q) d.mask d.entries d.faults d.ops) p h.order;
     })
 
-behind_kept : (place : Option Place) (n : ℕ) (words : List (List ℕ)) (d e : Drafted) → Held d → d.place ≡ place → words_behind place n words d ≡ Ok e → Held e
+behind_kept : (section : Option Section) (n : ℕ) (words : List (List ℕ)) (d e : Drafted) → Held d → d.section ≡ section → words_behind section n words d ≡ Ok e → Held e
 behind_kept None n words d e h p t = header_kept (version_of words) d e h p t
-behind_kept (Some place) n [] d e h p t = subst Held (sym (ok_draft d e t)) h
-behind_kept (Some place) n (first ∷ words) d e h p t = known_kept n (verb_of first) words d e h t
+behind_kept (Some section) n [] d e h p t = subst Held (sym (ok_draft d e t)) h
+behind_kept (Some section) n (first ∷ words) d e h p t = known_kept n (verb_of first) words d e h t
 
-comment_kept : (b : Bool) (n : ℕ) (first : List ℕ) (words : List (List ℕ)) (d e : Drafted) → Held d → (if b then Ok d else words_behind d.place n (first ∷ words) d) ≡ Ok e → Held e
+comment_kept : (b : Bool) (n : ℕ) (first : List ℕ) (words : List (List ℕ)) (d e : Drafted) → Held d → (if b then Ok d else words_behind d.section n (first ∷ words) d) ≡ Ok e → Held e
 comment_kept true n first words d e h t = subst Held (sym (ok_draft d e t)) h
-comment_kept false n first words d e h t = behind_kept d.place n (first ∷ words) d e h refl t
+comment_kept false n first words d e h t = behind_kept d.section n (first ∷ words) d e h refl t
 
 words_kept : (n : ℕ) (words : List (List ℕ)) (d e : Drafted) → Held d → words_taken n words d ≡ Ok e → Held e
 words_kept n [] d e h t = subst Held (sym (ok_draft d e t)) h
@@ -130,7 +130,7 @@ pub record KeepsAll (s : Script) : Type 0 where
   pub keeps : Keeps s
   pub lined : length s.lines ≡ length s.faults + length s.ops
 
-finished_keeps : (d : Drafted) → Held d → 7 ≤ number_of d.place → KeepsAll (finished d)
+finished_keeps : (d : Drafted) → Held d → 7 ≤ number_of d.section → KeepsAll (finished d)
 finished_keeps d h p =
     let f = h.front in
     let w = h.faults_hold in
@@ -165,7 +165,7 @@ finished_keeps d h p =
 pub ok_script : (a b : Script) → ◌≡◌ {A = Result Script ScriptFault} (Ok a) (Ok b) → b ≡ a
 ok_script a b h = cc
 
-late_place : (place : Option Place) → end_fault place ≡ None → 7 ≤ number_of place
+late_place : (section : Option Section) → end_fault section ≡ None → 7 ≤ number_of section
 late_place None h = absurd (cc)
 late_place (Some AtDix) h = absurd (cc)
 late_place (Some AtMode) h = absurd (cc)
@@ -180,8 +180,8 @@ late_place (Some AtSchedule) h = absurd (cc)
 late_place (Some AtBegin) h = omega arith
 late_place (Some AtOp) h = omega arith
 
-end_keeps : (f : Option ScriptKind) (n : ℕ) (d : Drafted) (s : Script) → Held d → end_fault d.place ≡ f → at_end n f d ≡ Ok s → KeepsAll s
-end_keeps None n d s h p t = subst KeepsAll (sym (ok_script (finished d) s t)) (finished_keeps d h (late_place d.place p))
+end_keeps : (f : Option ScriptKind) (n : ℕ) (d : Drafted) (s : Script) → Held d → end_fault d.section ≡ f → at_end n f d ≡ Ok s → KeepsAll s
+end_keeps None n d s h p t = subst KeepsAll (sym (ok_script (finished d) s t)) (finished_keeps d h (late_place d.section p))
 end_keeps (Some k) n d s h p t = absurd (cc)
 
 pub go_keeps : (r : Result Drafted ScriptKind) (n : ℕ) (rest : Drafted → Result Script ScriptFault) (s : Script) → go_on n r rest ≡ Ok s → (e : Drafted) × (r ≡ Ok e) × (rest e ≡ Ok s)
@@ -189,7 +189,7 @@ go_keeps (Ok e) n rest s h = (e, refl, h)
 go_keeps (Err k) n rest s h = absurd (cc)
 
 lines_keep : (n : ℕ) (lines : List (List ℕ)) (d : Drafted) (s : Script) → Held d → lines_read n lines d ≡ Ok s → KeepsAll s
-lines_keep n [] d s h t = end_keeps (end_fault d.place) n d s h refl t
+lines_keep n [] d s h t = end_keeps (end_fault d.section) n d s h refl t
 lines_keep n (line ∷ lines) d s h t =
     let a = go_keeps (text_taken n line d) n (λ next. lines_read (n + 1) lines next) s t in
     lines_keep (n + 1) lines a.0 s (text_kept n line d a.0 h a.1) a.2

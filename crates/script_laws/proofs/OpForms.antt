@@ -11,7 +11,7 @@ use Rattle.stack_ops.specs.declared.op.Op.{Op}
 use Rattle.script_words.specs.Hexes.{byte_in, hex_in, long_tag_in, tag_in}
 use Rattle.script_words.specs.Places.{seg_in, segs_in, spot_in, word32, word64}
 use Rattle.script_lines.specs.declared.kind.ScriptKind.{ScriptKind}
-use Rattle.script_lines.specs.declared.line.Line.TheVariants.{Op as AnOp}
+use Rattle.script_lines.specs.declared.line.ScriptLine.TheVariants.{Op as AnOp}
 use Rattle.script_lines.specs.declared.line.OpLine.{OpLine}
 use Rattle.script_lines.specs.declared.line.OpLine.TheVariants.{Fill, Put, Show, Seal, Write, Read, WritePi, ReadPi, Flip, Copy, Wait}
 use Rattle.script_lines.specs.declared.verb.Verb.{Verb}

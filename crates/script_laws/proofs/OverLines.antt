@@ -16,20 +16,20 @@ use Rattle.volume_table.proofs.Order.{in_is, not_in}
 use Rattle.volume_tree.specs.Trees.{EntriesFollow, tree_place}
 use Rattle.script_lines.specs.declared.kind.ScriptKind.{ScriptKind}
 use Rattle.script_lines.specs.declared.kind.ScriptKind.TheVariants.{LongLine, NotAscii, OutOfPlace, TooMany}
-use Rattle.script_lines.specs.declared.line.Line.{Line}
-use Rattle.script_lines.specs.declared.line.Line.TheVariants.{Mode, Limits, Pages, Block, Expect, Inner, Linear, Stripe, Over, Flip, Shift, Schedule, Begin, Op}
+use Rattle.script_lines.specs.declared.line.ScriptLine.{ScriptLine}
+use Rattle.script_lines.specs.declared.line.ScriptLine.TheVariants.{Mode, Limits, Pages, Block, Expect, Inner, Linear, Stripe, Over, Flip, Shift, Schedule, Begin, Op}
 use Rattle.script_lines.specs.declared.verb.Verb.{Verb}
 use Rattle.script_lines.specs.declared.verb.Verb.TheVariants.{Over as OverVerb}
-use Rattle.script_lines.specs.declared.verb.Place.{Place}
+use Rattle.script_lines.specs.declared.verb.Section.{Section}
 use Rattle.script_lines.specs.Forms.{line_form}
 use Rattle.script_lines.specs.Reading.{◌>>=◌}
-use Rattle.script_lines.specs.Verbs.{place_of, verb_of}
+use Rattle.script_lines.specs.Verbs.{section_of, verb_of}
 use Rattle.script_text.specs.Drafts.{Drafted}
 use Rattle.script_text.specs.Ops.{op_in}
 use Rattle.script_text.specs.Rules.{broken_rule}
 use Rattle.script_text.specs.Trees.{entries_over, tracks_in}
 use Rattle.script_text.specs.declared.script.Script.{Script}
-use Rattle.script_text.specs.Language.{at_end, at_place, end_fault, finished, header_taken, is_behind, is_comment, line_taken, lines_read, nothing_read, script_in, taken, text_taken, unless_broken, verb_taken, version_of, with_entries, with_op, words_behind, words_taken}
+use Rattle.script_text.specs.Language.{at_end, in_section, end_fault, finished, header_taken, is_behind, is_comment, line_taken, lines_read, nothing_read, script_in, taken, text_taken, unless_broken, verb_taken, version_of, with_entries, with_op, words_behind, words_taken}
 use Rattle.script_laws.specs.Keeping.{IsWithin}
 use Rattle.script_laws.specs.OverLines.{LiesInTree, read_on}
 use Rattle.script_laws.proofs.FormsGive.{over_gives}
@@ -61,7 +61,7 @@ within : (b : Bool) (d e : Drafted) (found : List Entry) → (if b then Err TooM
 within true d e found h = absurd (cc)
 within false d e found h = ap (λ (y : Drafted). y.entries) (ok_draft (record d { entries = d.entries ++ found }) e h)
 
-taken_grows : (n : ℕ) (line : Line) (d e : Drafted) → taken n line d ≡ Ok e → Grows d e
+taken_grows : (n : ℕ) (line : ScriptLine) (d e : Drafted) → taken n line d ≡ Ok e → Grows d e
 unfolding taken
 taken_grows n (Mode m) d e h = given d e _ refl h
 taken_grows n (Limits l) d e h = given d e _ refl h
@@ -84,9 +84,9 @@ line_grows : (n : ℕ) (verb : Verb) (words : List (List ℕ)) (d e : Drafted) �
 unfolding line_taken
 line_grows n verb words d e t =
     let a = ok_of (line_form verb d.block words) _ e t in
-    let b = ok_of (unless_broken (broken_rule d a.0) (taken n a.0 d)) (at_place verb) e a.2 in
+    let b = ok_of (unless_broken (broken_rule d a.0) (taken n a.0 d)) (in_section verb) e a.2 in
     let c = no_rule (broken_rule d a.0) (taken n a.0 d) b.0 b.1 in
-    joined d b.0 e (taken_grows n a.0 d b.0 c.1) (given b.0 e (record b.0 { place = Some (place_of verb) }) refl b.2)
+    joined d b.0 e (taken_grows n a.0 d b.0 c.1) (given b.0 e (record b.0 { section = Some (section_of verb) }) refl b.2)
 
 where_grows : (b : Bool) (n : ℕ) (verb : Verb) (words : List (List ℕ)) (d e : Drafted) → (if b then line_taken n verb words d else Err OutOfPlace) ≡ Ok e → Grows d e
 where_grows true n verb words d e t = line_grows n verb words d e t
@@ -94,20 +94,20 @@ where_grows false n verb words d e t = absurd (cc)
 
 known_grows : (n : ℕ) (verb : Option Verb) (words : List (List ℕ)) (d e : Drafted) → verb_taken n verb words d ≡ Ok e → Grows d e
 known_grows n None words d e t = absurd (cc)
-known_grows n (Some verb) words d e t = where_grows (is_behind d.is_new verb d.place) n verb words d e t
+known_grows n (Some verb) words d e t = where_grows (is_behind d.is_new verb d.section) n verb words d e t
 
 header_grows : (v : Option Bool) (d e : Drafted) → header_taken v d ≡ Ok e → Grows d e
 header_grows None d e t = absurd (cc)
 header_grows (Some is_new) d e t = given d e _ refl t
 
-behind_grows : (place : Option Place) (n : ℕ) (words : List (List ℕ)) (d e : Drafted) → words_behind place n words d ≡ Ok e → Grows d e
+behind_grows : (section : Option Section) (n : ℕ) (words : List (List ℕ)) (d e : Drafted) → words_behind section n words d ≡ Ok e → Grows d e
 behind_grows None n words d e t = header_grows (version_of words) d e t
-behind_grows (Some place) n [] d e t = given d e d refl t
-behind_grows (Some place) n (first ∷ words) d e t = known_grows n (verb_of first) words d e t
+behind_grows (Some section) n [] d e t = given d e d refl t
+behind_grows (Some section) n (first ∷ words) d e t = known_grows n (verb_of first) words d e t
 
-comment_grows : (b : Bool) (n : ℕ) (first : List ℕ) (words : List (List ℕ)) (d e : Drafted) → (if b then Ok d else words_behind d.place n (first ∷ words) d) ≡ Ok e → Grows d e
+comment_grows : (b : Bool) (n : ℕ) (first : List ℕ) (words : List (List ℕ)) (d e : Drafted) → (if b then Ok d else words_behind d.section n (first ∷ words) d) ≡ Ok e → Grows d e
 comment_grows true n first words d e t = given d e d refl t
-comment_grows false n first words d e t = behind_grows d.place n (first ∷ words) d e t
+comment_grows false n first words d e t = behind_grows d.section n (first ∷ words) d e t
 
 words_grow : (n : ℕ) (words : List (List ℕ)) (d e : Drafted) → words_taken n words d ≡ Ok e → Grows d e
 words_grow n [] d e t = given d e d refl t
@@ -135,7 +135,7 @@ from : (d e : Drafted) (s : Script) → Grows d e → Has e s → Has d s
 from d e s a b = record { more = a.more ++ b.more; is = b.is ∙ ap (λ xs. xs ++ b.more) a.is ∙ append_assoc d.entries a.more b.more }
 
 lines_have : (n : ℕ) (lines : List (List ℕ)) (d : Drafted) (s : Script) → lines_read n lines d ≡ Ok s → Has d s
-lines_have n [] d s t = end_has (end_fault d.place) n d s t
+lines_have n [] d s t = end_has (end_fault d.section) n d s t
 lines_have n (line ∷ lines) d s t =
     let a = go_keeps (text_taken n line d) n (λ next. lines_read (n + 1) lines next) s t in
     from d a.0 s (words_grow n (words_of line) d a.0 (text_words n line d a.0 a.1)) (lines_have (n + 1) lines a.0 s a.2)
@@ -165,7 +165,7 @@ line_adds : (n : ℕ) (words : List (List ℕ)) (d e : Drafted) → line_taken n
 unfolding line_taken
 line_adds n words d e t =
     let a = ok_of (line_form OverVerb d.block words) _ e t in
-    let b = ok_of (unless_broken (broken_rule d a.0) (taken n a.0 d)) (at_place OverVerb) e a.2 in
+    let b = ok_of (unless_broken (broken_rule d a.0) (taken n a.0 d)) (in_section OverVerb) e a.2 in
     let c = no_rule (broken_rule d a.0) (taken n a.0 d) b.0 b.1 in
     let m = over_gives words a.0 a.1 in
     let g = over_adds n m.0 m.1 m.2 m.3 d b.0 (sym (ap (λ l. taken n l d) m.4) ∙ c.1) in
@@ -174,13 +174,13 @@ line_adds n words d e t =
       len = m.1;
       chunk = m.2;
       volumes = m.3;
-      says = a.1 ∙ ap (λ (l : Line). Ok l) m.4;
+      says = a.1 ∙ ap (λ (l : ScriptLine). Ok l) m.4;
       len_is = m.6;
       chunk_is = m.7;
       some = m.8;
       found = g.0;
       over = g.1;
-      is = ap (λ (x : Drafted). x.entries) (ok_draft (record b.0 { place = Some (place_of OverVerb) }) e b.2) ∙ g.2;
+      is = ap (λ (x : Drafted). x.entries) (ok_draft (record b.0 { section = Some (section_of OverVerb) }) e b.2) ∙ g.2;
     }
 
 where_adds : (b : Bool) (n : ℕ) (words : List (List ℕ)) (d e : Drafted) → (if b then line_taken n OverVerb words d else Err OutOfPlace) ≡ Ok e → Adds words d e
@@ -196,12 +196,12 @@ no_header : (v : Option Bool) (d e : Drafted) → v ≡ None → header_taken v 
 no_header None d e h t = absurd (cc)
 no_header (Some b) d e h t = absurd (cc)
 
-behind_adds : (place : Option Place) (n : ℕ) (words : List (List ℕ)) (d e : Drafted) → words_behind place n (codes "over" ∷ words) d ≡ Ok e → Adds words d e
+behind_adds : (section : Option Section) (n : ℕ) (words : List (List ℕ)) (d e : Drafted) → words_behind section n (codes "over" ∷ words) d ≡ Ok e → Adds words d e
 behind_adds None n words d e t = absurd (no_header (version_of (codes "over" ∷ words)) d e (no_version words) t)
-behind_adds (Some place) n words d e t = where_adds (is_behind d.is_new OverVerb d.place) n words d e t
+behind_adds (Some section) n words d e t = where_adds (is_behind d.is_new OverVerb d.section) n words d e t
 
 words_add : (n : ℕ) (words : List (List ℕ)) (d e : Drafted) → words_taken n (codes "over" ∷ words) d ≡ Ok e → Adds words d e
-words_add n words d e t = behind_adds d.place n words d e t
+words_add n words d e t = behind_adds d.section n words d e t
 
 -- ---- which entry holds a block
 

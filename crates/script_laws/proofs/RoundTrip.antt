@@ -7,8 +7,8 @@ use Rattle.stack_ops.specs.declared.op.Op.{Op}
 use Rattle.script_words.specs.Cuts.{lines_of}
 use Rattle.script_lines.specs.declared.kind.ScriptKind.TheVariants.{Memory, TooMany}
 use Rattle.script_lines.specs.declared.verb.Verb.TheVariants.{Schedule as ScheduleVerb, Begin as BeginVerb}
-use Rattle.script_lines.specs.declared.verb.Place.{Place}
-use Rattle.script_lines.specs.declared.verb.Place.TheVariants.{Volume as AtVolume, Fault as AtFault, Schedule as AtSchedule, Begin as AtBegin, Op as AtOp}
+use Rattle.script_lines.specs.declared.verb.Section.{Section}
+use Rattle.script_lines.specs.declared.verb.Section.TheVariants.{Volume as AtVolume, Fault as AtFault, Schedule as AtSchedule, Begin as AtBegin, Op as AtOp}
 use Rattle.script_text.specs.Crossings.{crossed, raw_of}
 use Rattle.script_text.specs.Drafts.{Drafted}
 use Rattle.script_text.specs.declared.fault.ScriptFault.{ScriptFault}
@@ -28,7 +28,7 @@ crossed_back size ops (f ∷ fs) h =
     ap (λ at. record f { at = at } ∷ map (crossed ops) (map raw_of fs)) (h.0).crossing ∙ ap (λ x. f ∷ x) (crossed_back size ops fs h.1)
 
 -- one of two places
-either_place : {A : Type 0} (p q : Place) (xs : List A) → (r : Place) × (placed (Some p) xs q ≡ Some r)
+either_place : {A : Type 0} (p q : Section) (xs : List A) → (r : Section) × (placed (Some p) xs q ≡ Some r)
 either_place p q [] = (p, refl)
 either_place p q (x ∷ xs) = (q, refl)
 
@@ -36,7 +36,7 @@ schedule_behind : {A : Type 0} (b : Bool) (xs : List A) → is_behind b Schedule
 schedule_behind b [] = behind b ScheduleVerb AtVolume refl refl
 schedule_behind b (x ∷ xs) = behind b ScheduleVerb AtFault refl refl
 
-begin_behind : {A B : Type 0} (b : Bool) (xs : List A) (ys : List B) (r : Place) → placed (Some AtVolume) xs AtFault ≡ Some r → is_behind b BeginVerb (placed (Some r) ys AtSchedule) ≡ true
+begin_behind : {A B : Type 0} (b : Bool) (xs : List A) (ys : List B) (r : Section) → placed (Some AtVolume) xs AtFault ≡ Some r → is_behind b BeginVerb (placed (Some r) ys AtSchedule) ≡ true
 begin_behind b [] [] r e = ap (is_behind b BeginVerb) (sym e) ∙ behind b BeginVerb AtVolume refl refl
 begin_behind b (x ∷ xs) [] r e = ap (is_behind b BeginVerb) (sym e) ∙ behind b BeginVerb AtFault refl refl
 begin_behind b xs (y ∷ ys) r e = behind b BeginVerb AtSchedule refl refl
@@ -64,7 +64,7 @@ record WholeRead (s : Script) : Type 0 where
   fault_number : ℕ
   op_number : ℕ
   step : Step 1 (script_printed s) nothing_read number [] last
-  place_is : last.place ≡ placed (Some AtBegin) s.ops AtOp
+  place_is : last.section ≡ placed (Some AtBegin) s.ops AtOp
   is : finished last ≡ record s { expect_line = expect; faults = map (crossed s.ops) (map raw_of s.faults); lines = numbered fault_number s.faults ++ numbered op_number s.ops }
 
 whole_read : (s : Script) → Keeps s → WholeRead s
@@ -77,18 +77,18 @@ whole_read s h =
     let text_faults : List ℕ = faults_text s.faults ++ text_schedule in
     let text_entries : List ℕ = entries_text s.entries ++ text_faults in
     let front : Fronted s text_entries = front_stage s text_entries h.mode_is h.limits_are h.pages_are h.block_is in
-    let d0 : Drafted = fronted s front.expect front.is_new front.place in
+    let d0 : Drafted = fronted s front.expect front.is_new front.section in
     let n1 : ℕ = front.number + length s.entries in
-    let d1 : Drafted = record d0 { entries = s.entries; place = Some AtVolume } in
+    let d1 : Drafted = record d0 { entries = s.entries; section = Some AtVolume } in
     let n2 : ℕ = n1 + length s.faults in
-    let d2 : Drafted = record d1 { faults = map raw_of s.faults; fault_lines = numbered n1 s.faults; place = placed (Some AtVolume) s.faults AtFault } in
+    let d2 : Drafted = record d1 { faults = map raw_of s.faults; fault_lines = numbered n1 s.faults; section = placed (Some AtVolume) s.faults AtFault } in
     let p2 = either_place AtVolume AtFault s.faults in
     let n3 : ℕ = n2 + length s.schedule in
-    let d3 : Drafted = record d2 { schedule = s.schedule; place = placed (Some p2.0) s.schedule AtSchedule } in
+    let d3 : Drafted = record d2 { schedule = s.schedule; section = placed (Some p2.0) s.schedule AtSchedule } in
     let p3 = either_place p2.0 AtSchedule s.schedule in
-    let d4 : Drafted = record d3 { place = Some AtBegin } in
+    let d4 : Drafted = record d3 { section = Some AtBegin } in
     let n5 : ℕ = (n3 + 1) + length s.ops in
-    let d5 : Drafted = record d4 { ops = s.ops; blocks = blocks_of s.ops; op_lines = numbered (n3 + 1) s.ops; place = placed (Some AtBegin) s.ops AtOp } in
+    let d5 : Drafted = record d4 { ops = s.ops; blocks = blocks_of s.ops; op_lines = numbered (n3 + 1) s.ops; section = placed (Some AtBegin) s.ops AtOp } in
     let ops_end : script_printed s ≡ front_text s ++ text_entries =
     ap (λ x. front_text s ++ (entries_text s.entries ++ (faults_text s.faults ++ (schedule_text s.schedule ++ (codes "begin\n" ++ x))))) (sym (append-nil (ops_text s.ops))) in
     record {
@@ -100,7 +100,7 @@ whole_read s h =
       step =
           from_text 1 (script_printed s) (front_text s ++ text_entries) nothing_read n5 [] d5 ops_end
           (joined 1 (front_text s ++ text_entries) nothing_read front.number text_entries d0 n5 [] d5 front.step
-          (joined front.number text_entries d0 n1 text_faults d1 n5 [] d5 (entries_stage s.entries front.number text_faults d0 front.place h.entries_are h.entries_count refl refl front.volume)
+          (joined front.number text_entries d0 n1 text_faults d1 n5 [] d5 (entries_stage s.entries front.number text_faults d0 front.section h.entries_are h.entries_count refl refl front.volume)
           (joined n1 text_faults d1 n2 text_schedule d2 n5 [] d5 (faults_stage s.faults n1 s.ops text_schedule d1 size.1 h.faults_are refl refl refl h.faults_count)
           (joined n2 text_schedule d2 n3 text_begin d3 n5 [] d5 (schedule_stage s.schedule n2 text_begin d2 p2.0 h.choices_are p2.1 (schedule_behind front.is_new s.faults) refl h.choices_count)
           (joined n3 text_begin d3 (n3 + 1) text_ops d4 n5 [] d5 (begin_stage n3 text_ops d3 p3.0 p3.1 (begin_behind front.is_new s.faults s.schedule p2.0 p2.1))

@@ -13,12 +13,12 @@ use Rattle.stripe_volume.specs.declared.legs.Leg.{Leg}
 use Rattle.volume_table.specs.declared.entry.Entry.{Entry}
 use Rattle.volume_table.specs.declared.entry.Entry.TheVariants.{Linear as LinearEntry, Stripe as StripeEntry}
 use Rattle.script_lines.specs.declared.kind.ScriptKind.TheVariants.{TooMany, BadFault}
-use Rattle.script_lines.specs.declared.line.Line.TheVariants.{Linear as LinearLine, Stripe as StripeLine, Flip as FlipLine, Shift as ShiftLine}
+use Rattle.script_lines.specs.declared.line.ScriptLine.TheVariants.{Linear as LinearLine, Stripe as StripeLine, Flip as FlipLine, Shift as ShiftLine}
 use Rattle.script_lines.specs.declared.line.Spot.{Spot}
 use Rattle.script_lines.specs.declared.line.Spot.TheVariants.{Host, Wire, Medium}
 use Rattle.script_lines.specs.declared.verb.Verb.TheVariants.{Linear as LinearVerb, Stripe as StripeVerb, Fault as FaultVerb, Shift as ShiftVerb}
-use Rattle.script_lines.specs.declared.verb.Place.{Place}
-use Rattle.script_lines.specs.declared.verb.Place.TheVariants.{Volume as AtVolume, Fault as AtFault}
+use Rattle.script_lines.specs.declared.verb.Section.{Section}
+use Rattle.script_lines.specs.declared.verb.Section.TheVariants.{Volume as AtVolume, Fault as AtFault}
 use Rattle.script_text.specs.Drafts.{Drafted}
 use Rattle.script_text.specs.Language.{is_behind, taken}
 use Rattle.script_text.specs.Printed.{entries_text, entry_text, fault_text, faults_text}
@@ -42,32 +42,32 @@ legs_words : (legs : List Leg) → Each IsLeg legs → AreWords (leg_words legs)
 legs_words [] h = tt
 legs_words (l ∷ legs) h = (pair_word l.dev l.at 58 (let d = (h.0).dev_fits in omega (arith, d)) (h.0).at_fits refl, legs_words legs h.1)
 
-entry_step_linear : (n : ℕ) (e : _) (rest : List ℕ) (d : Drafted) (place : Place) → IsEntry (LinearEntry e) → d.place ≡ Some place → is_behind d.is_new LinearVerb d.place ≡ true → length d.entries < 16
-    → Step n (entry_text (LinearEntry e) ++ rest) d (n + 1) rest (record d { entries = d.entries ++ (LinearEntry e ∷ []); place = Some AtVolume })
+entry_step_linear : (n : ℕ) (e : _) (rest : List ℕ) (d : Drafted) (section : Section) → IsEntry (LinearEntry e) → d.section ≡ Some section → is_behind d.is_new LinearVerb d.section ≡ true → length d.entries < 16
+    → Step n (entry_text (LinearEntry e) ++ rest) d (n + 1) rest (record d { entries = d.entries ++ (LinearEntry e ∷ []); section = Some AtVolume })
 unfolding taken
-entry_step_linear n e rest d place h p b few =
+entry_step_linear n e rest d section h p b few =
     from_text n (entry_text (LinearEntry e) ++ rest) _ d (n + 1) rest _ (linear_line e rest)
     (line_step n (codes "linear" ∷ linear_words e) rest d _
     (record { clean_is = refl; filled_is = refl }, (decimal_word e.start h.0, (within_word 1 1048576 e.len (omega arith) h.1, (record { clean_is = refl; filled_is = refl }, (word32 e.dev h.2, (record { clean_is = refl; filled_is = refl }, (decimal_word e.at h.3, tt)))))))
-    (verb_step n (codes "linear") (linear_words e) d LinearVerb place (LinearLine e) (record d { entries = d.entries ++ (LinearEntry e ∷ []) }) refl refl p b (linear_back e h.0 h.1 h.2 h.3)
+    (verb_step n (codes "linear") (linear_words e) d LinearVerb section (LinearLine e) (record d { entries = d.entries ++ (LinearEntry e ∷ []) }) refl refl p b (linear_back e h.0 h.1 h.2 h.3)
     (ap (λ b. if b then Some TooMany else None) (lt-leb 16 (length d.entries) few)) refl))
 
-entry_step_stripe : (n : ℕ) (s : _) (rest : List ℕ) (d : Drafted) (place : Place) → IsEntry (StripeEntry s) → d.place ≡ Some place → is_behind d.is_new StripeVerb d.place ≡ true → length d.entries < 16
-    → Step n (entry_text (StripeEntry s) ++ rest) d (n + 1) rest (record d { entries = d.entries ++ (StripeEntry s ∷ []); place = Some AtVolume })
+entry_step_stripe : (n : ℕ) (s : _) (rest : List ℕ) (d : Drafted) (section : Section) → IsEntry (StripeEntry s) → d.section ≡ Some section → is_behind d.is_new StripeVerb d.section ≡ true → length d.entries < 16
+    → Step n (entry_text (StripeEntry s) ++ rest) d (n + 1) rest (record d { entries = d.entries ++ (StripeEntry s ∷ []); section = Some AtVolume })
 unfolding taken
-entry_step_stripe n s rest d place h p b few =
+entry_step_stripe n s rest d section h p b few =
     let legs = h.3 in
     let most = legs.count.high_is in
     from_text n (entry_text (StripeEntry s) ++ rest) _ d (n + 1) rest _ (stripe_line s rest)
     (line_step n (codes "stripe" ∷ stripe_words s) rest d _
     (record { clean_is = refl; filled_is = refl }, (decimal_word s.start h.0, (within_word 1 1048576 s.len (omega arith) h.1, (record { clean_is = refl; filled_is = refl }, (within_word 1 65536 s.chunk (omega arith) h.2, (record { clean_is = refl; filled_is = refl }, legs_words s.legs legs.each))))))
-    (verb_step n (codes "stripe") (stripe_words s) d StripeVerb place (StripeLine s.start s.len s.chunk s.legs) (record d { entries = d.entries ++ (StripeEntry s ∷ []) }) refl refl p b (stripe_back s h.0 h.1 h.2 legs)
+    (verb_step n (codes "stripe") (stripe_words s) d StripeVerb section (StripeLine s.start s.len s.chunk s.legs) (record d { entries = d.entries ++ (StripeEntry s ∷ []) }) refl refl p b (stripe_back s h.0 h.1 h.2 legs)
     (ap (λ b. if b || ltb 8 (length s.legs) then Some TooMany else None) (lt-leb 16 (length d.entries) few) ∙ ap (λ b. if b then Some TooMany else None) (le-ltb 8 (length s.legs) most)) refl))
 
-entry_step : (n : ℕ) (e : Entry) (rest : List ℕ) (d : Drafted) (place : Place) → IsEntry e → d.place ≡ Some place → is_behind d.is_new LinearVerb d.place ≡ true → length d.entries < 16
-    → Step n (entry_text e ++ rest) d (n + 1) rest (record d { entries = d.entries ++ (e ∷ []); place = Some AtVolume })
-entry_step n (LinearEntry e) rest d place h p b few = entry_step_linear n e rest d place h p b few
-entry_step n (StripeEntry s) rest d place h p b few = entry_step_stripe n s rest d place h p b few
+entry_step : (n : ℕ) (e : Entry) (rest : List ℕ) (d : Drafted) (section : Section) → IsEntry e → d.section ≡ Some section → is_behind d.is_new LinearVerb d.section ≡ true → length d.entries < 16
+    → Step n (entry_text e ++ rest) d (n + 1) rest (record d { entries = d.entries ++ (e ∷ []); section = Some AtVolume })
+entry_step n (LinearEntry e) rest d section h p b few = entry_step_linear n e rest d section h p b few
+entry_step n (StripeEntry s) rest d section h p b few = entry_step_stripe n s rest d section h p b few
 
 volume_again : (b : Bool) → is_behind b LinearVerb (Some AtVolume) ≡ true
 volume_again b = behind b LinearVerb AtVolume refl refl
@@ -75,19 +75,19 @@ volume_again b = behind b LinearVerb AtVolume refl refl
 pub next_number : (n k : ℕ) → (n + 1) + k ≡ n + suc k
 next_number n k = omega arith
 
-more_entries : (es : List Entry) (n : ℕ) (rest : List ℕ) (d : Drafted) → Each IsEntry es → d.place ≡ Some AtVolume → length d.entries + length es ≤ 16
-    → Step n (entries_text es ++ rest) d (n + length es) rest (record d { entries = d.entries ++ es; place = Some AtVolume })
+more_entries : (es : List Entry) (n : ℕ) (rest : List ℕ) (d : Drafted) → Each IsEntry es → d.section ≡ Some AtVolume → length d.entries + length es ≤ 16
+    → Step n (entries_text es ++ rest) d (n + length es) rest (record d { entries = d.entries ++ es; section = Some AtVolume })
 more_entries [] n rest d h p few =
     to_number n rest d n (n + 0) rest _ (omega arith)
-    (to_draft n rest d n rest d _ (ap (λ q. record d { place = q }) p ∙ ap (λ x. record d { entries = x; place = Some AtVolume }) (sym (append-nil d.entries))) (stay n rest d))
+    (to_draft n rest d n rest d _ (ap (λ q. record d { section = q }) p ∙ ap (λ x. record d { entries = x; section = Some AtVolume }) (sym (append-nil d.entries))) (stay n rest d))
 more_entries (e ∷ es) n rest d h p few =
-    let next : Drafted = record d { entries = d.entries ++ (e ∷ []); place = Some AtVolume } in
+    let next : Drafted = record d { entries = d.entries ++ (e ∷ []); section = Some AtVolume } in
     let one = length-snoc d.entries e in
     to_number n ((entry_text e ++ entries_text es) ++ rest) d ((n + 1) + length es) (n + suc (length es)) rest _ (next_number n (length es))
     (from_text n ((entry_text e ++ entries_text es) ++ rest) (entry_text e ++ (entries_text es ++ rest)) d ((n + 1) + length es) rest _ (append_assoc (entry_text e) (entries_text es) rest)
     (joined n (entry_text e ++ (entries_text es ++ rest)) d (n + 1) (entries_text es ++ rest) next ((n + 1) + length es) rest _
     (entry_step n e (entries_text es ++ rest) d AtVolume h.0 p (ap (is_behind d.is_new LinearVerb) p ∙ volume_again d.is_new) (omega (arith, few)))
-    (to_draft (n + 1) (entries_text es ++ rest) next ((n + 1) + length es) rest _ _ (ap (λ x. record d { entries = x; place = Some AtVolume }) (append_assoc d.entries (e ∷ []) es))
+    (to_draft (n + 1) (entries_text es ++ rest) next ((n + 1) + length es) rest _ _ (ap (λ x. record d { entries = x; section = Some AtVolume }) (append_assoc d.entries (e ∷ []) es))
     (more_entries es (n + 1) rest next h.1 refl (omega (arith, few, one))))))
   where
     length-snoc : (xs : List Entry) (x : Entry) → length (xs ++ (x ∷ [])) ≡ length xs + 1
@@ -95,20 +95,20 @@ more_entries (e ∷ es) n rest d h p few =
     length-snoc (y ∷ xs) x = let r = length-snoc xs x in omega (arith, r)
 
 -- the entries of a volume, at least one
-pub entries_stage : (es : List Entry) (n : ℕ) (rest : List ℕ) (d : Drafted) (place : Place) → Each IsEntry es → IsWithin 1 16 (length es) → d.entries ≡ [] → d.place ≡ Some place → is_behind d.is_new LinearVerb d.place ≡ true
-    → Step n (entries_text es ++ rest) d (n + length es) rest (record d { entries = es; place = Some AtVolume })
-entries_stage [] n rest d place h c z p b = let l = c.low_is in absurd (omega (arith, l))
-entries_stage (e ∷ es) n rest d place h c z p b =
+pub entries_stage : (es : List Entry) (n : ℕ) (rest : List ℕ) (d : Drafted) (section : Section) → Each IsEntry es → IsWithin 1 16 (length es) → d.entries ≡ [] → d.section ≡ Some section → is_behind d.is_new LinearVerb d.section ≡ true
+    → Step n (entries_text es ++ rest) d (n + length es) rest (record d { entries = es; section = Some AtVolume })
+entries_stage [] n rest d section h c z p b = let l = c.low_is in absurd (omega (arith, l))
+entries_stage (e ∷ es) n rest d section h c z p b =
     let m = c.high_is in
     let none : length d.entries ≡ 0 = ap length z in
-    let next : Drafted = record d { entries = d.entries ++ (e ∷ []); place = Some AtVolume } in
+    let next : Drafted = record d { entries = d.entries ++ (e ∷ []); section = Some AtVolume } in
     let here : d.entries ++ (e ∷ []) ≡ e ∷ [] = ap (λ x. x ++ (e ∷ [])) z in
     let one : length (d.entries ++ (e ∷ [])) ≡ 1 = ap length here in
     to_number n ((entry_text e ++ entries_text es) ++ rest) d ((n + 1) + length es) (n + suc (length es)) rest _ (next_number n (length es))
     (from_text n ((entry_text e ++ entries_text es) ++ rest) (entry_text e ++ (entries_text es ++ rest)) d ((n + 1) + length es) rest _ (append_assoc (entry_text e) (entries_text es) rest)
     (joined n (entry_text e ++ (entries_text es ++ rest)) d (n + 1) (entries_text es ++ rest) next ((n + 1) + length es) rest _
-    (entry_step n e (entries_text es ++ rest) d place h.0 p b (omega (arith, none)))
-    (to_draft (n + 1) (entries_text es ++ rest) next ((n + 1) + length es) rest _ _ (ap (λ x. record d { entries = x ++ es; place = Some AtVolume }) here)
+    (entry_step n e (entries_text es ++ rest) d section h.0 p b (omega (arith, none)))
+    (to_draft (n + 1) (entries_text es ++ rest) next ((n + 1) + length es) rest _ _ (ap (λ x. record d { entries = x ++ es; section = Some AtVolume }) here)
     (more_entries es (n + 1) rest next h.1 refl (omega (arith, m, one))))))
 
 -- what a stage leaves
@@ -117,7 +117,7 @@ abbrev pub numbered : {A : Type 0} → ℕ → List A → List ℕ
 numbered n [] = []
 numbered n (x ∷ xs) = n ∷ numbered (n + 1) xs
 
-abbrev pub placed : {A : Type 0} → Option Place → List A → Place → Option Place
+abbrev pub placed : {A : Type 0} → Option Section → List A → Section → Option Section
 placed p [] q = p
 placed p (x ∷ xs) q = Some q
 
@@ -132,17 +132,17 @@ spot_is_word Host = record { clean_is = refl; filled_is = refl }
 spot_is_word Wire = record { clean_is = refl; filled_is = refl }
 spot_is_word Medium = record { clean_is = refl; filled_is = refl }
 
-flip_step : (n op k : ℕ) (at : Crossing) (off : ℕ) (bytes rest : List ℕ) (d : Drafted) (place : Place) → d.block ≤ 4096 → IsWithin 1 1024 op → k ≤ 2047 → IsFlip d.block off bytes
-    → d.place ≡ Some place → is_behind d.is_new FaultVerb d.place ≡ true → length d.faults < 256
+flip_step : (n op k : ℕ) (at : Crossing) (off : ℕ) (bytes rest : List ℕ) (d : Drafted) (section : Section) → d.block ≤ 4096 → IsWithin 1 1024 op → k ≤ 2047 → IsFlip d.block off bytes
+    → d.section ≡ Some section → is_behind d.is_new FaultVerb d.section ≡ true → length d.faults < 256
     → Step n (fault_text (record { op = op; k = k; at = at; kind = FlipKind off bytes }) ++ rest) d (n + 1) rest
-    (record d { faults = d.faults ++ (raw_of (record { op = op; k = k; at = at; kind = FlipKind off bytes }) ∷ []); fault_lines = d.fault_lines ++ (n ∷ []); place = Some AtFault })
+    (record d { faults = d.faults ++ (raw_of (record { op = op; k = k; at = at; kind = FlipKind off bytes }) ∷ []); fault_lines = d.fault_lines ++ (n ∷ []); section = Some AtFault })
 unfolding taken
-flip_step n op k at off bytes rest d place s o l h p b few =
+flip_step n op k at off bytes rest d section s o l h p b few =
     let f : off ≤ d.block + 7 = h.off_fits in
     from_text n _ _ d (n + 1) rest _ (fault_line op k at off bytes rest)
     (line_step n (codes "fault" ∷ fault_words op k (spot_of at) off bytes) rest d _
     (record { clean_is = refl; filled_is = refl }, (within_word 1 1024 op (omega arith) o, (decimal_word k (omega (arith, l)), (spot_is_word (spot_of at), (record { clean_is = refl; filled_is = refl }, (decimal_word off (omega (arith, f, s)), (hex_word bytes h.are_bytes (some_byte d.block off bytes h), tt)))))))
-    (verb_step n (codes "fault") (fault_words op k (spot_of at) off bytes) d FaultVerb place (FlipLine op k (spot_of at) off bytes)
+    (verb_step n (codes "fault") (fault_words op k (spot_of at) off bytes) d FaultVerb section (FlipLine op k (spot_of at) off bytes)
     (record d { faults = d.faults ++ (raw_of (record { op = op; k = k; at = at; kind = FlipKind off bytes }) ∷ []); fault_lines = d.fault_lines ++ (n ∷ []) }) refl refl p b (fault_back d.block op k (spot_of at) off bytes s o l h)
     (ap (λ b. if b then Some TooMany else (if is_bad_flip d.block off bytes then Some BadFault else None)) (lt-leb 256 (length d.faults) few) ∙ ap (λ b. if b then Some BadFault else None) h.good) refl))
 
@@ -155,66 +155,66 @@ some_shift (pos zero) h = let l = h.low_is in absurd (omega (arith, l))
 some_shift (pos (suc n)) h = grind (arith, nat_tests)
 some_shift (negsuc n) h = refl
 
-shift_step : (n op : ℕ) (at : Crossing) (by : ℤ) (rest : List ℕ) (d : Drafted) (place : Place) → IsWithin 1 1024 op → IsShiftSpot (spot_of at) → IsShift by
-    → d.place ≡ Some place → is_behind d.is_new FaultVerb d.place ≡ true → length d.faults < 256
+shift_step : (n op : ℕ) (at : Crossing) (by : ℤ) (rest : List ℕ) (d : Drafted) (section : Section) → IsWithin 1 1024 op → IsShiftSpot (spot_of at) → IsShift by
+    → d.section ≡ Some section → is_behind d.is_new FaultVerb d.section ≡ true → length d.faults < 256
     → Step n (fault_text (record { op = op; k = 0; at = at; kind = ShiftKind by }) ++ rest) d (n + 1) rest
-    (record d { faults = d.faults ++ (raw_of (record { op = op; k = 0; at = at; kind = ShiftKind by }) ∷ []); fault_lines = d.fault_lines ++ (n ∷ []); place = Some AtFault })
+    (record d { faults = d.faults ++ (raw_of (record { op = op; k = 0; at = at; kind = ShiftKind by }) ∷ []); fault_lines = d.fault_lines ++ (n ∷ []); section = Some AtFault })
 unfolding taken
-shift_step n op at by rest d place o w h p b few =
+shift_step n op at by rest d section o w h p b few =
     from_text n _ _ d (n + 1) rest _ (shift_line op 0 at by rest)
     (line_step n (codes "shift" ∷ shift_words op (spot_of at) by) rest d _
     (record { clean_is = refl; filled_is = refl }, (within_word 1 1024 op (omega arith) o, (spot_is_word (spot_of at), (signed_word by h, tt))))
-    (verb_step n (codes "shift") (shift_words op (spot_of at) by) d ShiftVerb place (ShiftLine op (spot_of at) by)
+    (verb_step n (codes "shift") (shift_words op (spot_of at) by) d ShiftVerb section (ShiftLine op (spot_of at) by)
     (record d { faults = d.faults ++ (raw_of (record { op = op; k = 0; at = at; kind = ShiftKind by }) ∷ []); fault_lines = d.fault_lines ++ (n ∷ []) }) refl refl p b (shift_back op (spot_of at) by o w h)
     (ap (λ b. if b then Some TooMany else (if is_no_shift by then Some BadFault else None)) (lt-leb 256 (length d.faults) few) ∙ ap (λ b. if b then Some BadFault else None) (some_shift by h)) refl))
 
-fault_by_kind : (kind : FaultKind) (n op k : ℕ) (at : Crossing) (rest : List ℕ) (d : Drafted) (place : Place) → d.block ≤ 4096 → IsWithin 1 1024 op → k ≤ 2047 → IsKind d.block (record { op = op; k = k; at = at; kind = kind }) kind
-    → d.place ≡ Some place → is_behind d.is_new FaultVerb d.place ≡ true → length d.faults < 256
+fault_by_kind : (kind : FaultKind) (n op k : ℕ) (at : Crossing) (rest : List ℕ) (d : Drafted) (section : Section) → d.block ≤ 4096 → IsWithin 1 1024 op → k ≤ 2047 → IsKind d.block (record { op = op; k = k; at = at; kind = kind }) kind
+    → d.section ≡ Some section → is_behind d.is_new FaultVerb d.section ≡ true → length d.faults < 256
     → Step n (fault_text (record { op = op; k = k; at = at; kind = kind }) ++ rest) d (n + 1) rest
-    (record d { faults = d.faults ++ (raw_of (record { op = op; k = k; at = at; kind = kind }) ∷ []); fault_lines = d.fault_lines ++ (n ∷ []); place = Some AtFault })
-fault_by_kind (FlipKind off bytes) n op k at rest d place s o l h p b few = flip_step n op k at off bytes rest d place s o l h p b few
-fault_by_kind (ShiftKind by) n op k at rest d place s o l h p b few =
+    (record d { faults = d.faults ++ (raw_of (record { op = op; k = k; at = at; kind = kind }) ∷ []); fault_lines = d.fault_lines ++ (n ∷ []); section = Some AtFault })
+fault_by_kind (FlipKind off bytes) n op k at rest d section s o l h p b few = flip_step n op k at off bytes rest d section s o l h p b few
+fault_by_kind (ShiftKind by) n op k at rest d section s o l h p b few =
     subst
     (λ (x : ℕ). Step n (fault_text (record { op = op; k = x; at = at; kind = ShiftKind by }) ++ rest) d (n + 1) rest
-    (record d { faults = d.faults ++ (raw_of (record { op = op; k = x; at = at; kind = ShiftKind by }) ∷ []); fault_lines = d.fault_lines ++ (n ∷ []); place = Some AtFault }))
-    (sym h.0) (shift_step n op at by rest d place o h.1 h.2 p b few)
+    (record d { faults = d.faults ++ (raw_of (record { op = op; k = x; at = at; kind = ShiftKind by }) ∷ []); fault_lines = d.fault_lines ++ (n ∷ []); section = Some AtFault }))
+    (sym h.0) (shift_step n op at by rest d section o h.1 h.2 p b few)
 
-fault_step : (n : ℕ) (ops : List Op) (f : FaultLine) (rest : List ℕ) (d : Drafted) (place : Place) → d.block ≤ 4096 → IsFault d.block ops f
-    → d.place ≡ Some place → is_behind d.is_new FaultVerb d.place ≡ true → length d.faults < 256
-    → Step n (fault_text f ++ rest) d (n + 1) rest (record d { faults = d.faults ++ (raw_of f ∷ []); fault_lines = d.fault_lines ++ (n ∷ []); place = Some AtFault })
-fault_step n ops f rest d place s h p b few = fault_by_kind f.kind n f.op f.k f.at rest d place s h.op_is h.k_is h.kind_is p b few
+fault_step : (n : ℕ) (ops : List Op) (f : FaultLine) (rest : List ℕ) (d : Drafted) (section : Section) → d.block ≤ 4096 → IsFault d.block ops f
+    → d.section ≡ Some section → is_behind d.is_new FaultVerb d.section ≡ true → length d.faults < 256
+    → Step n (fault_text f ++ rest) d (n + 1) rest (record d { faults = d.faults ++ (raw_of f ∷ []); fault_lines = d.fault_lines ++ (n ∷ []); section = Some AtFault })
+fault_step n ops f rest d section s h p b few = fault_by_kind f.kind n f.op f.k f.at rest d section s h.op_is h.k_is h.kind_is p b few
 
 fault_again : (b : Bool) → is_behind b FaultVerb (Some AtFault) ≡ true
 fault_again b = behind b FaultVerb AtFault refl refl
 
-more_faults : (fs : List FaultLine) (n : ℕ) (ops : List Op) (rest : List ℕ) (d : Drafted) → d.block ≤ 4096 → Each (IsFault d.block ops) fs → d.place ≡ Some AtFault → length d.faults + length fs ≤ 256
-    → Step n (faults_text fs ++ rest) d (n + length fs) rest (record d { faults = d.faults ++ map raw_of fs; fault_lines = d.fault_lines ++ numbered n fs; place = Some AtFault })
+more_faults : (fs : List FaultLine) (n : ℕ) (ops : List Op) (rest : List ℕ) (d : Drafted) → d.block ≤ 4096 → Each (IsFault d.block ops) fs → d.section ≡ Some AtFault → length d.faults + length fs ≤ 256
+    → Step n (faults_text fs ++ rest) d (n + length fs) rest (record d { faults = d.faults ++ map raw_of fs; fault_lines = d.fault_lines ++ numbered n fs; section = Some AtFault })
 more_faults [] n ops rest d s h p few =
     to_number n rest d n (n + 0) rest _ (omega arith)
     (to_draft n rest d n rest d _
-    (ap (λ q. record d { place = q }) p ∙ ap (λ x. record d { faults = x; place = Some AtFault }) (sym (append-nil d.faults))
-    ∙ ap (λ x. record d { faults = d.faults ++ []; fault_lines = x; place = Some AtFault }) (sym (append-nil d.fault_lines)))
+    (ap (λ q. record d { section = q }) p ∙ ap (λ x. record d { faults = x; section = Some AtFault }) (sym (append-nil d.faults))
+    ∙ ap (λ x. record d { faults = d.faults ++ []; fault_lines = x; section = Some AtFault }) (sym (append-nil d.fault_lines)))
     (stay n rest d))
 more_faults (f ∷ fs) n ops rest d s h p few =
-    let next : Drafted = record d { faults = d.faults ++ (raw_of f ∷ []); fault_lines = d.fault_lines ++ (n ∷ []); place = Some AtFault } in
+    let next : Drafted = record d { faults = d.faults ++ (raw_of f ∷ []); fault_lines = d.fault_lines ++ (n ∷ []); section = Some AtFault } in
     let one = length-snoc d.faults (raw_of f) in
     to_number n ((fault_text f ++ faults_text fs) ++ rest) d ((n + 1) + length fs) (n + suc (length fs)) rest _ (next_number n (length fs))
     (from_text n ((fault_text f ++ faults_text fs) ++ rest) (fault_text f ++ (faults_text fs ++ rest)) d ((n + 1) + length fs) rest _ (append_assoc (fault_text f) (faults_text fs) rest)
     (joined n (fault_text f ++ (faults_text fs ++ rest)) d (n + 1) (faults_text fs ++ rest) next ((n + 1) + length fs) rest _
     (fault_step n ops f (faults_text fs ++ rest) d AtFault s h.0 p (ap (is_behind d.is_new FaultVerb) p ∙ fault_again d.is_new) (omega (arith, few)))
     (to_draft (n + 1) (faults_text fs ++ rest) next ((n + 1) + length fs) rest _ _
-    (ap (λ x. record d { faults = x; fault_lines = (d.fault_lines ++ (n ∷ [])) ++ numbered (n + 1) fs; place = Some AtFault }) (append_assoc d.faults (raw_of f ∷ []) (map raw_of fs))
-    ∙ ap (λ x. record d { faults = d.faults ++ (raw_of f ∷ map raw_of fs); fault_lines = x; place = Some AtFault }) (append_assoc d.fault_lines (n ∷ []) (numbered (n + 1) fs)))
+    (ap (λ x. record d { faults = x; fault_lines = (d.fault_lines ++ (n ∷ [])) ++ numbered (n + 1) fs; section = Some AtFault }) (append_assoc d.faults (raw_of f ∷ []) (map raw_of fs))
+    ∙ ap (λ x. record d { faults = d.faults ++ (raw_of f ∷ map raw_of fs); fault_lines = x; section = Some AtFault }) (append_assoc d.fault_lines (n ∷ []) (numbered (n + 1) fs)))
     (more_faults fs (n + 1) ops rest next s h.1 refl (omega (arith, few, one))))))
 
 -- any number of faults behind a volume
-pub faults_stage : (fs : List FaultLine) (n : ℕ) (ops : List Op) (rest : List ℕ) (d : Drafted) → d.block ≤ 4096 → Each (IsFault d.block ops) fs → d.place ≡ Some AtVolume → d.faults ≡ [] → d.fault_lines ≡ [] → length fs ≤ 256
-    → Step n (faults_text fs ++ rest) d (n + length fs) rest (record d { faults = map raw_of fs; fault_lines = numbered n fs; place = placed (Some AtVolume) fs AtFault })
+pub faults_stage : (fs : List FaultLine) (n : ℕ) (ops : List Op) (rest : List ℕ) (d : Drafted) → d.block ≤ 4096 → Each (IsFault d.block ops) fs → d.section ≡ Some AtVolume → d.faults ≡ [] → d.fault_lines ≡ [] → length fs ≤ 256
+    → Step n (faults_text fs ++ rest) d (n + length fs) rest (record d { faults = map raw_of fs; fault_lines = numbered n fs; section = placed (Some AtVolume) fs AtFault })
 faults_stage [] n ops rest d s h p z l few =
     to_number n rest d n (n + 0) rest _ (omega arith)
-    (to_draft n rest d n rest d _ (ap (λ q. record d { place = q }) p ∙ ap (λ x. record d { faults = x; place = Some AtVolume }) z ∙ ap (λ x. record d { faults = []; fault_lines = x; place = Some AtVolume }) l) (stay n rest d))
+    (to_draft n rest d n rest d _ (ap (λ q. record d { section = q }) p ∙ ap (λ x. record d { faults = x; section = Some AtVolume }) z ∙ ap (λ x. record d { faults = []; fault_lines = x; section = Some AtVolume }) l) (stay n rest d))
 faults_stage (f ∷ fs) n ops rest d s h p z l few =
-    let next : Drafted = record d { faults = d.faults ++ (raw_of f ∷ []); fault_lines = d.fault_lines ++ (n ∷ []); place = Some AtFault } in
+    let next : Drafted = record d { faults = d.faults ++ (raw_of f ∷ []); fault_lines = d.fault_lines ++ (n ∷ []); section = Some AtFault } in
     let none : length d.faults ≡ 0 = ap length z in
     let one = length-snoc d.faults (raw_of f) in
     to_number n ((fault_text f ++ faults_text fs) ++ rest) d ((n + 1) + length fs) (n + suc (length fs)) rest _ (next_number n (length fs))
@@ -222,6 +222,6 @@ faults_stage (f ∷ fs) n ops rest d s h p z l few =
     (joined n (fault_text f ++ (faults_text fs ++ rest)) d (n + 1) (faults_text fs ++ rest) next ((n + 1) + length fs) rest _
     (fault_step n ops f (faults_text fs ++ rest) d AtVolume s h.0 p (ap (is_behind d.is_new FaultVerb) p ∙ behind d.is_new FaultVerb AtVolume refl refl) (omega (arith, none)))
     (to_draft (n + 1) (faults_text fs ++ rest) next ((n + 1) + length fs) rest _ _
-    (ap (λ x. record d { faults = (x ++ (raw_of f ∷ [])) ++ map raw_of fs; fault_lines = (d.fault_lines ++ (n ∷ [])) ++ numbered (n + 1) fs; place = Some AtFault }) z
-    ∙ ap (λ x. record d { faults = raw_of f ∷ map raw_of fs; fault_lines = (x ++ (n ∷ [])) ++ numbered (n + 1) fs; place = Some AtFault }) l)
+    (ap (λ x. record d { faults = (x ++ (raw_of f ∷ [])) ++ map raw_of fs; fault_lines = (d.fault_lines ++ (n ∷ [])) ++ numbered (n + 1) fs; section = Some AtFault }) z
+    ∙ ap (λ x. record d { faults = raw_of f ∷ map raw_of fs; fault_lines = (x ++ (n ∷ [])) ++ numbered (n + 1) fs; section = Some AtFault }) l)
     (more_faults fs (n + 1) ops rest next s h.1 refl (omega (arith, few, one, none))))))

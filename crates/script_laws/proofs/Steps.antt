@@ -6,14 +6,14 @@ use Rattle.std.proofs.lemmas.Bool.Decides.{nat_tests}
 use Rattle.std.proofs.lemmas.Bool.{and_from}
 use Rattle.script_words.specs.Cuts.{lines_of, words_of}
 use Rattle.script_lines.specs.declared.kind.ScriptKind.TheVariants.{NotAscii, LongLine, OutOfPlace}
-use Rattle.script_lines.specs.declared.line.Line.{Line}
+use Rattle.script_lines.specs.declared.line.ScriptLine.{ScriptLine}
 use Rattle.script_lines.specs.declared.verb.Verb.{Verb}
-use Rattle.script_lines.specs.declared.verb.Place.{Place}
+use Rattle.script_lines.specs.declared.verb.Section.{Section}
 use Rattle.script_lines.specs.Forms.{line_form}
 use Rattle.script_lines.specs.Reading.{◌>>=◌}
-use Rattle.script_lines.specs.Verbs.{comes_before, is_new_verb, place_of, verb_of}
+use Rattle.script_lines.specs.Verbs.{comes_before, is_new_verb, section_of, verb_of}
 use Rattle.script_text.specs.Drafts.{Drafted}
-use Rattle.script_text.specs.Language.{at_place, go_on, is_behind, is_comment, line_taken, lines_read, taken, text_taken, unless_broken, verb_taken, words_behind, words_taken}
+use Rattle.script_text.specs.Language.{in_section, go_on, is_behind, is_comment, line_taken, lines_read, taken, text_taken, unless_broken, verb_taken, words_behind, words_taken}
 use Rattle.script_text.specs.Rules.{broken_rule}
 use Rattle.script_laws.specs.Clean.{AreWords}
 use Rattle.script_laws.specs.Texts.{has_short_lines, is_short, spaced}
@@ -57,19 +57,19 @@ line_step n ws rest d e w t short =
       and_second (is_short (spaced ws)) (has_short_lines rest) each,
     )
 
-line_is_taken : (n : ℕ) (verb : Verb) (words : List (List ℕ)) (d : Drafted) (line : Line) (next : Drafted) → line_form verb d.block words ≡ Ok line → broken_rule d line ≡ None → taken n line d ≡ Ok next
-    → line_taken n verb words d ≡ Ok (record next { place = Some (place_of verb) })
+line_is_taken : (n : ℕ) (verb : Verb) (words : List (List ℕ)) (d : Drafted) (line : ScriptLine) (next : Drafted) → line_form verb d.block words ≡ Ok line → broken_rule d line ≡ None → taken n line d ≡ Ok next
+    → line_taken n verb words d ≡ Ok (record next { section = Some (section_of verb) })
 unfolding line_taken
 line_is_taken n verb words d line next f r t =
-    ap (λ x. x >>= (λ line. unless_broken (broken_rule d line) (taken n line d) >>= at_place verb)) f ∙ ap (λ x. unless_broken x (taken n line d) >>= at_place verb) r ∙ ap (λ x. x >>= at_place verb) t
+    ap (λ x. x >>= (λ line. unless_broken (broken_rule d line) (taken n line d) >>= in_section verb)) f ∙ ap (λ x. unless_broken x (taken n line d) >>= in_section verb) r ∙ ap (λ x. x >>= in_section verb) t
 
 -- A line of this verb in its place, whose words are read as this line, which breaks no rule.
-pub verb_step : (n : ℕ) (first : List ℕ) (words : List (List ℕ)) (d : Drafted) (verb : Verb) (place : Place) (line : Line) (next : Drafted)
-    → is_comment first ≡ false → verb_of first ≡ Some verb → d.place ≡ Some place → is_behind d.is_new verb d.place ≡ true
+pub verb_step : (n : ℕ) (first : List ℕ) (words : List (List ℕ)) (d : Drafted) (verb : Verb) (section : Section) (line : ScriptLine) (next : Drafted)
+    → is_comment first ≡ false → verb_of first ≡ Some verb → d.section ≡ Some section → is_behind d.is_new verb d.section ≡ true
     → line_form verb d.block words ≡ Ok line → broken_rule d line ≡ None → taken n line d ≡ Ok next
-    → words_taken n (first ∷ words) d ≡ Ok (record next { place = Some (place_of verb) })
-verb_step n first words d verb place line next c v p b f r t =
-    ap (λ x. if x then Ok d else words_behind d.place n (first ∷ words) d) c
+    → words_taken n (first ∷ words) d ≡ Ok (record next { section = Some (section_of verb) })
+verb_step n first words d verb section line next c v p b f r t =
+    ap (λ x. if x then Ok d else words_behind d.section n (first ∷ words) d) c
     ∙ ap (λ q. words_behind q n (first ∷ words) d) p
     ∙ ap (λ o. verb_taken n o words d) v
     ∙ ap (λ x. if x then line_taken n verb words d else Err OutOfPlace) b
@@ -80,5 +80,5 @@ or_true true = refl
 or_true false = refl
 
 -- a line that isn't of version 2 alone stands behind a place that any version has before it
-pub behind : (is_new : Bool) (verb : Verb) (place : Place) → is_new_verb verb ≡ false → comes_before place (place_of verb) is_new ≡ true → is_behind is_new verb (Some place) ≡ true
-behind is_new verb place v c = and_from (is_new || not (is_new_verb verb)) (comes_before place (place_of verb) is_new) (ap (λ b. is_new || not b) v ∙ or_true is_new) c
+pub behind : (is_new : Bool) (verb : Verb) (section : Section) → is_new_verb verb ≡ false → comes_before section (section_of verb) is_new ≡ true → is_behind is_new verb (Some section) ≡ true
+behind is_new verb section v c = and_from (is_new || not (is_new_verb verb)) (comes_before section (section_of verb) is_new) (ap (λ b. is_new || not b) v ∙ or_true is_new) c

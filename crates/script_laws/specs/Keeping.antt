@@ -20,6 +20,8 @@ use Rattle.script_text.specs.Rules.{is_bad_flip, needs_tuples, request_blocks}
 use Rattle.script_laws.specs.Lines.{line_of}
 use Rattle.volume_table.specs.declared.TheConstants.{MOST_LENGTH}
 use Rattle.bio_core.specs.declared.TheConstants.{MOST_BLOCKS}
+use Rattle.script_lines.specs.declared.TheConstants.{MOST_CHUNK}
+use Rattle.script_text.specs.declared.TheConstants.{MOST_ENTRIES, MOST_FAULTS, MOST_SCHEDULE, MOST_OPS}
 
 -- What each script of the language keeps: the counts, the ranges, the crossings and the rules of its lines.
 
@@ -60,7 +62,7 @@ pub record AreLegs (legs : List Leg) : Type 0 where
 
 abbrev pub IsEntry : Entry → Type 0
 IsEntry (Linear e) = (e.start < 2 ^ 64) × IsWithin 1 MOST_LENGTH e.len × (e.dev < 2 ^ 32) × (e.at < 2 ^ 64)
-IsEntry (Stripe s) = (s.start < 2 ^ 64) × IsWithin 1 MOST_LENGTH s.len × IsWithin 1 65536 s.chunk × AreLegs s.legs
+IsEntry (Stripe s) = (s.start < 2 ^ 64) × IsWithin 1 MOST_LENGTH s.len × IsWithin 1 MOST_CHUNK s.chunk × AreLegs s.legs
 
 -- bytes of a frame of blocks of this size that are altered
 pub record IsFlip (size off : ℕ) (bytes : List ℕ) : Type 0 where
@@ -127,11 +129,11 @@ pub record Keeps (s : Script) : Type 0 where
   pub pages_are : IsWithin 1 256 s.pages
   pub block_is : (s.block ≡ 512) ⊎ (s.block ≡ 4096)
   pub entries_are : Each IsEntry s.entries
-  pub entries_count : IsWithin 1 16 (length s.entries)
+  pub entries_count : IsWithin 1 MOST_ENTRIES (length s.entries)
   pub faults_are : Each (IsFault s.block s.ops) s.faults
-  pub faults_count : length s.faults ≤ 256
+  pub faults_count : length s.faults ≤ MOST_FAULTS
   pub choices_are : Each IsChoice s.schedule
-  pub choices_count : length s.schedule ≤ 16384
+  pub choices_count : length s.schedule ≤ MOST_SCHEDULE
   pub ops_are : Each (IsOp s.mode.dix s.pages s.block) s.ops
-  pub ops_count : length s.ops ≤ 1024
+  pub ops_count : length s.ops ≤ MOST_OPS
   pub blocks_count : blocks_of s.ops ≤ MOST_BLOCKS

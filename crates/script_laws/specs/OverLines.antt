@@ -4,7 +4,7 @@ use Rattle.volume_table.specs.Places.{place_in}
 use Rattle.volume_table.specs.Tables.{Table}
 use Rattle.volume_tree.specs.Trees.{tree_place}
 use Rattle.script_lines.specs.declared.kind.ScriptKind.{ScriptKind}
-use Rattle.script_lines.specs.declared.line.Line.TheVariants.{Over}
+use Rattle.script_lines.specs.declared.line.ScriptLine.TheVariants.{Over}
 use Rattle.script_lines.specs.declared.verb.Verb.TheVariants.{Over as OverVerb}
 use Rattle.script_lines.specs.Forms.{line_form}
 use Rattle.script_lines.specs.Reading.{◌>>=◌}

@@ -12,14 +12,15 @@ use Rattle.script_lines.specs.declared.line.Spot.{Spot}
 use Rattle.script_lines.specs.declared.line.Spot.TheVariants.{Host, Wire, Medium}
 use Rattle.script_lines.specs.declared.line.OpLine.{OpLine}
 use Rattle.script_lines.specs.declared.line.OpLine.TheVariants.{Fill, Put, Show, Seal, Write, Read, WritePi, ReadPi, Flip as FlipOp, Copy, Wait}
-use Rattle.script_lines.specs.declared.line.Line.{Line}
-use Rattle.script_lines.specs.declared.line.Line.TheVariants.{Mode, Limits, Pages, Block, Expect, Inner, Linear as LinearLine, Stripe, Over, Flip, Shift, Schedule, Begin, Op}
+use Rattle.script_lines.specs.declared.line.ScriptLine.{ScriptLine}
+use Rattle.script_lines.specs.declared.line.ScriptLine.TheVariants.{Mode, Limits, Pages, Block, Expect, Inner, Linear as LinearLine, Stripe, Over, Flip, Shift, Schedule, Begin, Op}
 use Rattle.script_lines.specs.declared.volume_lines.Striped.{Striped}
 use Rattle.script_lines.specs.declared.verb.Verb.{Verb}
 use Rattle.script_lines.specs.declared.verb.Verb.TheVariants.{Mode as ModeVerb, Limits as LimitsVerb, Pages as PagesVerb, Block as BlockVerb, Expect as ExpectVerb, Inner as InnerVerb, Linear as LinearVerb, Stripe as StripeVerb, Over as OverVerb, Fault as FaultVerb, Shift as ShiftVerb, Schedule as ScheduleVerb, Begin as BeginVerb, Fill as FillVerb, Put as PutVerb, Show as ShowVerb, Seal as SealVerb, Write as WriteVerb, Read as ReadVerb, WritePi as WritePiVerb, ReadPi as ReadPiVerb, Overwrite as OverwriteVerb}
 use Rattle.script_lines.specs.Reading.{Got, ◌>>=◌, either, ended, fixed, some_of, value}
 use Rattle.volume_table.specs.declared.TheConstants.{MOST_LENGTH}
 use Rattle.pi_tuple.specs.declared.TheConstants.{LARGEST_BLOCK}
+use Rattle.script_lines.specs.declared.TheConstants.{MOST_CHUNK}
 
 -- The lines of a script by what stands behind their first words. Each form is read from left to right.
 
@@ -36,7 +37,7 @@ abbrev pub protect_in : List ℕ → Option ℕ
 protect_in word = protect_by (number_within 1 4 word)
 
 -- mode GUARD DIX DIF PROTECT
-unfoldable pub mode_form : List (List ℕ) → Result Line ScriptKind
+unfoldable pub mode_form : List (List ℕ) → Result ScriptLine ScriptKind
 mode_form ws = do
   guard ← either (codes "ip") (codes "crc") ws
   dix ← either (codes "on") (codes "off") guard.1
@@ -45,7 +46,7 @@ mode_form ws = do
   ended (Mode (record { kind = guard_by guard.0; dix = dix.0; dif = dif.0; protect = protect.0 })) protect.1
 
 -- limits B S T
-unfoldable pub limits_form : List (List ℕ) → Result Line ScriptKind
+unfoldable pub limits_form : List (List ℕ) → Result ScriptLine ScriptKind
 limits_form ws = do
   blocks ← value (number_within 1 1024) ws
   segs ← value (number_within 4 1024) blocks.1
@@ -53,7 +54,7 @@ limits_form ws = do
   ended (Limits (record { max_blocks = blocks.0; max_segs = segs.0; max_pi_segs = tuples.0 })) tuples.1
 
 -- pages N
-unfoldable pub pages_form : List (List ℕ) → Result Line ScriptKind
+unfoldable pub pages_form : List (List ℕ) → Result ScriptLine ScriptKind
 pages_form ws = do
   pages ← value (number_within 1 256) ws
   ended (Pages pages.0) pages.1
@@ -67,7 +68,7 @@ abbrev pub size_in : List ℕ → Option ℕ
 size_in word = size_by (word32 word)
 
 -- block S
-unfoldable pub block_form : List (List ℕ) → Result Line ScriptKind
+unfoldable pub block_form : List (List ℕ) → Result ScriptLine ScriptKind
 block_form ws = do
   size ← value size_in ws
   ended (Block size.0) size.1
@@ -81,7 +82,7 @@ abbrev pub mask_in : List ℕ → Option ℕ
 mask_in word = mask_by (tag_in word)
 
 -- expect TAG MASK
-unfoldable pub expect_form : List (List ℕ) → Result Line ScriptKind
+unfoldable pub expect_form : List (List ℕ) → Result ScriptLine ScriptKind
 expect_form ws = do
   app ← value tag_in ws
   mask ← value mask_in app.1
@@ -101,7 +102,7 @@ abbrev pub len_in : List ℕ → Option ℕ
 len_in word = number_within 1 MOST_LENGTH word
 
 -- inner I LEN dev D at A
-unfoldable pub inner_form : List (List ℕ) → Result Line ScriptKind
+unfoldable pub inner_form : List (List ℕ) → Result ScriptLine ScriptKind
 inner_form ws = do
   volume ← value (number_within 0 7) ws
   len ← value len_in volume.1
@@ -109,7 +110,7 @@ inner_form ws = do
   Ok (Inner volume.0 len.0 place.0 place.1)
 
 -- linear START LEN dev D at A
-unfoldable pub linear_form : List (List ℕ) → Result Line ScriptKind
+unfoldable pub linear_form : List (List ℕ) → Result ScriptLine ScriptKind
 linear_form ws = do
   start ← value word64 ws
   len ← value len_in start.1
@@ -122,7 +123,7 @@ striped_form ws = do
   start ← value word64 ws
   len ← value len_in start.1
   behind_chunk ← fixed (codes "chunk") len.1
-  chunk ← value (number_within 1 65536) behind_chunk
+  chunk ← value (number_within 1 MOST_CHUNK) behind_chunk
   behind_legs ← fixed (codes "legs") chunk.1
   Ok (record { start = start.0; len = len.0; chunk = chunk.0 }, behind_legs)
 
@@ -134,14 +135,14 @@ abbrev pub leg_word : List ℕ → Option Leg
 leg_word word = leg_by (leg_in word)
 
 -- stripe START LEN chunk C legs D:A ..
-unfoldable pub stripe_form : List (List ℕ) → Result Line ScriptKind
+unfoldable pub stripe_form : List (List ℕ) → Result ScriptLine ScriptKind
 stripe_form ws = do
   striped ← striped_form ws
   legs ← some_of leg_word striped.1
   Ok (Stripe striped.0.start striped.0.len striped.0.chunk legs)
 
 -- over START LEN chunk C legs I ..
-unfoldable pub over_form : List (List ℕ) → Result Line ScriptKind
+unfoldable pub over_form : List (List ℕ) → Result ScriptLine ScriptKind
 over_form ws = do
   striped ← striped_form ws
   volumes ← some_of (number_within 0 7) striped.1
@@ -175,7 +176,7 @@ flip_form size ws = do
   ended (off.0, bytes.0) bytes.1
 
 -- fault OP K WHERE flip OFF HEX
-unfoldable pub fault_form : ℕ → List (List ℕ) → Result Line ScriptKind
+unfoldable pub fault_form : ℕ → List (List ℕ) → Result ScriptLine ScriptKind
 fault_form size ws = do
   op ← value (number_within 1 1024) ws
   k ← value (number_within 0 2047) op.1
@@ -185,7 +186,7 @@ fault_form size ws = do
   Ok (Flip op.0 k.0 spot.0 flip.0 flip.1)
 
 -- shift OP WHERE N
-unfoldable pub shift_form : List (List ℕ) → Result Line ScriptKind
+unfoldable pub shift_form : List (List ℕ) → Result ScriptLine ScriptKind
 shift_form ws = do
   op ← value (number_within 1 1024) ws
   spot ← shift_spot op.1
@@ -193,7 +194,7 @@ shift_form ws = do
   ended (Shift op.0 spot.0 by.0) by.1
 
 -- schedule E ..
-unfoldable pub schedule_form : List (List ℕ) → Result Line ScriptKind
+unfoldable pub schedule_form : List (List ℕ) → Result ScriptLine ScriptKind
 schedule_form ws = do
   entries ← some_of choice_in ws
   Ok (Schedule entries)
@@ -302,12 +303,12 @@ op_form ReadPiVerb size ws = readpi_form ws
 op_form OverwriteVerb size ws = overwrite_form size ws
 op_form _ size ws = ended Wait ws
 
-abbrev pub as_line : Result OpLine ScriptKind → Result Line ScriptKind
+abbrev pub as_line : Result OpLine ScriptKind → Result ScriptLine ScriptKind
 as_line (Ok op) = Ok (Op op)
 as_line (Err k) = Err k
 
 -- what a line behind the first says
-abbrev pub line_form : Verb → ℕ → List (List ℕ) → Result Line ScriptKind
+abbrev pub line_form : Verb → ℕ → List (List ℕ) → Result ScriptLine ScriptKind
 line_form ModeVerb size ws = mode_form ws
 line_form LimitsVerb size ws = limits_form ws
 line_form PagesVerb size ws = pages_form ws
@@ -324,7 +325,7 @@ line_form BeginVerb size ws = ended Begin ws
 line_form verb size ws = as_line (op_form verb size ws)
 
 -- The numbers of a line that later rules rest on are in their ranges.
-abbrev pub IsSound : Line → Type 0
+abbrev pub IsSound : ScriptLine → Type 0
 IsSound (Block size) = size ≤ LARGEST_BLOCK
 IsSound (Inner volume len dev at) = (1 ≤ len) × (len ≤ MOST_LENGTH)
 IsSound (Over start len chunk volumes) = (1 ≤ len) × (len ≤ MOST_LENGTH) × (1 ≤ chunk) × (1 ≤ length volumes)

@@ -2,8 +2,8 @@ use Rattle.std.specs.Prelude.{ℕ, Bool, true, false, ◌||◌, eqb, if◌then�
 use Rattle.std.specs.Str.{bytes_eq}
 use Rattle.script_lines.specs.declared.verb.Verb.{Verb}
 use Rattle.script_lines.specs.declared.verb.Verb.TheVariants.{Dix, Mode, Limits, Pages, Block, Expect, Inner, Linear, Stripe, Over, Fault, Shift, Schedule, Begin, Fill, Put, Show, Seal, Write, Read, WritePi, ReadPi, Overwrite, Wait}
-use Rattle.script_lines.specs.declared.verb.Place.{Place}
-use Rattle.script_lines.specs.declared.verb.Place.TheVariants.{Dix as AtDix, Mode as AtMode, Limits as AtLimits, Pages as AtPages, Block as AtBlock, Expect as AtExpect, Inner as AtInner, Volume as AtVolume, Fault as AtFault, Schedule as AtSchedule, Begin as AtBegin, Op as AtOp}
+use Rattle.script_lines.specs.declared.verb.Section.{Section}
+use Rattle.script_lines.specs.declared.verb.Section.TheVariants.{Dix as AtDix, Mode as AtMode, Limits as AtLimits, Pages as AtPages, Block as AtBlock, Expect as AtExpect, Inner as AtInner, Volume as AtVolume, Fault as AtFault, Schedule as AtSchedule, Begin as AtBegin, Op as AtOp}
 
 -- requests and other ops
 abbrev pub request_verb_of : List ℕ → Option Verb
@@ -50,31 +50,31 @@ verb_of word =
     else volume_verb_of word)))))
 
 -- where a line stands among the others
-abbrev pub place_of : Verb → Place
-place_of Dix = AtDix
-place_of Mode = AtMode
-place_of Limits = AtLimits
-place_of Pages = AtPages
-place_of Block = AtBlock
-place_of Expect = AtExpect
-place_of Inner = AtInner
-place_of Linear = AtVolume
-place_of Stripe = AtVolume
-place_of Over = AtVolume
-place_of Fault = AtFault
-place_of Shift = AtFault
-place_of Schedule = AtSchedule
-place_of Begin = AtBegin
-place_of Fill = AtOp
-place_of Put = AtOp
-place_of Show = AtOp
-place_of Seal = AtOp
-place_of Write = AtOp
-place_of Read = AtOp
-place_of WritePi = AtOp
-place_of ReadPi = AtOp
-place_of Overwrite = AtOp
-place_of Wait = AtOp
+abbrev pub section_of : Verb → Section
+section_of Dix = AtDix
+section_of Mode = AtMode
+section_of Limits = AtLimits
+section_of Pages = AtPages
+section_of Block = AtBlock
+section_of Expect = AtExpect
+section_of Inner = AtInner
+section_of Linear = AtVolume
+section_of Stripe = AtVolume
+section_of Over = AtVolume
+section_of Fault = AtFault
+section_of Shift = AtFault
+section_of Schedule = AtSchedule
+section_of Begin = AtBegin
+section_of Fill = AtOp
+section_of Put = AtOp
+section_of Show = AtOp
+section_of Seal = AtOp
+section_of Write = AtOp
+section_of Read = AtOp
+section_of WritePi = AtOp
+section_of ReadPi = AtOp
+section_of Overwrite = AtOp
+section_of Wait = AtOp
 
 -- a line of version 2 alone
 abbrev pub is_new_verb : Verb → Bool
@@ -84,35 +84,35 @@ is_new_verb Inner = true
 is_new_verb Over = true
 is_new_verb _ = false
 
-abbrev pub place_number : Place → ℕ
-place_number AtDix = 0
-place_number AtMode = 1
-place_number AtLimits = 2
-place_number AtPages = 3
-place_number AtBlock = 4
-place_number AtExpect = 5
-place_number AtInner = 6
-place_number AtVolume = 7
-place_number AtFault = 8
-place_number AtSchedule = 9
-place_number AtBegin = 10
-place_number AtOp = 11
+abbrev pub section_number : Section → ℕ
+section_number AtDix = 0
+section_number AtMode = 1
+section_number AtLimits = 2
+section_number AtPages = 3
+section_number AtBlock = 4
+section_number AtExpect = 5
+section_number AtInner = 6
+section_number AtVolume = 7
+section_number AtFault = 8
+section_number AtSchedule = 9
+section_number AtBegin = 10
+section_number AtOp = 11
 
-abbrev pub is_place : Place → Place → Bool
-is_place a b = eqb (place_number a) (place_number b)
+abbrev pub is_section : Section → Section → Bool
+is_section a b = eqb (section_number a) (section_number b)
 
--- Whether a line of the second place may stand right behind one of the first, in a script of version 2 or of version 1.
-abbrev pub comes_before : Place → Place → Bool → Bool
-comes_before AtDix next is_new = is_place next AtMode
-comes_before AtMode next is_new = is_place next AtLimits
-comes_before AtLimits next is_new = is_place next AtPages
-comes_before AtPages next true = is_place next AtBlock
-comes_before AtPages next false = is_place next AtVolume
-comes_before AtBlock next is_new = is_place next AtExpect || (is_place next AtInner || is_place next AtVolume)
-comes_before AtExpect next is_new = is_place next AtInner || is_place next AtVolume
-comes_before AtInner next is_new = is_place next AtInner || is_place next AtVolume
-comes_before AtVolume next is_new = is_place next AtVolume || (is_place next AtFault || (is_place next AtSchedule || is_place next AtBegin))
-comes_before AtFault next is_new = is_place next AtFault || (is_place next AtSchedule || is_place next AtBegin)
-comes_before AtSchedule next is_new = is_place next AtSchedule || is_place next AtBegin
-comes_before AtBegin next is_new = is_place next AtOp
-comes_before AtOp next is_new = is_place next AtOp
+-- Whether a line of the second section may stand right behind one of the first, in a script of version 2 or of version 1.
+abbrev pub comes_before : Section → Section → Bool → Bool
+comes_before AtDix next is_new = is_section next AtMode
+comes_before AtMode next is_new = is_section next AtLimits
+comes_before AtLimits next is_new = is_section next AtPages
+comes_before AtPages next true = is_section next AtBlock
+comes_before AtPages next false = is_section next AtVolume
+comes_before AtBlock next is_new = is_section next AtExpect || (is_section next AtInner || is_section next AtVolume)
+comes_before AtExpect next is_new = is_section next AtInner || is_section next AtVolume
+comes_before AtInner next is_new = is_section next AtInner || is_section next AtVolume
+comes_before AtVolume next is_new = is_section next AtVolume || (is_section next AtFault || (is_section next AtSchedule || is_section next AtBegin))
+comes_before AtFault next is_new = is_section next AtFault || (is_section next AtSchedule || is_section next AtBegin)
+comes_before AtSchedule next is_new = is_section next AtSchedule || is_section next AtBegin
+comes_before AtBegin next is_new = is_section next AtOp
+comes_before AtOp next is_new = is_section next AtOp

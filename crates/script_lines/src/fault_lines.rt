@@ -6,7 +6,7 @@ ghost use Rattle.script_lines.specs.Reading.{IsUnless, Reads, value};
 ghost use Rattle.script_words.specs.Numbers.{signed_within};
 ghost use Rattle.pi_tuple.specs.declared.TheConstants.{LARGEST_BLOCK};
 
-use crate::line::{Line, Spot};
+use crate::line::{ScriptLine, Spot};
 use crate::listed::{Listed, some};
 use crate::words::is_same;
 use crate::{ScriptKind, WordList, Words};
@@ -69,7 +69,7 @@ pub(crate) fn flip(words: &mut Words, size: u32) -> Result<(u32, ShortBytes), Sc
 
 /// `fault OP K WHERE flip OFF HEX`
 #[tactic(auto, unfolding(crate::specs::Forms::fault_form))]
-pub(crate) fn fault_line(words: &mut Words, size: u32) -> Result<Line, ScriptKind>
+pub(crate) fn fault_line(words: &mut Words, size: u32) -> Result<ScriptLine, ScriptKind>
     requires { size ≤ LARGEST_BLOCK }
     ensures value { result ≡ fault_form size words.old }
     ensures sound { IfOk result IsSound }
@@ -79,7 +79,7 @@ pub(crate) fn fault_line(words: &mut Words, size: u32) -> Result<Line, ScriptKin
     let spot = flip_spot(words)?;
     words.fixed(b"flip")?;
     let (off, bytes) = flip(words, size)?;
-    Ok(Line::Flip {
+    Ok(ScriptLine::Flip {
         op,
         k,
         spot,
@@ -99,7 +99,7 @@ fn distance(words: &mut Words) -> Result<i64, ScriptKind>
 
 /// `shift OP WHERE N`
 #[tactic(auto, unfolding(crate::specs::Forms::shift_form))]
-pub(crate) fn shift_line(words: &mut Words) -> Result<Line, ScriptKind>
+pub(crate) fn shift_line(words: &mut Words) -> Result<ScriptLine, ScriptKind>
     ensures value { result ≡ shift_form words.old }
     ensures sound { IfOk result IsSound }
 {
@@ -107,7 +107,7 @@ pub(crate) fn shift_line(words: &mut Words) -> Result<Line, ScriptKind>
     let spot = shift_spot(words)?;
     let by = distance(words)?;
     words.end()?;
-    Ok(Line::Shift { op, spot, by })
+    Ok(ScriptLine::Shift { op, spot, by })
 }
 
 impl Listed for (u32, u32) {
@@ -123,10 +123,10 @@ impl Listed for (u32, u32) {
 
 /// `schedule E ..`
 #[tactic(auto, unfolding(crate::specs::Forms::schedule_form))]
-pub(crate) fn schedule_line(alloc: Global, words: &mut Words) -> Result<Line, ScriptKind>
+pub(crate) fn schedule_line(alloc: Global, words: &mut Words) -> Result<ScriptLine, ScriptKind>
     ensures value { IsUnless (schedule_form words.old) result }
     ensures sound { IfOk result IsSound }
 {
     let entries = some::<(u32, u32)>(alloc, words)?;
-    Ok(Line::Schedule(WordList::from_vec(entries)))
+    Ok(ScriptLine::Schedule(WordList::from_vec(entries)))
 }

@@ -3,7 +3,7 @@
 ghost use Rattle.std.specs.Prelude.{◌≡◌, ◌≤◌, IfOk};
 ghost use Rattle.script_lines.specs.Forms.{IsSound, line_form, op_form};
 ghost use Rattle.script_lines.specs.Reading.{IsUnless, ended};
-ghost use Rattle.script_lines.specs.declared.line.Line.{Line};
+ghost use Rattle.script_lines.specs.declared.line.ScriptLine.{ScriptLine};
 ghost use Rattle.pi_tuple.specs.declared.TheConstants.{LARGEST_BLOCK};
 
 use crate::fault_lines::{fault_line, schedule_line, shift_line};
@@ -13,7 +13,7 @@ use crate::op_lines::{
     write_line, writepi_line,
 };
 use crate::volume_lines::{inner_line, linear_line, over_line, stripe_line};
-use crate::{Line, OpLine, ScriptKind, Verb, Words};
+use crate::{OpLine, ScriptKind, ScriptLine, Verb, Words};
 use std::alloc::Global;
 
 fn op_line(alloc: Global, verb: Verb, words: &mut Words, size: u32) -> Result<OpLine, ScriptKind>
@@ -34,17 +34,22 @@ fn op_line(alloc: Global, verb: Verb, words: &mut Words, size: u32) -> Result<Op
     }
 }
 
-fn begin_line(words: &mut Words) -> Result<Line, ScriptKind>
-    ensures value { result ≡ ended Line.Begin words.old }
+fn begin_line(words: &mut Words) -> Result<ScriptLine, ScriptKind>
+    ensures value { result ≡ ended ScriptLine.Begin words.old }
     ensures sound { IfOk result IsSound }
 {
     words.end()?;
-    Ok(Line::Begin)
+    Ok(ScriptLine::Begin)
 }
 
 /// The line that begins with this first word and goes on with these words, in a script of blocks
 /// of this size, at most 4,096: its first fault from the left, or want of memory.
-pub fn line_of(alloc: Global, verb: Verb, words: &mut Words, size: u32) -> Result<Line, ScriptKind>
+pub fn line_of(
+    alloc: Global,
+    verb: Verb,
+    words: &mut Words,
+    size: u32,
+) -> Result<ScriptLine, ScriptKind>
     requires { size ≤ LARGEST_BLOCK }
     ensures value { IsUnless (line_form verb size words.old) result }
     ensures sound { IfOk result IsSound }
@@ -63,6 +68,6 @@ pub fn line_of(alloc: Global, verb: Verb, words: &mut Words, size: u32) -> Resul
         Verb::Shift => shift_line(words),
         Verb::Schedule => schedule_line(alloc, words),
         Verb::Begin => begin_line(words),
-        _ => Ok(Line::Op(op_line(alloc, verb, words, size)?)),
+        _ => Ok(ScriptLine::Op(op_line(alloc, verb, words, size)?)),
     }
 }

@@ -6,7 +6,7 @@ ghost use Rattle.script_lines.specs.Reading.{Reads, value};
 ghost use Rattle.script_words.specs.Hexes.{tag_in};
 ghost use Rattle.pi_tuple.specs.declared.TheConstants.{LARGEST_BLOCK};
 
-use crate::line::{Line, ModeLine};
+use crate::line::{ModeLine, ScriptLine};
 use crate::{ScriptKind, Words};
 use merge_queue::Limits;
 use pi_guard::GuardKind;
@@ -43,7 +43,7 @@ fn protect(words: &mut Words) -> Result<u8, ScriptKind>
 
 /// `mode GUARD DIX DIF PROTECT`
 #[tactic(auto, unfolding(crate::specs::Forms::mode_form))]
-pub(crate) fn mode_line(words: &mut Words) -> Result<Line, ScriptKind>
+pub(crate) fn mode_line(words: &mut Words) -> Result<ScriptLine, ScriptKind>
     ensures value { result ≡ mode_form words.old }
     ensures sound { IfOk result IsSound }
 {
@@ -52,7 +52,7 @@ pub(crate) fn mode_line(words: &mut Words) -> Result<Line, ScriptKind>
     let dif = words.either(b"on", b"off")?;
     let protect = protect(words)?;
     words.end()?;
-    Ok(Line::Mode(ModeLine {
+    Ok(ScriptLine::Mode(ModeLine {
         kind: guard_of(is_ip),
         dix,
         dif,
@@ -62,7 +62,7 @@ pub(crate) fn mode_line(words: &mut Words) -> Result<Line, ScriptKind>
 
 /// `limits B S T`
 #[tactic(auto, unfolding(crate::specs::Forms::limits_form))]
-pub(crate) fn limits_line(words: &mut Words) -> Result<Line, ScriptKind>
+pub(crate) fn limits_line(words: &mut Words) -> Result<ScriptLine, ScriptKind>
     ensures value { result ≡ limits_form words.old }
     ensures sound { IfOk result IsSound }
 {
@@ -70,7 +70,7 @@ pub(crate) fn limits_line(words: &mut Words) -> Result<Line, ScriptKind>
     let max_segs = words.small(4, MOST)?;
     let max_pi_segs = words.small(1, MOST)?;
     words.end()?;
-    Ok(Line::Limits(Limits {
+    Ok(ScriptLine::Limits(Limits {
         max_blocks,
         max_segs,
         max_pi_segs,
@@ -79,13 +79,13 @@ pub(crate) fn limits_line(words: &mut Words) -> Result<Line, ScriptKind>
 
 /// `pages N`
 #[tactic(auto, unfolding(crate::specs::Forms::pages_form))]
-pub(crate) fn pages_line(words: &mut Words) -> Result<Line, ScriptKind>
+pub(crate) fn pages_line(words: &mut Words) -> Result<ScriptLine, ScriptKind>
     ensures value { result ≡ pages_form words.old }
     ensures sound { IfOk result IsSound }
 {
     let pages = words.small(1, 256)?;
     words.end()?;
-    Ok(Line::Pages(pages))
+    Ok(ScriptLine::Pages(pages))
 }
 
 /// 512 or 4096
@@ -112,13 +112,13 @@ fn size(words: &mut Words) -> Result<u32, ScriptKind>
 
 /// `block S`
 #[tactic(auto, unfolding(crate::specs::Forms::block_form))]
-pub(crate) fn block_line(words: &mut Words) -> Result<Line, ScriptKind>
+pub(crate) fn block_line(words: &mut Words) -> Result<ScriptLine, ScriptKind>
     ensures value { result ≡ block_form words.old }
     ensures sound { IfOk result IsSound }
 {
     let size = size(words)?;
     words.end()?;
-    Ok(Line::Block(size))
+    Ok(ScriptLine::Block(size))
 }
 
 /// A tag other than 0000.
@@ -143,12 +143,12 @@ fn mask(words: &mut Words) -> Result<u16, ScriptKind>
 
 /// `expect TAG MASK`
 #[tactic(auto, unfolding(crate::specs::Forms::expect_form))]
-pub(crate) fn expect_line(words: &mut Words) -> Result<Line, ScriptKind>
+pub(crate) fn expect_line(words: &mut Words) -> Result<ScriptLine, ScriptKind>
     ensures value { result ≡ expect_form words.old }
     ensures sound { IfOk result IsSound }
 {
     let app = words.tag()?;
     let mask = mask(words)?;
     words.end()?;
-    Ok(Line::Expect { app, mask })
+    Ok(ScriptLine::Expect { app, mask })
 }

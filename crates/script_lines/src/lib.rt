@@ -15,7 +15,13 @@ mod words;
 
 pub use forms::line_of;
 pub use kind::ScriptKind;
-pub use line::{Line, ModeLine, OpLine, Spot};
+pub use line::{ModeLine, OpLine, ScriptLine, Spot};
 pub use lists::{SegList, VolumeList, WordList};
-pub use verb::{Place, Verb, verb_of};
+pub use verb::{Section, Verb, verb_of};
 pub use words::Words;
+
+/// The most blocks of a chunk of a striped entry.
+pub const MOST_CHUNK: u32 = 65_536;
+
+/// The bytes of the most pages of a script: 256 of 4,096.
+pub const MOST_MEMORY: u32 = 1_048_576;

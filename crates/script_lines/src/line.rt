@@ -106,7 +106,7 @@ pub enum OpLine {
 
 /// A line behind the first.
 #[derive(Drop)]
-pub enum Line {
+pub enum ScriptLine {
     /// `mode GUARD DIX DIF PROTECT`
     Mode(ModeLine),
     /// `limits B S T`

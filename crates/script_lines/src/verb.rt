@@ -2,7 +2,7 @@
 
 ghost use Rattle.std.specs.Prelude.{◌≡◌};
 ghost use Rattle.std.specs.Str.{bytes_eq};
-ghost use Rattle.script_lines.specs.Verbs.{comes_before, is_new_verb, page_verb_of, place_of, request_verb_of, verb_of, volume_verb_of};
+ghost use Rattle.script_lines.specs.Verbs.{comes_before, is_new_verb, page_verb_of, section_of, request_verb_of, verb_of, volume_verb_of};
 
 /// What a line begins with.
 #[derive(Clone, Copy, Debug, PartialEq, Eq)]
@@ -139,9 +139,9 @@ fn request_verb_of(word: &[u8]) -> Option<Verb>
     None
 }
 
-/// Where a line stands among the others.
+/// Where a line stands among the others: the sections of a script.
 #[derive(Clone, Copy, Debug, PartialEq, Eq)]
-pub enum Place {
+pub enum Section {
     Dix,
     Mode,
     Limits,
@@ -158,22 +158,22 @@ pub enum Place {
 
 impl Verb {
     /// Where such a line stands.
-    pub fn place(self) -> Place
-        ensures { result ≡ place_of self }
+    pub fn section(self) -> Section
+        ensures { result ≡ section_of self }
     {
         match self {
-            Verb::Dix => Place::Dix,
-            Verb::Mode => Place::Mode,
-            Verb::Limits => Place::Limits,
-            Verb::Pages => Place::Pages,
-            Verb::Block => Place::Block,
-            Verb::Expect => Place::Expect,
-            Verb::Inner => Place::Inner,
-            Verb::Linear | Verb::Stripe | Verb::Over => Place::Volume,
-            Verb::Fault | Verb::Shift => Place::Fault,
-            Verb::Schedule => Place::Schedule,
-            Verb::Begin => Place::Begin,
-            _ => Place::Op,
+            Verb::Dix => Section::Dix,
+            Verb::Mode => Section::Mode,
+            Verb::Limits => Section::Limits,
+            Verb::Pages => Section::Pages,
+            Verb::Block => Section::Block,
+            Verb::Expect => Section::Expect,
+            Verb::Inner => Section::Inner,
+            Verb::Linear | Verb::Stripe | Verb::Over => Section::Volume,
+            Verb::Fault | Verb::Shift => Section::Fault,
+            Verb::Schedule => Section::Schedule,
+            Verb::Begin => Section::Begin,
+            _ => Section::Op,
         }
     }
 
@@ -188,33 +188,33 @@ impl Verb {
     }
 }
 
-impl Place {
-    /// Whether a line of the next place may stand right behind one of this place, in a script of
+impl Section {
+    /// Whether a line of the next section may stand right behind one of this section, in a script of
     /// version 2 or of version 1.
-    pub fn comes_before(self, next: Place, is_new: bool) -> bool
+    pub fn comes_before(self, next: Section, is_new: bool) -> bool
         ensures { result ≡ comes_before self next is_new }
     {
         match self {
-            Place::Dix => next == Place::Mode,
-            Place::Mode => next == Place::Limits,
-            Place::Limits => next == Place::Pages,
-            Place::Pages if is_new => next == Place::Block,
-            Place::Pages => next == Place::Volume,
-            Place::Block => {
-                next == Place::Expect || next == Place::Inner || next == Place::Volume
+            Section::Dix => next == Section::Mode,
+            Section::Mode => next == Section::Limits,
+            Section::Limits => next == Section::Pages,
+            Section::Pages if is_new => next == Section::Block,
+            Section::Pages => next == Section::Volume,
+            Section::Block => {
+                next == Section::Expect || next == Section::Inner || next == Section::Volume
             }
-            Place::Expect | Place::Inner => next == Place::Inner || next == Place::Volume,
-            Place::Volume => {
-                next == Place::Volume
-                    || next == Place::Fault
-                    || next == Place::Schedule
-                    || next == Place::Begin
+            Section::Expect | Section::Inner => next == Section::Inner || next == Section::Volume,
+            Section::Volume => {
+                next == Section::Volume
+                    || next == Section::Fault
+                    || next == Section::Schedule
+                    || next == Section::Begin
             }
-            Place::Fault => {
-                next == Place::Fault || next == Place::Schedule || next == Place::Begin
+            Section::Fault => {
+                next == Section::Fault || next == Section::Schedule || next == Section::Begin
             }
-            Place::Schedule => next == Place::Schedule || next == Place::Begin,
-            Place::Begin | Place::Op => next == Place::Op,
+            Section::Schedule => next == Section::Schedule || next == Section::Begin,
+            Section::Begin | Section::Op => next == Section::Op,
         }
     }
 }

@@ -4,15 +4,15 @@ ghost use Rattle.std.specs.Prelude.{◌≡◌, ◌≤◌, IfOk};
 ghost use Rattle.script_lines.specs.Forms.{IsSound, IsSoundFront, inner_form, leg_word, len_in, linear_form, over_form, place_form, stripe_form, striped_form};
 ghost use Rattle.script_lines.specs.Reading.{IsUnless, Reads, value};
 ghost use Rattle.script_words.specs.Numbers.{number_within};
-ghost use Rattle.volume_table.specs.declared.TheConstants.{MOST_LENGTH};
 
-use crate::line::Line;
+use crate::line::ScriptLine;
 use crate::listed::{Listed, some};
-use crate::{ScriptKind, VolumeList, Words};
+use crate::{MOST_CHUNK, ScriptKind, VolumeList, Words};
 use linear_volume::Linear;
 use script_words::leg;
 use std::alloc::Global;
 use stripe_volume::{Leg, LegList};
+use volume_table::MOST_LENGTH;
 
 /// 1 to 1,048,576 blocks
 fn len(words: &mut Words) -> Result<u64, ScriptKind>
@@ -20,7 +20,7 @@ fn len(words: &mut Words) -> Result<u64, ScriptKind>
     ensures low { IfOk result (λ n. 1 ≤ n) }
     ensures high { IfOk result (λ n. n ≤ MOST_LENGTH) }
 {
-    words.number(1, 1048576)
+    words.number(1, u64::from(MOST_LENGTH))
 }
 
 /// `dev D at A`, to the end of the line
@@ -38,14 +38,14 @@ fn place(words: &mut Words) -> Result<(u32, u64), ScriptKind>
 
 /// `inner I LEN dev D at A`
 #[tactic(auto, unfolding(crate::specs::Forms::inner_form))]
-pub(crate) fn inner_line(words: &mut Words) -> Result<Line, ScriptKind>
+pub(crate) fn inner_line(words: &mut Words) -> Result<ScriptLine, ScriptKind>
     ensures value { result ≡ inner_form words.old }
     ensures sound { IfOk result IsSound }
 {
     let volume = words.small(0, 7)?;
     let len = len(words)?;
     let (dev, at) = place(words)?;
-    Ok(Line::Inner {
+    Ok(ScriptLine::Inner {
         volume,
         len,
         dev,
@@ -55,14 +55,14 @@ pub(crate) fn inner_line(words: &mut Words) -> Result<Line, ScriptKind>
 
 /// `linear START LEN dev D at A`
 #[tactic(auto, unfolding(crate::specs::Forms::linear_form))]
-pub(crate) fn linear_line(words: &mut Words) -> Result<Line, ScriptKind>
+pub(crate) fn linear_line(words: &mut Words) -> Result<ScriptLine, ScriptKind>
     ensures value { result ≡ linear_form words.old }
     ensures sound { IfOk result IsSound }
 {
     let start = words.word64()?;
     let len = len(words)?;
     let (dev, at) = place(words)?;
-    Ok(Line::Linear(Linear {
+    Ok(ScriptLine::Linear(Linear {
         start,
         len,
         dev,
@@ -87,7 +87,7 @@ fn front(words: &mut Words) -> Result<Striped, ScriptKind>
     let start = words.word64()?;
     let len = len(words)?;
     words.fixed(b"chunk")?;
-    let chunk = words.small(1, 65536)?;
+    let chunk = words.small(1, MOST_CHUNK)?;
     words.fixed(b"legs")?;
     Ok(Striped { start, len, chunk })
 }
@@ -105,13 +105,13 @@ impl Listed for Leg {
 
 /// `stripe START LEN chunk C legs D:A ..`
 #[tactic(auto, unfolding(crate::specs::Forms::stripe_form))]
-pub(crate) fn stripe_line(alloc: Global, words: &mut Words) -> Result<Line, ScriptKind>
+pub(crate) fn stripe_line(alloc: Global, words: &mut Words) -> Result<ScriptLine, ScriptKind>
     ensures value { IsUnless (stripe_form words.old) result }
     ensures sound { IfOk result IsSound }
 {
     let Striped { start, len, chunk } = front(words)?;
     let legs = some::<Leg>(alloc, words)?;
-    Ok(Line::Stripe {
+    Ok(ScriptLine::Stripe {
         start,
         len,
         chunk,
@@ -133,13 +133,13 @@ impl Listed for u32 {
 
 /// `over START LEN chunk C legs I ..`
 #[tactic(auto, unfolding(crate::specs::Forms::over_form))]
-pub(crate) fn over_line(alloc: Global, words: &mut Words) -> Result<Line, ScriptKind>
+pub(crate) fn over_line(alloc: Global, words: &mut Words) -> Result<ScriptLine, ScriptKind>
     ensures value { IsUnless (over_form words.old) result }
     ensures sound { IfOk result IsSound }
 {
     let Striped { start, len, chunk } = front(words)?;
     let volumes = some::<u32>(alloc, words)?;
-    Ok(Line::Over {
+    Ok(ScriptLine::Over {
         start,
         len,
         chunk,

@@ -1,7 +1,7 @@
 use Rattle.std.specs.Prelude.{ℕ, Bool, List, Option}
 use Rattle.merge_queue.specs.declared.Limits.{Limits}
 use Rattle.script_lines.specs.declared.line.ModeLine.{ModeLine}
-use Rattle.script_lines.specs.declared.verb.Place.{Place}
+use Rattle.script_lines.specs.declared.verb.Section.{Section}
 use Rattle.stack_ops.specs.declared.op.Op.{Op}
 use Rattle.volume_table.specs.declared.entry.Entry.{Entry}
 use Rattle.script_text.specs.declared.draft.Draft.{Draft}
@@ -11,7 +11,7 @@ use Rattle.script_text.specs.declared.trees.Inner.{Inner}
 -- what was read so far
 pub record Drafted : Type 0 where
   pub is_new : Bool
-  pub place : Option Place
+  pub section : Option Section
   pub mode : ModeLine
   pub app : ℕ
   pub mask : ℕ
@@ -31,7 +31,7 @@ pub record Drafted : Type 0 where
 abbrev pub drafted : Draft → Drafted
 drafted d = record {
   is_new = d.is_new;
-  place = d.place;
+  section = d.section;
   mode = d.mode;
   app = d.app;
   mask = d.mask;

@@ -6,6 +6,7 @@ use Rattle.stack_ops.specs.declared.op.Op.TheVariants.{Fill, Show, Write, Fetch}
 use Rattle.volume_table.specs.declared.entry.Entry.{Entry}
 use Rattle.volume_table.specs.declared.entry.Entry.TheVariants.{Linear, Stripe}
 use Rattle.script_text.specs.declared.script.Script.{Script}
+use Rattle.page_pool.specs.declared.TheConstants.{PAGE}
 
 -- A large script from a number.
 
@@ -23,7 +24,7 @@ page_start page len = record { page = page; off = 0; len = len }
 
 abbrev pub op_by : (kind n v page tag : ℕ) → Op
 op_by kind n v page tag =
-    if eqb kind 0 then Fill (page_start page 4096) (tag % 256)
+    if eqb kind 0 then Fill (page_start page PAGE) (tag % 256)
     else (if eqb kind 1 then Write v n (page_start page (512 * n) ∷ []) tag
     else (if eqb kind 2 then Fetch v n (page_start page (512 * n) ∷ [])
     else Show (page_start page 16)))

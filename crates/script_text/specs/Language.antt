@@ -8,14 +8,14 @@ use Rattle.script_lines.specs.declared.kind.ScriptKind.TheVariants.{NotAscii, Lo
 use Rattle.block_path.specs.declared.mode.Mode.{Mode as FullMode}
 use Rattle.script_lines.specs.declared.line.ModeLine.{ModeLine}
 use Rattle.script_lines.specs.declared.line.OpLine.{OpLine}
-use Rattle.script_lines.specs.declared.line.Line.{Line}
-use Rattle.script_lines.specs.declared.line.Line.TheVariants.{Mode, Limits, Pages, Block, Expect, Inner, Linear, Stripe, Over, Flip, Shift, Schedule, Begin, Op}
+use Rattle.script_lines.specs.declared.line.ScriptLine.{ScriptLine}
+use Rattle.script_lines.specs.declared.line.ScriptLine.TheVariants.{Mode, Limits, Pages, Block, Expect, Inner, Linear, Stripe, Over, Flip, Shift, Schedule, Begin, Op}
 use Rattle.script_lines.specs.declared.verb.Verb.{Verb}
-use Rattle.script_lines.specs.declared.verb.Place.{Place}
-use Rattle.script_lines.specs.declared.verb.Place.TheVariants.{Dix as AtDix, Begin as AtBegin, Op as AtOp}
+use Rattle.script_lines.specs.declared.verb.Section.{Section}
+use Rattle.script_lines.specs.declared.verb.Section.TheVariants.{Dix as AtDix, Begin as AtBegin, Op as AtOp}
 use Rattle.script_lines.specs.Forms.{line_form}
 use Rattle.script_lines.specs.Reading.{◌>>=◌}
-use Rattle.script_lines.specs.Verbs.{comes_before, is_new_verb, place_of, verb_of}
+use Rattle.script_lines.specs.Verbs.{comes_before, is_new_verb, section_of, verb_of}
 use Rattle.volume_table.specs.declared.entry.Entry.{Entry}
 use Rattle.volume_table.specs.declared.entry.Entry.TheVariants.{Linear as LinearEntry, Stripe as StripeEntry}
 use Rattle.stack_ops.specs.declared.op.Op.{Op as AnyOp}
@@ -36,7 +36,7 @@ use Rattle.source_text.specs.declared.TheConstants.{LONGEST_LINE, MOST_BYTES}
 abbrev pub nothing_read : Drafted
 nothing_read = record {
   is_new = false;
-  place = None;
+  section = None;
   mode = record { kind = Crc; dix = false; dif = false; protect = 1 };
   app = 0;
   mask = 0;
@@ -79,13 +79,13 @@ abbrev pub op_taken : ℕ → OpLine → Drafted → Result Drafted ScriptKind
 op_taken number line d = op_in d.pages d.block line >>= with_op number line d
 
 -- what is read with the line of a fault; any other line adds none
-abbrev pub fault_line_taken : ℕ → Line → Drafted → Result Drafted ScriptKind
+abbrev pub fault_line_taken : ℕ → ScriptLine → Drafted → Result Drafted ScriptKind
 fault_line_taken number (Flip op k spot off bytes) d = fault_taken number (record { op = op; k = k; spot = spot; kind = FlipKind off bytes }) d
 fault_line_taken number (Shift op spot by) d = fault_taken number (record { op = op; k = 0; spot = spot; kind = ShiftKind by }) d
 fault_line_taken number line d = Ok d
 
 -- what is read with a line of the volume, or of a fault
-abbrev pub volume_line_taken : ℕ → Line → Drafted → Result Drafted ScriptKind
+abbrev pub volume_line_taken : ℕ → ScriptLine → Drafted → Result Drafted ScriptKind
 volume_line_taken number (Inner volume len dev at) d = inner_taken (record { volume = volume; len = len; dev = dev; at = at }) d
 volume_line_taken number (Linear e) d = entry_taken (LinearEntry e) d
 volume_line_taken number (Stripe start len chunk legs) d = entry_taken (StripeEntry (record { start = start; len = len; chunk = chunk; legs = legs })) d
@@ -93,7 +93,7 @@ volume_line_taken number (Over start len chunk volumes) d = over_taken start len
 volume_line_taken number line d = fault_line_taken number line d
 
 -- what is read with a line of this number that keeps the other rules; `begin` adds nothing
-unfoldable pub taken : ℕ → Line → Drafted → Result Drafted ScriptKind
+unfoldable pub taken : ℕ → ScriptLine → Drafted → Result Drafted ScriptKind
 taken number (Mode m) d = Ok (record d { mode = m })
 taken number (Limits l) d = Ok (record d { limits = l })
 taken number (Pages n) d = Ok (record d { pages = n })
@@ -103,28 +103,28 @@ taken number (Schedule entries) d = schedule_taken entries d
 taken number (Op line) d = op_taken number line d
 taken number line d = volume_line_taken number line d
 
--- a line of this verb may stand behind one of this place
-abbrev pub is_behind : Bool → Verb → Option Place → Bool
+-- a line of this verb may stand behind one of this section
+abbrev pub is_behind : Bool → Verb → Option Section → Bool
 is_behind is_new verb None = false
-is_behind is_new verb (Some place) = (is_new || not (is_new_verb verb)) && comes_before place (place_of verb) is_new
+is_behind is_new verb (Some section) = (is_new || not (is_new_verb verb)) && comes_before section (section_of verb) is_new
 
 abbrev pub unless_broken : Option ScriptKind → Result Drafted ScriptKind → Result Drafted ScriptKind
 unless_broken None r = r
 unless_broken (Some k) r = Err k
 
-abbrev pub at_place : Verb → Drafted → Result Drafted ScriptKind
-at_place verb d = Ok (record d { place = Some (place_of verb) })
+abbrev pub in_section : Verb → Drafted → Result Drafted ScriptKind
+in_section verb d = Ok (record d { section = Some (section_of verb) })
 
--- a line of this verb, in its place, with these words behind the first
+-- a line of this verb, in its section, with these words behind the first
 unfoldable pub line_taken : ℕ → Verb → List (List ℕ) → Drafted → Result Drafted ScriptKind
 line_taken number verb words d = do
   line ← line_form verb d.block words
   next ← unless_broken (broken_rule d line) (taken number line d)
-  at_place verb next
+  in_section verb next
 
 abbrev pub verb_taken : ℕ → Option Verb → List (List ℕ) → Drafted → Result Drafted ScriptKind
 verb_taken number None words d = Err UnknownWord
-verb_taken number (Some verb) words d = if is_behind d.is_new verb d.place then line_taken number verb words d else Err OutOfPlace
+verb_taken number (Some verb) words d = if is_behind d.is_new verb d.section then line_taken number verb words d else Err OutOfPlace
 
 -- whether the first line that isn't skipped is `dix 2`, or `dix 1`
 abbrev pub version_of : List (List ℕ) → Option Bool
@@ -135,12 +135,12 @@ version_of _ = None
 
 abbrev pub header_taken : Option Bool → Drafted → Result Drafted ScriptKind
 header_taken None d = Err NoHeader
-header_taken (Some is_new) d = Ok (record d { is_new = is_new; place = Some AtDix })
+header_taken (Some is_new) d = Ok (record d { is_new = is_new; section = Some AtDix })
 
-abbrev pub words_behind : Option Place → ℕ → List (List ℕ) → Drafted → Result Drafted ScriptKind
+abbrev pub words_behind : Option Section → ℕ → List (List ℕ) → Drafted → Result Drafted ScriptKind
 words_behind None number words d = header_taken (version_of words) d
-words_behind (Some place) number [] d = Ok d
-words_behind (Some place) number (first ∷ words) d = verb_taken number (verb_of first) words d
+words_behind (Some section) number [] d = Ok d
+words_behind (Some section) number (first ∷ words) d = verb_taken number (verb_of first) words d
 
 -- A line is skipped that has no words, or whose first word begins with a number sign.
 abbrev pub is_comment : List ℕ → Bool
@@ -149,7 +149,7 @@ is_comment (b ∷ bs) = eqb b 35
 
 abbrev pub words_taken : ℕ → List (List ℕ) → Drafted → Result Drafted ScriptKind
 words_taken number [] d = Ok d
-words_taken number (first ∷ words) d = if is_comment first then Ok d else words_behind d.place number (first ∷ words) d
+words_taken number (first ∷ words) d = if is_comment first then Ok d else words_behind d.section number (first ∷ words) d
 
 -- what is read with a line of this number
 abbrev pub text_taken : ℕ → List ℕ → Drafted → Result Drafted ScriptKind
@@ -158,7 +158,7 @@ text_taken number line d =
     else (if nat_lt LONGEST_LINE (length line) then Err LongLine else words_taken number (words_of line) d)
 
 -- what is wrong with the end of the text
-abbrev pub end_fault : Option Place → Option ScriptKind
+abbrev pub end_fault : Option Section → Option ScriptKind
 end_fault None = Some NoHeader
 end_fault (Some AtBegin) = None
 end_fault (Some AtOp) = None
@@ -192,7 +192,7 @@ go_on number (Err k) rest = Err (record { line = number; kind = k })
 
 -- The answer to the lines from this number on. The number behind that of the last line is the text's end.
 abbrev pub lines_read : ℕ → List (List ℕ) → Drafted → Result Script ScriptFault
-lines_read number [] d = at_end number (end_fault d.place) d
+lines_read number [] d = at_end number (end_fault d.section) d
 lines_read number (line ∷ lines) d = go_on number (text_taken number line d) (λ next. lines_read (number + 1) lines next)
 
 -- the script of a text, or its first fault

@@ -4,11 +4,12 @@ use Rattle.script_lines.specs.declared.kind.ScriptKind.{ScriptKind}
 use Rattle.script_lines.specs.declared.kind.ScriptKind.TheVariants.{TooMany, BadFault, NoIntegrity, Memory}
 use Rattle.script_lines.specs.declared.line.OpLine.{OpLine}
 use Rattle.script_lines.specs.declared.line.OpLine.TheVariants.{Seal, Write, Read, WritePi, ReadPi}
-use Rattle.script_lines.specs.declared.line.Line.{Line}
-use Rattle.script_lines.specs.declared.line.Line.TheVariants.{Expect, Inner, Linear, Stripe, Flip, Shift, Schedule, Op}
+use Rattle.script_lines.specs.declared.line.ScriptLine.{ScriptLine}
+use Rattle.script_lines.specs.declared.line.ScriptLine.TheVariants.{Expect, Inner, Linear, Stripe, Flip, Shift, Schedule, Op}
 use Rattle.script_text.specs.Drafts.{Drafted}
 use Rattle.bio_core.specs.declared.TheConstants.{MOST_BLOCKS}
 use Rattle.pi_tuple.specs.declared.TheConstants.{TUPLE}
+use Rattle.script_text.specs.declared.TheConstants.{MOST_INNER, MOST_ENTRIES, MOST_LEGS, MOST_FAULTS, MOST_SCHEDULE, MOST_OPS, MOST_REQUEST}
 
 -- The answer is such a one, and the rule isn't broken; or it is this kind, and the rule is broken; or it is want of memory.
 abbrev pub IsUnlessBroken : {A : Type 0} → (broken : Bool) → ScriptKind → (A → Type 0) → Result A ScriptKind → Type 0
@@ -31,7 +32,7 @@ needs_tuples (Write v n body app) = is_some app
 needs_tuples _ = false
 
 -- tuples in memory where the mode has none, or an expected tag where none is checked
-abbrev pub lacks_integrity : Drafted → Line → Bool
+abbrev pub lacks_integrity : Drafted → ScriptLine → Bool
 lacks_integrity d (Expect app mask) = not d.mode.dix || not d.mode.dif
 lacks_integrity d (Op op) = not d.mode.dix && needs_tuples op
 lacks_integrity d _ = false
@@ -46,22 +47,22 @@ request_blocks _ = 0
 
 -- more than 1,024 ops, or than 16,384 blocks of all requests
 abbrev pub is_op_too_many : Drafted → OpLine → Bool
-is_op_too_many d op = nat_le 1024 (length d.ops) || nat_lt MOST_BLOCKS (d.blocks + request_blocks op)
+is_op_too_many d op = nat_le MOST_OPS (length d.ops) || nat_lt MOST_BLOCKS (d.blocks + request_blocks op)
 
 -- more than 32 extents of inner volumes, 16 entries, 8 legs, 256 faults, 16,384 entries of the schedule
-abbrev pub is_too_many : Drafted → Line → Bool
-is_too_many d (Inner volume len dev at) = nat_le 32 (length d.inner)
-is_too_many d (Linear e) = nat_le 16 (length d.entries)
-is_too_many d (Stripe start len chunk legs) = nat_le 16 (length d.entries) || nat_lt 8 (length legs)
-is_too_many d (Flip op k spot off bytes) = nat_le 256 (length d.faults)
-is_too_many d (Shift op spot by) = nat_le 256 (length d.faults)
-is_too_many d (Schedule entries) = nat_lt 16384 (length d.schedule + length entries)
+abbrev pub is_too_many : Drafted → ScriptLine → Bool
+is_too_many d (Inner volume len dev at) = nat_le MOST_INNER (length d.inner)
+is_too_many d (Linear e) = nat_le MOST_ENTRIES (length d.entries)
+is_too_many d (Stripe start len chunk legs) = nat_le MOST_ENTRIES (length d.entries) || nat_lt MOST_LEGS (length legs)
+is_too_many d (Flip op k spot off bytes) = nat_le MOST_FAULTS (length d.faults)
+is_too_many d (Shift op spot by) = nat_le MOST_FAULTS (length d.faults)
+is_too_many d (Schedule entries) = nat_lt MOST_SCHEDULE (length d.schedule + length entries)
 is_too_many d (Op op) = is_op_too_many d op
 is_too_many d _ = false
 
 -- 1 to 2,048 blocks
 abbrev pub is_count : ℕ → Bool
-is_count n = nat_le 1 n && nat_le n 2048
+is_count n = nat_le 1 n && nat_le n MOST_REQUEST
 
 abbrev pub is_zero : ℕ → Bool
 is_zero b = eqb b 0
@@ -74,13 +75,13 @@ abbrev pub is_no_shift : ℤ → Bool
 is_no_shift (pos n) = eqb n 0
 is_no_shift _ = false
 
-abbrev pub is_bad_fault : Drafted → Line → Bool
+abbrev pub is_bad_fault : Drafted → ScriptLine → Bool
 is_bad_fault d (Flip op k spot off bytes) = is_bad_flip d.block off bytes
 is_bad_fault d (Shift op spot by) = is_no_shift by
 is_bad_fault d _ = false
 
 -- the first of these rules that a line breaks
-abbrev pub broken_rule : Drafted → Line → Option ScriptKind
+abbrev pub broken_rule : Drafted → ScriptLine → Option ScriptKind
 broken_rule d line =
     if lacks_integrity d line then Some NoIntegrity
     else (if is_too_many d line then Some TooMany

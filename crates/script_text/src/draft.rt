@@ -8,19 +8,19 @@ ghost use Rattle.bio_core.specs.declared.TheConstants.{MOST_BLOCKS};
 ghost use Rattle.pi_tuple.specs.declared.TheConstants.{LARGEST_BLOCK};
 ghost use Rattle.volume_table.specs.declared.TheConstants.{MOST_LENGTH};
 
-use crate::ScriptKind;
 use crate::adding::add;
 use crate::crossing::crossing_of;
 use crate::mode::mode_of;
 use crate::ops::{Sizes, op_of};
 use crate::raw_fault::RawFault;
-use crate::rules::{MOST_ENTRIES, request_blocks};
+use crate::rules::request_blocks;
 use crate::script::{LineList, Script};
 use crate::trees::{Inner, OverLine, entries_over};
+use crate::{MOST_ENTRIES, ScriptKind};
 use fault_schedule::{FaultKind, FaultLine, FaultList};
 use merge_queue::Limits;
 use pi_guard::GuardKind;
-use script_lines::{Line, ModeLine, OpLine, Place, VolumeList, WordList};
+use script_lines::{ModeLine, OpLine, ScriptLine, Section, VolumeList, WordList};
 use stack_ops::{Op, OpList};
 use std::alloc::Global;
 use stripe_volume::Stripe;
@@ -30,7 +30,7 @@ use volume_table::{Entry, EntryList};
 #[derive(Drop)]
 pub(crate) struct Draft {
     pub(crate) is_new: bool,
-    pub(crate) place: Option<Place>,
+    pub(crate) section: Option<Section>,
     pub(crate) mode: ModeLine,
     pub(crate) app: u16,
     pub(crate) mask: u16,
@@ -65,7 +65,7 @@ impl Draft {
     {
         Draft {
             is_new: false,
-            place: None,
+            section: None,
             mode: ModeLine {
                 kind: GuardKind::Crc,
                 dix: false,
@@ -154,11 +154,11 @@ impl Draft {
     }
 
     /// Takes the line of a fault. No other line has one.
-    fn take_fault(&mut self, number: u32, line: Line) -> Result<(), ScriptKind>
+    fn take_fault(&mut self, number: u32, line: ScriptLine) -> Result<(), ScriptKind>
         ensures { Takes (fault_line_taken number line (drafted self.old)) result (drafted self.new) }
     {
         let fault = match line {
-            Line::Flip {
+            ScriptLine::Flip {
                 op,
                 k,
                 spot,
@@ -170,7 +170,7 @@ impl Draft {
                 spot,
                 kind: FaultKind::Flip { off, bytes },
             },
-            Line::Shift { op, spot, by } => RawFault {
+            ScriptLine::Shift { op, spot, by } => RawFault {
                 op,
                 k: 0,
                 spot,
@@ -182,13 +182,18 @@ impl Draft {
     }
 
     /// Takes a line of the volume, or of a fault.
-    fn take_volume(&mut self, alloc: Global, number: u32, line: Line) -> Result<(), ScriptKind>
+    fn take_volume(
+        &mut self,
+        alloc: Global,
+        number: u32,
+        line: ScriptLine,
+    ) -> Result<(), ScriptKind>
         requires few { is_too_many (drafted self.old) line ≡ false }
         requires sound { IsSound line }
         ensures { Takes (volume_line_taken number line (drafted self.old)) result (drafted self.new) }
     {
         match line {
-            Line::Inner {
+            ScriptLine::Inner {
                 volume,
                 len,
                 dev,
@@ -199,8 +204,8 @@ impl Draft {
                 dev,
                 at,
             }),
-            Line::Linear(linear) => self.add_entry(Entry::Linear(linear)),
-            Line::Stripe {
+            ScriptLine::Linear(linear) => self.add_entry(Entry::Linear(linear)),
+            ScriptLine::Stripe {
                 start,
                 len,
                 chunk,
@@ -211,7 +216,7 @@ impl Draft {
                 chunk,
                 legs,
             })),
-            Line::Over {
+            ScriptLine::Over {
                 start,
                 len,
                 chunk,
@@ -231,34 +236,39 @@ impl Draft {
 
     /// Takes a line that keeps the rules that come before its segments.
     #[tactic(auto, unfolding(crate::specs::Language::taken))]
-    pub(crate) fn take(&mut self, alloc: Global, number: u32, line: Line) -> Result<(), ScriptKind>
+    pub(crate) fn take(
+        &mut self,
+        alloc: Global,
+        number: u32,
+        line: ScriptLine,
+    ) -> Result<(), ScriptKind>
         requires rule { broken_rule (drafted self.old) line ≡ None }
         requires sound { IsSound line }
         ensures { Takes (taken number line (drafted self.old)) result (drafted self.new) }
     {
         match line {
-            Line::Mode(mode) => {
+            ScriptLine::Mode(mode) => {
                 self.mode = mode;
                 Ok(())
             }
-            Line::Limits(limits) => {
+            ScriptLine::Limits(limits) => {
                 self.limits = limits;
                 Ok(())
             }
-            Line::Pages(pages) => {
+            ScriptLine::Pages(pages) => {
                 self.pages = pages;
                 Ok(())
             }
-            Line::Block(size) => {
+            ScriptLine::Block(size) => {
                 self.block = size;
                 Ok(())
             }
-            Line::Expect { app, mask } => {
+            ScriptLine::Expect { app, mask } => {
                 self.expect(number, app, mask);
                 Ok(())
             }
-            Line::Schedule(entries) => self.add_schedule(&entries),
-            Line::Op(line) => self.add_op(alloc, number, line),
+            ScriptLine::Schedule(entries) => self.add_schedule(&entries),
+            ScriptLine::Op(line) => self.add_op(alloc, number, line),
             other => self.take_volume(alloc, number, other),
         }
     }
@@ -270,7 +280,7 @@ impl Draft {
     {
         let Draft {
             is_new: _,
-            place: _,
+            section: _,
             mode,
             app,
             mask,

@@ -28,3 +28,24 @@ pub use print::print_script;
 pub use read::read_script;
 pub use script::{LineList, Script};
 pub use script_lines::{ScriptKind, WordList};
+
+/// The most extents of inner volumes.
+pub const MOST_INNER: usize = 32;
+
+/// The most entries of a volume.
+pub const MOST_ENTRIES: usize = 16;
+
+/// The most legs of an entry.
+pub const MOST_LEGS: usize = 8;
+
+/// The most faults.
+pub const MOST_FAULTS: usize = 256;
+
+/// The most entries of a schedule.
+pub const MOST_SCHEDULE: usize = 16384;
+
+/// The most ops of a script.
+pub const MOST_OPS: usize = 1024;
+
+/// The most blocks of a request.
+pub const MOST_REQUEST: u32 = 2048;

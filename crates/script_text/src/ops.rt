@@ -17,6 +17,7 @@ use crate::segments::{are_few_each, are_inside, are_whole_tuples, do_overlap, is
 use dix_base::ByteList;
 use fault_schedule::ShortBytes;
 use page_pool::{PAGE, Seg, SgList};
+use pi_tuple::TUPLE;
 use rig_api::Change;
 use script_lines::{OpLine, ScriptKind, SegList};
 use stack_ops::Op;
@@ -77,7 +78,7 @@ fn tuples_of(alloc: Global, segs: &[Seg], n: u32, sizes: Sizes) -> Result<SgList
         return Err(ScriptKind::BadSegments);
     }
     let list = list_of(alloc, segs)?;
-    if u64::from(list.total()) != 8 * u64::from(n) {
+    if u64::from(list.total()) != TUPLE as u64 * u64::from(n) {
         return Err(ScriptKind::BadSegments);
     }
     if !are_whole_tuples(segs) {

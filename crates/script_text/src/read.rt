@@ -10,7 +10,7 @@ ghost use Rattle.script_text.specs.Rules.{broken_rule};
 use crate::draft::Draft;
 use crate::rules::{is_bad_fault, is_too_many, lacks_integrity};
 use crate::{Script, ScriptFault, ScriptKind};
-use script_lines::{Line, Place, Verb, Words, line_of, verb_of};
+use script_lines::{ScriptLine, Section, Verb, Words, line_of, verb_of};
 use script_words::{is_plain, next_line};
 use source_text::{LONGEST_LINE, MOST_BYTES};
 use std::alloc::Global;
@@ -22,7 +22,7 @@ fn is_same(a: &[u8], b: &[u8]) -> bool
 }
 
 /// The first rule that a line breaks, of those that ask nothing of its segments.
-fn broken_rule(draft: &Draft, line: &Line) -> Option<ScriptKind>
+fn broken_rule(draft: &Draft, line: &ScriptLine) -> Option<ScriptKind>
     ensures { result ≡ broken_rule (drafted draft.now) line.now }
 {
     if lacks_integrity(draft, line) {
@@ -37,14 +37,14 @@ fn broken_rule(draft: &Draft, line: &Line) -> Option<ScriptKind>
     None
 }
 
-/// Whether a line behind one of this place may stand there.
-fn is_in_place(draft: &Draft, verb: Verb) -> bool
-    ensures { result ≡ is_behind draft.now.is_new verb draft.now.place }
+/// Whether a line of this verb may stand behind the last.
+fn is_in_order(draft: &Draft, verb: Verb) -> bool
+    ensures { result ≡ is_behind draft.now.is_new verb draft.now.section }
 {
-    match draft.place {
+    match draft.section {
         None => false,
-        Some(place) => {
-            (draft.is_new || !verb.is_new()) && place.comes_before(verb.place(), draft.is_new)
+        Some(section) => {
+            (draft.is_new || !verb.is_new()) && section.comes_before(verb.section(), draft.is_new)
         }
     }
 }
@@ -75,14 +75,14 @@ fn take_header(draft: &mut Draft, first: &[u8], words: &mut Words) -> Result<(),
     match version_of(first, words) {
         Some(is_new) => {
             draft.is_new = is_new;
-            draft.place = Some(Place::Dix);
+            draft.section = Some(Section::Dix);
             Ok(())
         }
         None => Err(ScriptKind::NoHeader),
     }
 }
 
-/// A line of this verb, in its place.
+/// A line of this verb, in its section.
 #[tactic(auto, unfolding(crate::specs::Language::line_taken))]
 fn take_verb(
     alloc: Global,
@@ -98,7 +98,7 @@ fn take_verb(
         return Err(kind);
     }
     draft.take(alloc, number, line)?;
-    draft.place = Some(verb.place());
+    draft.section = Some(verb.section());
     Ok(())
 }
 
@@ -114,7 +114,7 @@ fn take_line(
 {
     match verb_of(first) {
         Some(verb) => {
-            if !is_in_place(draft, verb) {
+            if !is_in_order(draft, verb) {
                 return Err(ScriptKind::OutOfPlace);
             }
             take_verb(alloc, draft, number, verb, words)
@@ -148,7 +148,7 @@ fn take_words(
             if is_comment(first) {
                 return Ok(());
             }
-            match draft.place {
+            match draft.section {
                 None => take_header(draft, first, words),
                 Some(_) => take_line(alloc, draft, number, first, words),
             }
@@ -170,17 +170,17 @@ fn take_text(alloc: Global, draft: &mut Draft, number: u32, line: &[u8]) -> Resu
 
 /// What is wrong with the end of the text, if anything.
 fn end_fault(draft: &Draft) -> Option<ScriptKind>
-    ensures { result ≡ end_fault draft.now.place }
+    ensures { result ≡ end_fault draft.now.section }
 {
-    match draft.place {
+    match draft.section {
         None => Some(ScriptKind::NoHeader),
-        Some(Place::Begin) | Some(Place::Op) => None,
+        Some(Section::Begin) | Some(Section::Op) => None,
         Some(_) => Some(ScriptKind::OutOfPlace),
     }
 }
 
 fn finish(alloc: Global, draft: Draft, line: u32) -> Result<Script, ScriptFault>
-    ensures { Answers (at_end line (end_fault draft.place) (drafted draft)) result }
+    ensures { Answers (at_end line (end_fault draft.section) (drafted draft)) result }
 {
     if let Some(kind) = end_fault(&draft) {
         return Err(ScriptFault { line, kind });

@@ -5,26 +5,16 @@ ghost use Rattle.std.specs.Prelude.{◌≡◌, ◌+◌, ◌≤◌, nat_lt};
 ghost use Rattle.std.specs.List.{list_all};
 ghost use Rattle.script_text.specs.Drafts.{drafted};
 ghost use Rattle.script_text.specs.Rules.{is_bad_fault, is_bad_flip, is_count, is_op_too_many, is_too_many, is_zero, lacks_integrity, needs_tuples, request_blocks};
-ghost use Rattle.pi_tuple.specs.declared.TheConstants.{TUPLE, LARGEST_BLOCK};
+ghost use Rattle.pi_tuple.specs.declared.TheConstants.{LARGEST_BLOCK};
 
 use crate::draft::Draft;
+use crate::{
+    MOST_ENTRIES, MOST_FAULTS, MOST_INNER, MOST_LEGS, MOST_OPS, MOST_REQUEST, MOST_SCHEDULE,
+};
 use bio_core::MOST_BLOCKS;
 use fault_schedule::ShortBytes;
-use script_lines::{Line, OpLine};
-
-const MOST_INNER: usize = 32;
-
-pub(crate) const MOST_ENTRIES: usize = 16;
-
-pub(crate) const MOST_LEGS: usize = 8;
-
-const MOST_FAULTS: usize = 256;
-
-const MOST_SCHEDULE: usize = 16384;
-
-const MOST_OPS: usize = 1024;
-
-const MOST_REQUEST: u32 = 2048;
+use pi_tuple::TUPLE;
+use script_lines::{OpLine, ScriptLine};
 
 /// Whether an op has to do with tuples in memory.
 fn needs_tuples(op: &OpLine) -> bool
@@ -38,12 +28,12 @@ fn needs_tuples(op: &OpLine) -> bool
 }
 
 /// Tuples in memory where the mode has none, or an expected tag where none is checked.
-pub(crate) fn lacks_integrity(draft: &Draft, line: &Line) -> bool
+pub(crate) fn lacks_integrity(draft: &Draft, line: &ScriptLine) -> bool
     ensures { result ≡ lacks_integrity (drafted draft.now) line.now }
 {
     match line {
-        Line::Expect { .. } => !draft.mode.dix || !draft.mode.dif,
-        Line::Op(op) => !draft.mode.dix && needs_tuples(op),
+        ScriptLine::Expect { .. } => !draft.mode.dix || !draft.mode.dif,
+        ScriptLine::Op(op) => !draft.mode.dix && needs_tuples(op),
         _ => false,
     }
 }
@@ -69,20 +59,20 @@ fn is_op_too_many(draft: &Draft, op: &OpLine) -> bool
 }
 
 /// A count is passed with this line.
-pub(crate) fn is_too_many(draft: &Draft, line: &Line) -> bool
+pub(crate) fn is_too_many(draft: &Draft, line: &ScriptLine) -> bool
     ensures { result ≡ is_too_many (drafted draft.now) line.now }
 {
     match line {
-        Line::Inner { .. } => draft.inner.len() >= MOST_INNER,
-        Line::Linear(_) => draft.entries.len() >= MOST_ENTRIES,
-        Line::Stripe { legs, .. } => {
+        ScriptLine::Inner { .. } => draft.inner.len() >= MOST_INNER,
+        ScriptLine::Linear(_) => draft.entries.len() >= MOST_ENTRIES,
+        ScriptLine::Stripe { legs, .. } => {
             draft.entries.len() >= MOST_ENTRIES || legs.as_slice().len() > MOST_LEGS
         }
-        Line::Flip { .. } | Line::Shift { .. } => draft.faults.len() >= MOST_FAULTS,
-        Line::Schedule(entries) => {
+        ScriptLine::Flip { .. } | ScriptLine::Shift { .. } => draft.faults.len() >= MOST_FAULTS,
+        ScriptLine::Schedule(entries) => {
             draft.schedule.len() + entries.as_slice().len() > MOST_SCHEDULE
         }
-        Line::Op(op) => is_op_too_many(draft, op),
+        ScriptLine::Op(op) => is_op_too_many(draft, op),
         _ => false,
     }
 }
@@ -99,7 +89,7 @@ fn is_past_frame(off: u32, len: usize, size: u32) -> bool
     requires { size ≤ LARGEST_BLOCK }
     ensures { result ≡ nat_lt (size + TUPLE) (off + len) }
 {
-    let room = u64::from(size + 8);
+    let room = u64::from(size + TUPLE as u32);
     let off = u64::from(off);
     off > room || len as u64 > room - off
 }
@@ -119,13 +109,13 @@ pub(crate) fn is_bad_flip(off: u32, bytes: &ShortBytes, size: u32) -> bool
     is_past_frame(off, bytes.len(), size) || are_zero(bytes)
 }
 
-pub(crate) fn is_bad_fault(draft: &Draft, line: &Line) -> bool
+pub(crate) fn is_bad_fault(draft: &Draft, line: &ScriptLine) -> bool
     requires { draft.now.block ≤ LARGEST_BLOCK }
     ensures { result ≡ is_bad_fault (drafted draft.now) line.now }
 {
     match line {
-        Line::Flip { off, bytes, .. } => is_bad_flip(*off, bytes, draft.block),
-        Line::Shift { by, .. } => *by == 0,
+        ScriptLine::Flip { off, bytes, .. } => is_bad_flip(*off, bytes, draft.block),
+        ScriptLine::Shift { by, .. } => *by == 0,
         _ => false,
     }
 }

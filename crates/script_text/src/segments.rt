@@ -9,6 +9,7 @@ ghost use Rattle.script_text.specs.Segments.{any_share, are_few_each, are_inside
 ghost use Rattle.range_gate.specs.Prints.{IsSound, Rises, begins};
 
 use page_pool::{PAGE, Seg, SgList, Walk};
+use pi_tuple::TUPLE;
 use smallvec::SmallVec;
 use std::alloc::{AllocError, Global};
 
@@ -40,7 +41,7 @@ pub(crate) fn sg_list(alloc: Global, segs: &[Seg]) -> Result<SgList, AllocError>
 pub(crate) fn are_whole_tuples(segs: &[Seg]) -> bool
     ensures { result ≡ are_whole_tuples segs.now }
 {
-    segs.iter().all(|seg| seg.len % 8 == 0)
+    segs.iter().all(|seg| seg.len % TUPLE as u32 == 0)
 }
 
 /// The parts of segments that the next bytes of a walk lie in.

@@ -10,8 +10,8 @@ ghost use Rattle.volume_tree.specs.Tracks.{FollowsFrom, tracks_of};
 ghost use Rattle.volume_tree.specs.Trees.{AreTracks};
 ghost use Rattle.volume_table.specs.declared.TheConstants.{MOST_LENGTH};
 
+use crate::MOST_LEGS;
 use crate::adding::add;
-use crate::rules::MOST_LEGS;
 use linear_volume::Linear;
 use script_lines::ScriptKind;
 use std::alloc::Global;
