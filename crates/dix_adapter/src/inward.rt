@@ -107,7 +107,7 @@ impl Adapter {
         requires way { (first_of req.now).dir ≡ Read }
         requires done { done ≤ size req.now }
         requires none { fates.old.items ≡ [] }
-        requires room { size req.now * (block_len ios.now req.now + 8) + 8 ≤ length frames.old }
+        requires room { size req.now * (block_len ios.now req.now + TUPLE) + TUPLE ≤ length frames.old }
         requires fates { size req.now ≤ vec_capacity fates.old }
         ensures landed { HasLanded self.now ios.now req.now done frames.old pool.old pool.new fates.new.items }
         ensures long { length frames.new ≡ length frames.old }
@@ -147,7 +147,7 @@ impl Adapter {
         requires once { IsOnce io.now }
         requires few { count ≤ bio.now.count }
         requires small { block_size io.now ≤ LARGEST_BLOCK }
-        requires room { from + count * wire_size (route_by self.now io.now bio.now 0) + 8 ≤ length frames.old }
+        requires room { from + count * wire_size (route_by self.now io.now bio.now 0) + TUPLE ≤ length frames.old }
         requires fates { length fates.old.items + count ≤ vec_capacity fates.old }
         ensures landed { HasLandedFirst self.now io.now bio.now count (drop from frames.old) pool.old pool.new fates.old.items fates.new.items }
         ensures end { result ≡ from + count * wire_size (route_by self.now io.now bio.now 0) }
@@ -181,7 +181,7 @@ impl Adapter {
         requires before { IsBefore io.now (bio.now.k + i) walks.old }
         requires bio { i < bio.now.count }
         requires small { block_size io.now ≤ LARGEST_BLOCK }
-        requires room { at + (block_size io.now + 8) ≤ length frames.old }
+        requires room { at + (block_size io.now + TUPLE) ≤ length frames.old }
         ensures landed { HasLandedNext self.now io.now bio.now i (drop at frames.old) pool.old pool.new result }
         ensures before { IsBefore io.now (bio.now.k + (i + 1)) walks.new }
         ensures behind { KeepsBehind (at + wire_size (route_by self.now io.now bio.now i)) frames.old frames.new }
@@ -207,7 +207,7 @@ impl Adapter {
         requires once { IsOnce io.now }
         requires before { IsBefore io.now (bio.now.k + i) walks.old }
         requires bio { i < bio.now.count }
-        requires long { length frame.old ≡ block_size io.now + 8 }
+        requires long { length frame.old ≡ block_size io.now + TUPLE }
         ensures landed { HasLandedNext self.now io.now bio.now i frame.old pool.old pool.new result }
         ensures before { IsBefore io.now (bio.now.k + (i + 1)) walks.new }
         ensures behind { KeepsBehind (wire_size (route_by self.now io.now bio.now i)) frame.old frame.new }
@@ -224,8 +224,8 @@ impl Adapter {
 
 /// The last eight bytes of a frame.
 fn tuple_behind(frame: &[u8]) -> [u8; TUPLE]
-    requires { 8 ≤ length frame.now }
-    ensures { result ≡ drop (length frame.now - 8) frame.now }
+    requires { TUPLE ≤ length frame.now }
+    ensures { result ≡ drop (length frame.now - TUPLE) frame.now }
 {
     let mut behind = [0u8; TUPLE];
     behind.copy_from_slice(frame.split_at(frame.len() - TUPLE).1);
@@ -233,8 +233,8 @@ fn tuple_behind(frame: &[u8]) -> [u8; TUPLE]
 }
 
 fn put_behind(frame: &mut [u8], behind: &[u8; TUPLE])
-    requires { 8 ≤ length frame.old }
-    ensures { frame.new ≡ take (length frame.old - 8) frame.old ++ behind.now }
+    requires { TUPLE ≤ length frame.old }
+    ensures { frame.new ≡ take (length frame.old - TUPLE) frame.old ++ behind.now }
 {
     let size = frame.len() - TUPLE;
     let (_, last) = frame.split_at_mut(size);
@@ -254,7 +254,7 @@ fn deliver(
     requires once { IsOnce io.now }
     requires before { IsBefore io.now k walks.old }
     requires within { k < io.now.count }
-    requires long { length frame.old ≡ block_size io.now + 8 }
+    requires long { length frame.old ≡ block_size io.now + TUPLE }
     ensures cells { flat pool.new ≡ land (data_cells io.now k ++ tuple_cells io.now.pi k) (unless found frame.old) (flat pool.old) }
     ensures pages { length pool.new ≡ length pool.old }
     ensures whole { AreWhole pool.new }

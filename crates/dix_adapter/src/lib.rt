@@ -14,3 +14,6 @@ pub use adapter::Adapter;
 pub use block_path::Mode;
 pub use operation::{Operation, operation_for};
 pub use scratch::Scratch;
+
+/// The most blocks of one command.
+pub const MOST_OF_COMMAND: u32 = 1_048_576;

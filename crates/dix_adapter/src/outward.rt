@@ -77,7 +77,7 @@ impl Adapter {
     ) -> usize
         requires group { (bytes : ℕ) × IsGroup self.now pool.now bytes ios.now req.now }
         requires none { fates.old.items ≡ [] }
-        requires room { size req.now * (block_len ios.now req.now + 8) + 8 ≤ length frames.old }
+        requires room { size req.now * (block_len ios.now req.now + TUPLE) + TUPLE ≤ length frames.old }
         requires fates { size req.now ≤ vec_capacity fates.old }
         ensures fates { fates.new.items ≡ map unsent (map (sends self.now ios.now (flat pool.now)) (blocks_in req.now)) }
         ensures frames { is_bad_write self.now ios.now req.now (flat pool.now) ≡ false
@@ -106,7 +106,7 @@ impl Adapter {
     ) -> usize
         requires can { CanGo self.now pool.now io.now bio.now }
         requires small { block_size io.now ≤ LARGEST_BLOCK }
-        requires room { from + bio.now.count * (block_size io.now + 8) + 8 ≤ length frames.old }
+        requires room { from + bio.now.count * (block_size io.now + TUPLE) + TUPLE ≤ length frames.old }
         requires fates { length fates.old.items + bio.now.count ≤ vec_capacity fates.old }
         ensures fates { fates.new.items ≡ fates.old.items ++ map unsent (sends_first self.now io.now bio.now (flat pool.now) bio.now.count) }
         ensures frames { Gathers self.now io.now bio.now (flat pool.now) bio.now.count from frames.old frames.new }
@@ -139,7 +139,7 @@ impl Adapter {
         requires can { CanGo self.now pool.now io.now bio.now }
         requires before { IsBefore io.now (bio.now.k + i) walks.old }
         requires bio { i < bio.now.count }
-        requires room { at + (block_size io.now + 8) ≤ length frames.old }
+        requires room { at + (block_size io.now + TUPLE) ≤ length frames.old }
         requires small { block_size io.now ≤ LARGEST_BLOCK }
         ensures judged { unless result.0 (take (wire_size (route_by self.now io.now bio.now i)) (drop at frames.new)) ≡ sends_by self.now io.now bio.now (flat pool.now) i }
         ensures front { take at frames.new ≡ take at frames.old }
@@ -167,7 +167,7 @@ impl Adapter {
         requires can { CanGo self.now pool.now io.now bio.now }
         requires before { IsBefore io.now (bio.now.k + i) walks.old }
         requires bio { i < bio.now.count }
-        requires long { length frame.old ≡ block_size io.now + 8 }
+        requires long { length frame.old ≡ block_size io.now + TUPLE }
         ensures judged { unless result (take (wire_size (route_by self.now io.now bio.now i)) frame.new) ≡ sends_by self.now io.now bio.now (flat pool.now) i }
         ensures long { length frame.new ≡ length frame.old }
         ensures before { IsBefore io.now (bio.now.k + (i + 1)) walks.new }

@@ -4,6 +4,7 @@ ghost use Rattle.std.specs.Prelude.{◌≡◌, ◌+◌, ◌*◌, ◌≤◌, ◌<
 ghost use Rattle.std.specs.Vec.{vec_capacity};
 ghost use Rattle.dix_adapter.specs.Room.{HoldsBlocks};
 
+use crate::MOST_OF_COMMAND;
 use fault_schedule::Label;
 use pi_tuple::{LARGEST_BLOCK, TUPLE};
 use std::alloc::{AllocError, Global};
@@ -19,7 +20,7 @@ pub struct Scratch {
 impl Scratch {
     /// Room for the blocks of one command, of which there are at most 1,048,576, whatever their size.
     pub fn new(alloc: Global, max_blocks: u32) -> Result<Scratch, AllocError>
-        requires { max_blocks ≤ 1048576 }
+        requires { max_blocks ≤ MOST_OF_COMMAND }
         ensures { IfOk result (HoldsBlocks LARGEST_BLOCK max_blocks) }
     {
         Scratch::for_size(alloc, max_blocks, LARGEST_BLOCK)
@@ -27,7 +28,7 @@ impl Scratch {
 
     /// The same for blocks of at most so many bytes, which are at most 4,096.
     pub fn for_size(alloc: Global, max_blocks: u32, most_bytes: u32) -> Result<Scratch, AllocError>
-        requires blocks { max_blocks ≤ 1048576 }
+        requires blocks { max_blocks ≤ MOST_OF_COMMAND }
         requires bytes { most_bytes ≤ LARGEST_BLOCK }
         ensures { IfOk result (HoldsBlocks most_bytes max_blocks) }
     {

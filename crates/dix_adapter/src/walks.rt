@@ -6,6 +6,7 @@ ghost use Rattle.page_pool.specs.Pages.{AreWhole, bytes_in};
 ghost use Rattle.bio_core.specs.Bios.{block_size};
 ghost use Rattle.dix_adapter.specs.Groups.{data_cells, tuple_cells};
 ghost use Rattle.dix_adapter.specs.Walking.{IsBefore, IsOnce, MayWalkFrom, TuplesOnce, Walkable, WalksTuples, tuple_or, tuples_ahead};
+ghost use Rattle.pi_tuple.specs.declared.TheConstants.{TUPLE};
 
 use bio_core::Io;
 use integrity_payload::Payload;
@@ -49,7 +50,7 @@ impl<'a> Walks<'a> {
         requires walks { Walkable pool.now io.now }
         requires before { IsBefore io.now k self.old }
         requires within { k < io.now.count }
-        requires long { length frame.old ≡ block_size io.now + 8 }
+        requires long { length frame.old ≡ block_size io.now + TUPLE }
         ensures frame { frame.new ≡ bytes_in pool.now io.now.body (k * block_size io.now) (block_size io.now) ++ tuple_or pool.now io.now.pi k (drop (block_size io.now) frame.old) }
         ensures whole { AreWhole pool.now }
         ensures before { IsBefore io.now (k + 1) self.new }
@@ -66,7 +67,7 @@ impl<'a> Walks<'a> {
         requires walks { Walkable pool.now io.now }
         requires before { IsBefore io.now k self.old }
         requires within { k < io.now.count }
-        requires long { length spare.old ≡ block_size io.now + 8 }
+        requires long { length spare.old ≡ block_size io.now + TUPLE }
         ensures whole { AreWhole pool.now }
         ensures before { IsBefore io.now (k + 1) self.new }
         ensures long { length spare.new ≡ length spare.old }
@@ -80,7 +81,7 @@ impl<'a> Walks<'a> {
         requires once { IsOnce io.now }
         requires before { IsBefore io.now k self.old }
         requires within { k < io.now.count }
-        requires long { length frame.now ≡ block_size io.now + 8 }
+        requires long { length frame.now ≡ block_size io.now + TUPLE }
         ensures cells { flat pool.new ≡ scatter (data_cells io.now k ++ tuple_cells io.now.pi k) frame.now (flat pool.old) }
         ensures pages { length pool.new ≡ length pool.old }
         ensures whole { AreWhole pool.new }
@@ -105,7 +106,7 @@ fn write_tuple(
     requires walks { (count : ℕ) × (WalksTuples pool.old count pi.now × (k < count)) }
     requires once { TuplesOnce pi.now }
     requires before { tuples.old ≡ tuples_ahead pi.now k }
-    requires long { length bytes.now ≡ 8 }
+    requires long { length bytes.now ≡ TUPLE }
     ensures cells { flat pool.new ≡ scatter (tuple_cells pi.now k) bytes.now (flat pool.old) }
     ensures pages { length pool.new ≡ length pool.old }
     ensures whole { AreWhole pool.new }
@@ -127,7 +128,7 @@ fn read_tuple(
 )
     requires walks { (count : ℕ) × (WalksTuples pool.now count pi.now × (k < count)) }
     requires before { tuples.old ≡ tuples_ahead pi.now k }
-    requires long { length into.old ≡ 8 }
+    requires long { length into.old ≡ TUPLE }
     ensures bytes { into.new ≡ tuple_or pool.now pi.now k into.old }
     ensures before { tuples.new ≡ tuples_ahead pi.now (k + 1) }
 {

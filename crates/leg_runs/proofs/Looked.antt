@@ -32,7 +32,7 @@ use Rattle.leg_runs.specs.Asked.{AreOf, bytes_after, found_after, part_of, paste
 use Rattle.leg_runs.specs.LegRuns.{AllWalked, LegRun, found_by, pool_of, replies_of}
 use Rattle.leg_runs.specs.Mending.{delivered, goods, looked, tuples_after}
 use Rattle.leg_runs.proofs.Flat.{AllLong, flat-pasted, flat-zeros, long-each, long-zeros, pasted-long}
-use Rattle.leg_runs.proofs.OneLeg.{AllInside, all-inside, data-flat, map-each, same-units}
+use Rattle.leg_runs.proofs.OneLeg.{AllInside, all-inside, blocks-are, data-flat, map-each, same-units}
 use Rattle.leg_runs.proofs.Painting.{all-stretches, chosen, painted}
 use Rattle.leg_runs.proofs.Replied.{found-last}
 
@@ -156,12 +156,6 @@ module _ (law : LookLaw) (s : Script) (t : Table) (half : ℕ) (is : IsMirrorScr
   abbrev pub brings : ℕ → List ℕ
   brings j = tuple_landed s.block (came j)
 
-  blocks-are : (a c : ℕ) → blocks_of half (part_of p (a, c)) ≡ each_from a c block
-  blocks-are a c =
-      let z : 0 + a ≡ a = omega arith in
-      each_same 0 c (λ j. record { op = p.op; k = first_label (part_of p (a, c)) + j; virt = first_virt half (part_of p (a, c)) + j }) (λ j. block (a + j)) (named a c)
-      ∙ sym (each_shift 0 a c block) ∙ ap (λ k. each_from k c block) z
-
   part-fits : (a c : ℕ) → 1 ≤ c → a + c ≤ p.n → IsPieceWithTuples s.block half (part_of p (a, c))
   part-fits a c some within =
       let few = fit.few in
@@ -181,7 +175,7 @@ module _ (law : LookLaw) (s : Script) (t : Table) (half : ℕ) (is : IsMirrorScr
   part-look a c left run some within own w =
       let mine = subst (λ (x : Script). HasWalked x t us left (pool_of run) run.records (replies_of run)) own w in
       let r = law s t half (part_of p (a, c)) us left (pool_of run) run.records (replies_of run) is (part-fits a c some within) made stored mine in
-      let bs = blocks-are a c in
+      let bs = blocks-are half p block named a c in
       let whys : map by_app (whys_read leg (blocks_of half (part_of p (a, c))) (blocks_told us)) ≡ each_from a c finds =
       ap (λ (xs : List Block). map by_app (whys_read leg xs (blocks_told us))) bs ∙ ap (map by_app) (map-each (λ b. why_of (reading leg b (blocks_told us))) a c block)
       ∙ map-each by_app a c (λ j. why_of (came j)) in

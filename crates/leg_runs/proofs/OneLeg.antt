@@ -101,6 +101,15 @@ pub landed-long : (size : ℕ) (came : Result (List ℕ) Why) → ((frame : List
 landed-long size (Ok frame) h = length-take-le size frame (h frame refl)
 landed-long size (Err why) h = length-replicate size 0
 
+-- the blocks of a part of a piece, whose blocks are numbered from its first on
+pub blocks-are : (half : ℕ) (p : Piece) (block : ℕ → Block)
+    → ((a c j : ℕ) → record { op = p.op; k = first_label (part_of p (a, c)) + j; virt = first_virt half (part_of p (a, c)) + j } ≡ block (a + j))
+    → (a c : ℕ) → blocks_of half (part_of p (a, c)) ≡ each_from a c block
+blocks-are half p block named a c =
+    let z : 0 + a ≡ a = omega arith in
+    each_same 0 c (λ j. record { op = p.op; k = first_label (part_of p (a, c)) + j; virt = first_virt half (part_of p (a, c)) + j }) (λ j. block (a + j)) (named a c)
+    ∙ sym (each_shift 0 a c block) ∙ ap (λ k. each_from k c block) z
+
 module _ (law : ReadLaw) (s : Script) (t : Table) (half : ℕ) (is : IsMirrorScript s t half) (us : List Stored) (made : MadeFor t (map info_of (shapes_of us)) s.block) (stored : AreStored us)
     (p : Piece) (fit : IsPiece s.block half p) (block : ℕ → Block)
     (named : (a c j : ℕ) → record { op = p.op; k = first_label (part_of p (a, c)) + j; virt = first_virt half (part_of p (a, c)) + j } ≡ block (a + j)) where
@@ -115,12 +124,6 @@ module _ (law : ReadLaw) (s : Script) (t : Table) (half : ℕ) (is : IsMirrorScr
 
   abbrev pub lands : ℕ → List ℕ
   lands j = landed_by s.block (came j)
-
-  blocks-are : (a c : ℕ) → blocks_of half (part_of p (a, c)) ≡ each_from a c block
-  blocks-are a c =
-      let z : 0 + a ≡ a = omega arith in
-      each_same 0 c (λ j. record { op = p.op; k = first_label (part_of p (a, c)) + j; virt = first_virt half (part_of p (a, c)) + j }) (λ j. block (a + j)) (named a c)
-      ∙ sym (each_shift 0 a c block) ∙ ap (λ k. each_from k c block) z
 
   part-fits : (a c : ℕ) → 1 ≤ c → a + c ≤ p.n → IsPiece s.block half (part_of p (a, c))
   part-fits a c some within =
@@ -139,7 +142,7 @@ module _ (law : ReadLaw) (s : Script) (t : Table) (half : ℕ) (is : IsMirrorScr
   part-read a c left run some within own w =
       let mine = subst (λ (x : Script). HasWalked x t us left (pool_of run) run.records (replies_of run)) own w in
       let r = law s t half (part_of p (a, c)) us left (pool_of run) run.records (replies_of run) is (part-fits a c some within) made stored mine in
-      let bs = blocks-are a c in
+      let bs = blocks-are half p block named a c in
       let whys : whys_read leg (blocks_of half (part_of p (a, c))) (blocks_told us) ≡ each_from a c finds =
       ap (λ (xs : List Block). whys_read leg xs (blocks_told us)) bs ∙ map-each (λ b. why_of (reading leg b (blocks_told us))) a c block in
       record {

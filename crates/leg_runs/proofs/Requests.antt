@@ -34,6 +34,7 @@ use Rattle.mirror_script.specs.MirrorFaults.{faults_fault, length_fault, mode_fa
 use Rattle.mirror_legs.specs.MirrorScript.{IsPiece}
 use Rattle.leg_runs.specs.OnOps.{whole_request}
 use Rattle.leg_runs.specs.Standing.{IsBoundMirror, half_of, op_at}
+use Rattle.script_lines.specs.declared.TheConstants.{MOST_MEMORY}
 
 -- ---- an op is not at fault
 
@@ -80,7 +81,7 @@ below-pages pages q (p ∷ ps) h a = by (eqb q (cell p)) refl a (λ b. below-pag
 -- n blocks from v on, and the data of as many in the pages
 pub record IsRequest (s : Script) (half v n : ℕ) (body : List Seg) : Type 0 where
   pub some : 1 ≤ n
-  pub room : n * s.block ≤ 1048576
+  pub room : n * s.block ≤ MOST_MEMORY
   pub inside : v + n ≤ half
   pub long : total body ≡ n * s.block
   pub stand : AllStandIn s.pages (places_in body)

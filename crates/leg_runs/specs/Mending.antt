@@ -27,7 +27,7 @@ abbrev pub tuples_after : (size : ℕ) → List (ℕ × ℕ) → List LegRun →
 tuples_after size [] runs tuples = tuples
 tuples_after size (s ∷ ss) [] tuples = tuples
 tuples_after size (s ∷ ss) (r ∷ runs) tuples =
-    tuples_after size ss runs (pasted (s.0 * 8) (take (s.1 * 8) (drop (PAGE * pages_for (s.1 * size)) (flat (pool_of r)))) tuples)
+    tuples_after size ss runs (pasted (s.0 * TUPLE) (take (s.1 * TUPLE) (drop (PAGE * pages_for (s.1 * size)) (flat (pool_of r)))) tuples)
 
 -- which blocks were wanted, and have nothing found of them
 abbrev pub delivered : List Bool → List (Option Why) → List Bool

@@ -9,6 +9,7 @@ use Rattle.mirror_script.specs.MirrorFaults.{names_blocks}
 use Rattle.mirror_legs.specs.declared.piece.Piece.{Piece}
 use Rattle.mirror_legs.specs.Inner.{pages_for}
 use Rattle.pi_tuple.specs.declared.TheConstants.{TUPLE}
+use Rattle.script_lines.specs.declared.TheConstants.{MOST_MEMORY}
 
 -- A script on a mirror of `half` blocks: its requests bring tuples from the host to units of type 1 or 2, and no fault line is a shift. Its mode, limits and block size are such as a stack takes.
 pub record IsMirrorScript (s : Script) (t : Table) (half : ℕ) : Type 0 where
@@ -23,7 +24,7 @@ pub record IsMirrorScript (s : Script) (t : Table) (half : ℕ) : Type 0 where
 -- The piece has blocks, they lie on the mirror, and their data have room in 256 pages.
 pub record IsPiece (size half : ℕ) (p : Piece) : Type 0 where
   pub some : 1 ≤ p.n
-  pub room : p.n * size ≤ 1048576
+  pub room : p.n * size ≤ MOST_MEMORY
   pub inside : p.v + p.n ≤ half
 
 -- So has one that is read with its tuples: data and tuples have room in 256 pages together.

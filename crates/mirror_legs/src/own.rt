@@ -2,13 +2,13 @@
 
 ghost use Rattle.std.specs.Prelude.{◌≡◌, ◌+◌, ◌*◌, ◌<◌, ◌≤◌, ◌^◌, ◌++◌, IfOk, OnOk, length};
 ghost use Rattle.mirror_legs.specs.Inner.{own_faults, own_script, page_segs, pages_for, puts, read_pi_script, read_script, write_script};
-ghost use Rattle.pi_tuple.specs.declared.TheConstants.{TUPLE};
 
 use crate::Piece;
 use dix_base::ByteList;
 use fault_schedule::{FaultKind, FaultLine, FaultList};
 use merge_queue::Limits;
 use page_pool::{PAGE, Seg, SgList};
+use pi_tuple::TUPLE;
 use script_lines::WordList;
 use script_text::{LineList, Script};
 use smallvec::SmallVec;
@@ -197,13 +197,13 @@ pub fn read_pi_script(
         v: piece.virt(half),
         n: piece.n,
         body: page_segs(alloc, 0, piece.n * script.block)?,
-        tuples: page_segs(alloc, pages, piece.n * 8)?,
+        tuples: page_segs(alloc, pages, piece.n * TUPLE as u32)?,
     })?;
     own_script(
         alloc,
         script,
         piece.n,
-        pages + pages_for(piece.n * 8),
+        pages + pages_for(piece.n * TUPLE as u32),
         faults,
         ops,
     )

@@ -9,6 +9,7 @@ use Rattle.mirror_volume.specs.declared.mirror.State.{State}
 use Rattle.leg_runs.specs.Mending.{whole_stretch}
 use Rattle.leg_runs.specs.OnOps.{Sides, whole_request}
 use Rattle.leg_runs.specs.Standing.{IsBoundMirror, half_of}
+use Rattle.script_lines.specs.declared.TheConstants.{MOST_MEMORY}
 
 -- What a mirror goes by: a script that is bound to its devices, and the number of its blocks.
 pub record IsPlan (p : Plan) : Type 0 where
@@ -20,7 +21,7 @@ pub record IsPieceOf (p : Plan) (piece : Piece) : Type 0 where
   pub some : 1 ≤ piece.n
   pub first : piece.first + piece.n ≤ piece.count
   pub count : piece.count ≤ 1024
-  pub room : piece.n * p.script.block ≤ 1048576
+  pub room : piece.n * p.script.block ≤ MOST_MEMORY
   pub inside : piece.v + piece.n ≤ p.half
 
 -- All blocks of a stretch are such a piece, on leg 0.

@@ -17,6 +17,7 @@ use crate::stretches::stretches_of;
 use bio_core::Why;
 use mirror_legs::Piece;
 use mirror_walk::Marks;
+use pi_tuple::TUPLE;
 use rig_api::Rig;
 use std::alloc::{AllocError, Global};
 
@@ -43,10 +44,10 @@ struct Held {
 
 /// The application tag of block i, in its tuple.
 fn tag_of(tuples: &[u8], i: usize) -> u16
-    requires { 8 * i + 8 ≤ length tuples.now }
-    ensures { result ≡ (tuple_in (drop (8 * i) tuples.now)).app }
+    requires { TUPLE * i + TUPLE ≤ length tuples.now }
+    ensures { result ≡ (tuple_in (drop (TUPLE * i) tuples.now)).app }
 {
-    u16::from_be_bytes([tuples[8 * i + 2], tuples[8 * i + 3]])
+    u16::from_be_bytes([tuples[TUPLE * i + 2], tuples[TUPLE * i + 3]])
 }
 
 /// Whether a block is wanted and has nothing found of it.
@@ -112,7 +113,7 @@ fn look_at_part<R: Rig>(
     let size = plan.script.block as usize;
     let at = start * size;
     let bytes = &mut seen.bytes[at..at + n * size];
-    let tuples = &mut seen.tuples[start * 8..start * 8 + n * 8];
+    let tuples = &mut seen.tuples[start * TUPLE..start * TUPLE + n * TUPLE];
     let found = &mut seen.found[start..start + n];
     read_pi_piece(alloc, plan, piece, bytes, tuples, found, used, rig)?;
     Ok(())
@@ -170,7 +171,7 @@ fn look<R: Rig>(
     let count = whole.n as usize;
     let mut seen = Seen {
         bytes: vec![in alloc; 0u8; count * plan.script.block as usize]?,
-        tuples: vec![in alloc; 0u8; count * 8]?,
+        tuples: vec![in alloc; 0u8; count * TUPLE]?,
         found: vec![in alloc; None; count]?,
     };
     look_at_parts(alloc, plan, whole, wanted, &mut seen, used, rig)?;
@@ -199,7 +200,7 @@ fn mend<R: Rig>(
     requires held { IsHeld plan.now.script.block whole.n from.now }
     ensures ran { HasRun plan.now used.old used.new (R.state rig.old) (R.state rig.new) (IsRepairOf plan.now.script plan.now.half)
         (λ runs. IfOk result (λ is_accepted. OneRun (write_script plan.now.script plan.now.half (record whole { n = 1; v = whole.v + i })
-        (tuple_in (drop (8 * i) from.now.tuples.items)).app (take plan.now.script.block (drop (i * plan.now.script.block) from.now.bytes.items)))
+        (tuple_in (drop (TUPLE * i) from.now.tuples.items)).app (take plan.now.script.block (drop (i * plan.now.script.block) from.now.bytes.items)))
         (λ r. is_accepted ≡ is_none (get_or (found_by 1 (replies_of r)) 0 None)) runs)) }
     ensures ready { CanRun plan.now used.new (R.state rig.new) }
 {

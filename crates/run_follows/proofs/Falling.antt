@@ -16,6 +16,7 @@ use Rattle.target_answer.specs.Target.{Stop}
 use Rattle.block_path.specs.Routes.{Device}
 use Rattle.run_follows.specs.Falls.{Falls, forgive, forgiven, left_of, none_falls, put_really, really, writes_of}
 use Rattle.run_follows.specs.FollowsFalling.{LeavesSized}
+use Rattle.run_follows.proofs.Recording.{same_numbers}
 use Rattle.run_follows.proofs.Forgiving.{AreFresh}
 
 abbrev label_at : (i k : ℕ) → Label
@@ -222,9 +223,6 @@ put_finds : (s : Site) (falls : Falls) (l : Label) (told es : List Sent) → is_
 put_finds s falls l [] es h = h
 put_finds s falls l (x ∷ told) es h =
     let e = stamped s es x.label x.dir x.dev x.lba (really (falls x.label) x.came) in put_finds s falls l told (es ++ (e ∷ [])) (find_more l es e h)
-
-same_numbers : (i k : ℕ) → (eqb i i && eqb k k) ≡ true
-same_numbers i k = rw (eq-eqb i i refl) (rw (eq-eqb k k refl) refl)
 
 -- of which nothing stands on record
 abbrev pub NoneStand : List Sent → List Block → Type 0

@@ -100,10 +100,10 @@ EachCame es [] cames = Unit {0}
 EachCame es (b ∷ bs) [] = Unit {0}
 EachCame es (b ∷ bs) (c ∷ cames) = (came_by es (label_of b) ≡ c) × EachCame es bs cames
 
-module _ (m : Setting) (n : ℕ) (ops : List Op) (a : Adapter) (ios : List Io) (logs : ℕ) where
-  same_numbers : (i k : ℕ) → (eqb i i && eqb k k) ≡ true
-  same_numbers i k = rw (eq-eqb i i refl) (rw (eq-eqb k k refl) refl)
+pub same_numbers : (i k : ℕ) → (eqb i i && eqb k k) ≡ true
+same_numbers i k = rw (eq-eqb i i refl) (rw (eq-eqb k k refl) refl)
 
+module _ (m : Setting) (n : ℕ) (ops : List Op) (a : Adapter) (ios : List Io) (logs : ℕ) where
   -- nothing stands on record of the blocks behind
   none_more : (b : Block) (c : Came) (why : Option Why) (status : ℕ → ℕ → Status) (es : List Sent) → NoneBefore status es → NoneBefore (with_status b.op b.k (Carried why) status) (es ++ (stamped m.site es (label_of b) b.dir b.dev b.lba c ∷ []))
   none_more b c why status es h i k e = by (eqb i b.op) (eqb k b.k) refl refl where

@@ -17,6 +17,8 @@ use Rattle.run_follows.specs.Sheets.{op_in, request_in}
 use Rattle.run_follows.specs.Requests.{requests_from}
 use Rattle.pi_tuple.specs.declared.TheConstants.{TUPLE, LARGEST_BLOCK}
 use Rattle.bio_core.specs.declared.TheConstants.{MOST_BLOCKS}
+use Rattle.dix_adapter.specs.declared.TheConstants.{MOST_OF_COMMAND}
+use Rattle.stack_steps.specs.declared.TheConstants.{MOST_OPS, MOST_PAGES}
 
 -- data of n blocks of this size, whose blocks are the volume's
 pub record IsData (pool : List (List ℕ)) (bytes len v n : ℕ) (body : List Seg) : Type 0 where
@@ -52,12 +54,12 @@ IsOp dix pool bytes len Wait = Unit {0}
 -- Few ops of few blocks, each within the pages and the volume, whose table was made for at most eight devices with blocks of this size.
 pub record CanStart (table : Table) (dix : Bool) (protect : ℕ) (limits : Limits) (pages : ℕ) (pool : List (List ℕ)) (ops : List Op) : Type 0 where
   pub pool_is : length pool ≡ pages
-  pub few_pages : pages ≤ 65536
-  pub few_ops : length ops ≤ 4096
+  pub few_pages : pages ≤ MOST_PAGES
+  pub few_ops : length ops ≤ MOST_OPS
   pub few_blocks : blocks_of_requests (map request_in (requests_from dix pages ops)) ≤ MOST_BLOCKS
   pub protect_is : IsProtect protect
   pub some_blocks : 1 ≤ limits.max_blocks
-  pub most_blocks : limits.max_blocks ≤ 1048576
+  pub most_blocks : limits.max_blocks ≤ MOST_OF_COMMAND
   pub bytes : ℕ
   pub some_bytes : 1 ≤ bytes
   pub few_bytes : bytes ≤ LARGEST_BLOCK

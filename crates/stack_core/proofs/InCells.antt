@@ -59,15 +59,15 @@ zeros-over d t y m z cells s u l = ap (scatter t z) (scatter_past d t y m cells 
 
 -- ---- one block
 
-module _ (old : List (List ℕ)) (io : Io) (pi : Payload) (k : ℕ) (h : HasFrames old io pi) (there : k < io.count) where
-  long-data : k * block_size io + block_size io ≤ total io.body
-  long-data = let e : 1 * block_size io ≡ block_size io = omega arith in let f = blocks_fit k 1 io.count (total io.body) (block_size io) (omega arith) refl in omega arith
+long-data : (io : Io) (k : ℕ) → k < io.count → k * block_size io + block_size io ≤ total io.body
+long-data io k there = let e : 1 * block_size io ≡ block_size io = omega arith in let f = blocks_fit k 1 io.count (total io.body) (block_size io) (omega (arith, there)) refl in omega (arith, e, f)
 
+length-data : (io : Io) (k : ℕ) → k < io.count → length (data_cells io k) ≡ block_size io
+length-data io k there = length-map (range_of io.body (k * block_size io) (block_size io)) cell ∙ length-range io.body (k * block_size io) (block_size io) (long-data io k there)
+
+module _ (old : List (List ℕ)) (io : Io) (pi : Payload) (k : ℕ) (h : HasFrames old io pi) (there : k < io.count) where
   long-place : 8 * k + 8 ≤ total pi.tuples
   long-place = let e = h.long in omega arith
-
-  length-data : length (data_cells io k) ≡ block_size io
-  length-data = length-map (range_of io.body (k * block_size io) (block_size io)) cell ∙ length-range io.body (k * block_size io) (block_size io) long-data
 
   length-tuple : length (tuple_at pi k) ≡ 8
   length-tuple = length-map (tuple_places pi.tuples k) cell ∙ length-range pi.tuples (8 * k) 8 long-place
@@ -87,7 +87,7 @@ module _ (old : List (List ℕ)) (io : Io) (pi : Payload) (k : ℕ) (h : HasFram
   length-frame =
       let a = gather_length 0 (data_cells io k ++ tuple_at pi k) (flat old) in
       let b = length-append (data_cells io k) (tuple_at pi k) in
-      let c = length-data in
+      let c = length-data io k there in
       let d = length-tuple in
       omega arith
 
@@ -117,7 +117,7 @@ module _ (old : List (List ℕ)) (io : Io) (pi : Payload) (k : ℕ) (h : HasFram
       let lie = all_lie-same old b.between pi.tuples b.body.others.pages h.lie in
       let t : Wrote b.between new (tuple_places pi.tuples k) (replicate 8 0) = subst (λ o. TupleBlanked o k b.between new) h.is b.tuple in
       let v = wrote-cells b.between new (tuple_places pi.tuples k) (replicate 8 0) whole (range_stands b.between pi.tuples (8 * k) 8 lie) t in
-      let s = scatter-append (data_cells io k) (tuple_at pi k) (replicate (block_size io) 0) (replicate 8 0) (flat old) (length-replicate {A = ℕ} (block_size io) 0 ∙ sym length-data) in
+      let s = scatter-append (data_cells io k) (tuple_at pi k) (replicate (block_size io) 0) (replicate 8 0) (flat old) (length-replicate {A = ℕ} (block_size io) 0 ∙ sym (length-data io k there)) in
       let r : zeros (block_size io) ++ zeros 8 ≡ zeros (block_size io + 8) = replicate-append-replicate (block_size io) 8 0 in
       v ∙ ap (scatter (tuple_at pi k) (replicate 8 0)) w ∙ sym s ∙ ap (λ z. scatter (data_cells io k ++ tuple_at pi k) z (flat old)) r
 
@@ -126,7 +126,7 @@ module _ (old : List (List ℕ)) (io : Io) (pi : Payload) (k : ℕ) (h : HasFram
   forget m l =
       let at = data_cells io k ++ tuple_at pi k in
       let r : zeros (block_size io) ++ zeros 8 ≡ zeros (block_size io + 8) = replicate-append-replicate (block_size io) 8 0 in
-      let n = length-replicate {A = ℕ} (block_size io) 0 ∙ sym length-data in
+      let n = length-replicate {A = ℕ} (block_size io) 0 ∙ sym (length-data io k there) in
       ap (λ z. scatter at z (scatter (tuple_at pi k) m (flat old))) (sym r)
       ∙ scatter-append (data_cells io k) (tuple_at pi k) (replicate (block_size io) 0) (replicate 8 0) (scatter (tuple_at pi k) m (flat old)) n
       ∙ zeros-over (data_cells io k) (tuple_at pi k) (replicate (block_size io) 0) m (replicate 8 0) (flat old) share apart-tuple (omega (arith, length-replicate {A = ℕ} 8 0))
@@ -169,7 +169,7 @@ module _ (old : List (List ℕ)) (io : Io) (pi : Payload) (k : ℕ) (h : HasFram
   asked bytes tuple = finding (host_type ty) (all_asked mode.app mode.mask) (ref_tag (io.first + k)) (guard_of mode.kind bytes) (tuple_in tuple)
 
   long-body : length body ≡ block_size io
-  long-body = gather_length 0 (data_cells io k) (flat old) ∙ length-data old io pi k h there
+  long-body = gather_length 0 (data_cells io k) (flat old) ∙ length-data io k there
 
   back-is : mapped_back way (gather 0 to (flat old)) ≡ body ++ mapped
   back-is =
@@ -253,19 +253,13 @@ module _ (old : List (List ℕ)) (io : Io) (k : ℕ) (none : io.pi ≡ None) (wh
   abbrev bare : Route
   bare = route_to label dev ty mode io k lba
 
-  long-bare : length (data_cells io k) ≡ block_size io
-  long-bare =
-      let e : 1 * block_size io ≡ block_size io = omega arith in
-      let f = blocks_fit k 1 io.count (total io.body) (block_size io) (omega arith) refl in
-      length-map (range_of io.body (k * block_size io) (block_size io)) cell ∙ length-range io.body (k * block_size io) (block_size io) (omega arith)
-
   bare-blanked : (between new : List (List ℕ)) → between ≡ old → Blanked io k between new → flat new ≡ scatter (data_cells io k) (replicate (length (gather 0 (data_cells io k) (flat old))) 0) (flat old)
   bare-blanked between new e b =
       let c : Blanked io k old new = subst (λ p. Blanked io k p new) e b in
       let p = range_of io.body (k * block_size io) (block_size io) in
       let w = wrote-cells old c.between p (zeros (block_size io)) whole (range_stands old io.body (k * block_size io) (block_size io) lies) c.body in
       let t : new ≡ c.between = subst (λ o. TupleBlanked o k c.between new) none c.tuple in
-      ap flat t ∙ w ∙ ap (λ n. scatter (data_cells io k) (zeros n) (flat old)) (sym (gather_length 0 (data_cells io k) (flat old) ∙ long-bare))
+      ap flat t ∙ w ∙ ap (λ n. scatter (data_cells io k) (zeros n) (flat old)) (sym (gather_length 0 (data_cells io k) (flat old) ∙ (length-data io k there)))
 
   bare-cells : (fate : Fate) (new : List (List ℕ)) (result : Fate) → (fate ≡ Untouched → ⊥) → ReadSettled mode (host_type ty) io k lba fate old new result →
       (flat new ≡ scatter (data_cells io k) (settled_by bare owner (why_of fate) (gather 0 (data_cells io k) (flat old))).written.bytes (flat old))

@@ -103,8 +103,8 @@ head-device : (p : Plan) (d : ℕ) (g : List Bio) → HasBlocks g → IsGroup p 
 head-device p d [] h i = absurd (omega arith)
 head-device p d (b ∷ bs) h i = (All-head (Named p d) b bs i.named).on
 
--- what the adapter asks of the group that is sent
-pub record CanCarry (s : Stack) (d i : ℕ) (group : List Bio) (st : Standing) (room : Room) : Type 0 where
+-- what is known of the group that is sent: all that the adapter asks of it, and where it comes from
+pub record IsSentGroup (s : Stack) (d i : ℕ) (group : List Bio) (st : Standing) (room : Room) : Type 0 where
   pub bytes : ℕ
   pub fits : Carry.IsGroup s.adapter s.pool bytes s.sheet.ios.items group
   pub most : Carry.size group ≤ s.sheet.limits.max_blocks
@@ -115,7 +115,7 @@ pub record CanCarry (s : Stack) (d i : ℕ) (group : List Bio) (st : Standing) (
   pub device : (Carry.first_of group).dev < st.devices
   pub spare : HasRoom (greatest_size st) 1 (Carry.size group) room
 
-pub can-carry : (s : Stack) (d i : ℕ) (group : List Bio) (m : Machine) (told : Bool) (st : Standing) (room : Room) → IsStack s → HasSpare s st room → Reaches s told st → Ready (plan_in s.sheet) s.machine (Send d i) → Takes (plan_in s.sheet) s.machine d i group m → CanCarry s d i group st room
+pub can-carry : (s : Stack) (d i : ℕ) (group : List Bio) (m : Machine) (told : Bool) (st : Standing) (room : Room) → IsStack s → HasSpare s st room → Reaches s told st → Ready (plan_in s.sheet) s.machine (Send d i) → Takes (plan_in s.sheet) s.machine d i group m → IsSentGroup s d i group st room
 can-carry s d i group m told st room k sp re rd tk =
     let p = plan_in s.sheet in
     let v = sp.view in

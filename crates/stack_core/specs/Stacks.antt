@@ -33,6 +33,7 @@ use Rattle.run_follows.specs.Settling.{AreAllWhole, AreFates}
 use Rattle.stack_core.specs.Replies.{HoldsBad}
 use Rattle.stack_core.specs.Doing.{CanDo, CanReach}
 use Rattle.pi_tuple.specs.declared.TheConstants.{LARGEST_BLOCK}
+use Rattle.dix_adapter.specs.declared.TheConstants.{MOST_OF_COMMAND}
 
 abbrev pub plan_in : Sheet → Plan
 plan_in s = plan_of s.ops s.shifted.items s.ios.items s.table s.limits s.devices
@@ -57,7 +58,7 @@ pub record AreRooms (pool : List (List ℕ)) (ops : List Op) (ios : List Io) (ro
 pub record IsFixed (sheet : Sheet) (adapter : Adapter) : Type 0 where
   pub ops : length sheet.ops ≡ length sheet.ios.items
   pub protect : IsProtect adapter.protect
-  pub few : sheet.limits.max_blocks ≤ 1048576
+  pub few : sheet.limits.max_blocks ≤ MOST_OF_COMMAND
   pub bytes : ℕ
   pub uniform : AreUniform adapter.dix bytes sheet.ios.items
 

@@ -9,6 +9,7 @@ ghost use Rattle.bio_core.specs.declared.TheConstants.{MOST_BLOCKS};
 use bio_core::{Dir, Io};
 use integrity_payload::{Owner, Payload};
 use page_pool::{PAGE, Seg, SgList};
+use pi_tuple::TUPLE;
 use smallvec::SmallVec;
 use stack_ops::Op;
 use std::alloc::{AllocError, Global};
@@ -62,7 +63,7 @@ fn tuple_page(page: u32, count: u32, i: u32) -> Seg
     Seg {
         page: page + i,
         off: 0,
-        len: (8 * (count - TUPLES * i)).min(PAGE),
+        len: (TUPLE as u32 * (count - TUPLES * i)).min(PAGE),
     }
 }
 

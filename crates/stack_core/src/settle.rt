@@ -18,7 +18,7 @@ use bio_core::{Bio, Dir, Fate, Io, Why};
 use dix_adapter::Mode;
 use integrity_payload::{Owner, Payload};
 use page_pool::{PagePool, SgList};
-use pi_tuple::{Check, PiType};
+use pi_tuple::{Check, PiType, TUPLE};
 use ref_remap::map_back;
 
 /// A block of a read whose tuple its owner found at fault.
@@ -73,13 +73,13 @@ fn blank_tuple(pool: &mut PagePool, io: &Io, k: u32)
 fn zero_tuple(pool: &mut PagePool, tuples: &SgList, k: u32)
     requires lie { AllLieIn pool.old tuples.now }
     requires once { NoneTwice (places_in tuples.now) }
-    requires within { 8 * k + 8 ≤ total tuples.now }
+    requires within { TUPLE * k + TUPLE ≤ total tuples.now }
     ensures pages { length pool.new ≡ length pool.old }
-    ensures zeros { Wrote pool.old pool.new (tuple_places tuples.now k) (replicate 8 0) }
+    ensures zeros { Wrote pool.old pool.new (tuple_places tuples.now k) (replicate TUPLE 0) }
 {
     // The list's bytes are known to be few once it was looked at.
     let _segs = tuples.as_slice();
-    pool.zero(tuples, 8 * k, 8);
+    pool.zero(tuples, TUPLE as u32 * k, TUPLE as u32);
 }
 
 /// Zeros the data of a block of a read that failed, and its tuple.

@@ -11,6 +11,7 @@ ghost use Rattle.pi_tuple.specs.declared.TheConstants.{LARGEST_BLOCK};
 use bio_core::{Dir, Io};
 use merge_queue::Limits;
 use page_pool::SgList;
+use pi_tuple::TUPLE;
 use stack_ops::{Op, OpList};
 use stack_steps::{Requests, Site};
 use volume_table::VolumeTable;
@@ -114,11 +115,11 @@ fn data_segs_of(io: &Io, k: u32, n: u32) -> u32
 }
 
 fn tuple_segs_of(tuples: &SgList, k: u32, n: u32) -> u32
-    requires { 8 * (k + n) ≤ total tuples.now }
-    ensures { result ≡ length (cut tuples.now (8 * k) (8 * n)) }
+    requires { TUPLE * (k + n) ≤ total tuples.now }
+    ensures { result ≡ length (cut tuples.now (TUPLE * k) (TUPLE * n)) }
 {
     let _segs = tuples.as_slice();
-    tuples.segs_in(8 * k, 8 * n)
+    tuples.segs_in(TUPLE as u32 * k, TUPLE as u32 * n)
 }
 
 /// One more than the greatest device on which a block of a request lies.

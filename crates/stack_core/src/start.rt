@@ -12,6 +12,7 @@ ghost use Rattle.stack_core.specs.Stacks.{IsStack, plan_in, room_at};
 ghost use Rattle.stack_core.specs.NewStacks.{FollowsAtFirst, IsNewStack, IsSetUp};
 ghost use Rattle.run_follows.specs.Starting.{CanStart};
 ghost use Rattle.bio_core.specs.declared.TheConstants.{MOST_BLOCKS};
+ghost use Rattle.stack_steps.specs.declared.TheConstants.{MOST_OPS, MOST_PAGES};
 
 use crate::kept::{Fates, Room, room_for};
 use crate::requests::{own_blocks, pages_for, request_of};
@@ -49,7 +50,7 @@ fn mark(shifted: &mut Vec<bool>, line: &FaultLine)
 
 /// Whether a line shifts each op.
 fn shifted_ops(alloc: Global, n: u32, faults: &[FaultLine]) -> Result<Vec<bool>, AllocError>
-    requires { n ≤ 4096 }
+    requires { n ≤ MOST_OPS }
     ensures { IfOk result (λ v. v.items ≡ shifted_by faults.now n) }
 {
     let mut shifted = vec![in alloc; false; n as usize]?;
@@ -93,9 +94,9 @@ fn page_after(dix: bool, page: u32, op: &Op) -> u32
 
 /// The requests of the ops; those whose tuples the block layer makes have them behind the first pages.
 fn requests(alloc: Global, ops: &[Op], dix: bool, pages: u32) -> Result<(Vec<Io>, u32), AllocError>
-    requires few { length ops.now ≤ 4096 }
+    requires few { length ops.now ≤ MOST_OPS }
     requires blocks { (i : ℕ) → i < length ops.now → own_blocks (op_in ops.now i) ≤ MOST_BLOCKS }
-    requires pages { pages ≤ 65536 }
+    requires pages { pages ≤ MOST_PAGES }
     ensures ios { IfOk result (λ r. r.0.items ≡ requests_from dix pages ops.now) }
     ensures pages { IfOk result (λ r. r.1 ≡ pages_from dix pages ops.now) }
 {

@@ -17,3 +17,9 @@ mod steps;
 pub use choice::Choice;
 pub use machine::Machine;
 pub use requests::{Requests, Site};
+
+/// The most ops of a run.
+pub const MOST_OPS: u32 = 4096;
+
+/// The most pages that the ops of a run name.
+pub const MOST_PAGES: u32 = 65_536;
