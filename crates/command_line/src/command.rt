@@ -7,8 +7,7 @@ ghost use Rattle.command_line.specs.Grammar.{big_of, big_with, command_by, comma
 
 use pi_tuple::PiType;
 use script_words::number;
-use target_answer::is_layout;
-use unit_words::{UnitList, is_name, type_of, units_of};
+use unit_words::{UnitList, is_name, laid_out, type_of};
 
 /// A command of the program. Those that work on an image name it by their second word.
 #[derive(Drop)]
@@ -63,15 +62,7 @@ fn on_image(command: Command, words: &[String]) -> Option<Command>
 fn format_with(words: &[String]) -> Option<Command>
     ensures { result ≡ format_with (units_in (word_bytes words.now)) }
 {
-    if words.len() > 8 {
-        return None;
-    }
-    let units = units_of(words)?;
-    if is_layout(&units) {
-        Some(Command::Format(UnitList::from_array(units)))
-    } else {
-        None
-    }
+    Some(Command::Format(laid_out(words)?))
 }
 
 /// `IMAGE T:BLOCKS ..` behind `format`.

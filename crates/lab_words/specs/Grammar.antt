@@ -1,15 +1,14 @@
 use Rattle.std.specs.Prelude.{ℕ, eqb, if◌then◌else◌, List, [], ◌∷◌, codes, Option, Some, None}
 use Rattle.std.specs.Str.{bytes_eq}
-use Rattle.target_answer.specs.Headers.{is_layout}
 use Rattle.target_answer.specs.declared.units.UnitSpec.{UnitSpec}
-use Rattle.unit_words.specs.Words.{is_name, units_in}
+use Rattle.unit_words.specs.Words.{is_name, laid_out, units_in}
 use Rattle.script_words.specs.Hexes.{byte_in}
 use Rattle.lab_words.specs.Layouts.{layout_in}
 use Rattle.lab_words.specs.Places.{place_in}
 use Rattle.lab_words.specs.declared.command.Command.{Command}
 use Rattle.lab_words.specs.declared.command.Command.TheVariants.{Help, Version, ShowUnits, ShowBlocks, Diff, Export, Import, Vectors, Judge, Explain, Sweep}
 use Rattle.lab_words.specs.declared.layout.Layout.{Layout}
-use Rattle.lab_words.specs.declared.place.Place.{Place}
+use Rattle.lab_words.specs.declared.place.PlaceWord.{PlaceWord}
 
 -- The grammar of the program's words. Names of images, numbers and units are those of `dix`.
 
@@ -29,10 +28,10 @@ behind_image (image ∷ words) = if is_name image then Some words else None
 
 -- a place, and the words behind it
 pub record PlaceAhead : Type 0 where
-  pub place : Place
+  pub place : PlaceWord
   pub rest : List (List ℕ)
 
-abbrev pub ahead_of : Option Place → List (List ℕ) → Option PlaceAhead
+abbrev pub ahead_of : Option PlaceWord → List (List ℕ) → Option PlaceAhead
 ahead_of None words = None
 ahead_of (Some place) words = Some (record { place = place; rest = words })
 
@@ -54,19 +53,19 @@ layout_alone [] = None
 layout_alone (word ∷ []) = layout_in word
 layout_alone (word ∷ more ∷ words) = None
 
-abbrev pub laid_by : Place → Option Layout → Option (Place × Layout)
+abbrev pub laid_by : PlaceWord → Option Layout → Option (PlaceWord × Layout)
 laid_by place None = None
 laid_by place (Some layout) = Some (place, layout)
 
-abbrev pub laid_ahead : Option PlaceAhead → Option (Place × Layout)
+abbrev pub laid_ahead : Option PlaceAhead → Option (PlaceWord × Layout)
 laid_ahead None = None
 laid_ahead (Some a) = laid_by a.place (layout_alone a.rest)
 
 -- IMAGE PLACE LAYOUT
-abbrev pub laid_in : List (List ℕ) → Option (Place × Layout)
+abbrev pub laid_in : List (List ℕ) → Option (PlaceWord × Layout)
 laid_in words = laid_ahead (image_and_place words)
 
-abbrev pub shown_at : Option Place → List (List ℕ) → Option Command
+abbrev pub shown_at : Option PlaceWord → List (List ℕ) → Option Command
 shown_at None words = None
 shown_at (Some place) words = alone (ShowBlocks place) words
 
@@ -83,7 +82,7 @@ shown_behind (Some words) = shown words
 abbrev pub show_of : List (List ℕ) → Option Command
 show_of words = shown_behind (behind_image words)
 
-abbrev pub diff_with : Place → Option PlaceAhead → Option Command
+abbrev pub diff_with : PlaceWord → Option PlaceAhead → Option Command
 diff_with one None = None
 diff_with one (Some a) = alone (Diff one a.place) a.rest
 
@@ -95,14 +94,14 @@ diff_ahead (Some a) = diff_with a.place (image_and_place a.rest)
 abbrev pub diff_of : List (List ℕ) → Option Command
 diff_of words = diff_ahead (image_and_place words)
 
-abbrev pub exported : Option (Place × Layout) → Option Command
+abbrev pub exported : Option (PlaceWord × Layout) → Option Command
 exported None = None
 exported (Some p) = Some (Export p.0 p.1)
 
 abbrev pub export_of : List (List ℕ) → Option Command
 export_of words = exported (laid_in words)
 
-abbrev pub imported : Option (Place × Layout) → Option Command
+abbrev pub imported : Option (PlaceWord × Layout) → Option Command
 imported None = None
 imported (Some p) = Some (Import p.0 p.1)
 
@@ -125,11 +124,6 @@ unless_zero (Some b) = if eqb b 0 then None else Some b
 -- BYTE: two hexadecimal digits, not 00
 abbrev pub flip_in : List ℕ → Option ℕ
 flip_in word = unless_zero (byte_in word)
-
--- units that an image may have
-abbrev pub laid_out : Option (List UnitSpec) → Option (List UnitSpec)
-laid_out None = None
-laid_out (Some us) = if is_layout us then Some us else None
 
 abbrev pub sweep_with : Option ℕ → Option (List UnitSpec) → Option Command
 sweep_with None us = None

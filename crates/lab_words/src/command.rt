@@ -6,10 +6,9 @@ ghost use Rattle.unit_words.specs.Words.{word_bytes};
 ghost use Rattle.lab_words.specs.Grammar.{alone, behind_image, command_by, command_in, diff_of, explain_of, export_of, flip_in, image_and_place, import_of, laid_in, layout_alone, show_of, shown, sweep_of, vectors_of};
 
 use crate::layout::{Layout, layout_of};
-use crate::ordered::laid_out;
-use crate::place::{Place, place_of};
+use crate::place::{PlaceWord, place_of};
 use script_words::byte;
-use unit_words::{UnitList, is_name};
+use unit_words::{UnitList, is_name, laid_out};
 
 /// A command of the program. Those that work on an image name it by the word behind their own, and
 /// `diff` its second one by the word behind the first place.
@@ -22,13 +21,13 @@ pub enum Command {
     /// `show IMAGE`: writes the image's units.
     ShowUnits,
     /// `show IMAGE PLACE`: writes the tuple that each stored block has and the one that it should have.
-    ShowBlocks(Place),
+    ShowBlocks(PlaceWord),
     /// `diff IMAGE PLACE IMAGE PLACE`: compares two places block by block.
-    Diff { one: Place, other: Place },
+    Diff { one: PlaceWord, other: PlaceWord },
     /// `export IMAGE PLACE LAYOUT`: writes the blocks there to standard output.
-    Export { place: Place, layout: Layout },
+    Export { place: PlaceWord, layout: Layout },
     /// `import IMAGE PLACE LAYOUT`: puts standard input in their place.
-    Import { place: Place, layout: Layout },
+    Import { place: PlaceWord, layout: Layout },
     /// `vectors IMAGE`: does a script, or a list of commands, and writes its vectors.
     Vectors,
     /// `explain`: judges a script.
@@ -65,7 +64,7 @@ fn behind_image(words: &[String]) -> Option<&[String]>
 }
 
 /// IMAGE PLACE, and the words behind them.
-fn image_and_place(words: &[String]) -> Option<(Place, &[String])>
+fn image_and_place(words: &[String]) -> Option<(PlaceWord, &[String])>
     ensures some { IfSome result (λ p. image_and_place (word_bytes words.now) ≡ Some (record { place = p.0; rest = word_bytes p.1.now })) }
     ensures none { IfNone result (image_and_place (word_bytes words.now) ≡ None) }
 {
@@ -87,7 +86,7 @@ fn layout_alone(words: &[String]) -> Option<Layout>
 }
 
 /// IMAGE PLACE LAYOUT.
-fn laid(words: &[String]) -> Option<(Place, Layout)>
+fn laid(words: &[String]) -> Option<(PlaceWord, Layout)>
     ensures { result ≡ laid_in (word_bytes words.now) }
 {
     let (place, rest) = image_and_place(words)?;

@@ -3,9 +3,11 @@
 
 mod command;
 mod layout;
-mod ordered;
 mod place;
 
 pub use command::{Command, command_of};
 pub use layout::{Layout, layout_of};
-pub use place::{Place, place_of};
+pub use place::{PlaceWord, place_of};
+
+/// The most blocks of a place.
+pub const MOST_COUNT: u64 = 65_536;

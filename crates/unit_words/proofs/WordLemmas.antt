@@ -1,9 +1,12 @@
 -- How many words there are, and how many units in them.
-use Rattle.std.proofs.Common.{ℕ, ◌≡◌, ◌<◌, suc, List, [], ◌∷◌, ◌++◌, length, Option, Some, None, refl, ap, ◌∙◌, arith}
+use Rattle.std.proofs.Common.{ℕ, ◌≡◌, ◌<◌, suc, false, leb, List, [], ◌∷◌, ◌++◌, length, Option, Some, None, refl, ap, ◌∙◌, arith}
 use Rattle.std.specs.Prelude.{String}
+use Rattle.std.specs.List.{list_all}
+use Rattle.target_answer.specs.Headers.{is_layout, is_spec}
 use Rattle.target_answer.specs.declared.units.UnitSpec.{UnitSpec}
 use Rattle.unit_words.specs.Units.{unit_in}
-use Rattle.unit_words.specs.Words.{image_in, units_in, with_unit, word_bytes}
+use Rattle.unit_words.specs.Words.{image_in, laid_out, units_in, with_unit, word_bytes}
+use Rattle.small_laws.proofs.Tests.{second_no}
 
 -- the units so far, with those that follow
 abbrev pub joined : List UnitSpec → Option (List UnitSpec) → Option (List UnitSpec)
@@ -28,3 +31,15 @@ pub no_second : {Z : Type 0} (ws : List (String Z)) → length ws < 2 → [] ≡
 no_second [] h = refl
 no_second (a ∷ []) h = refl
 no_second (a ∷ b ∷ ws) h = absurd (omega arith)
+
+none_fits : (x : Option (List UnitSpec)) (n : ℕ) → 8 < n → ((us : List UnitSpec) → x ≡ Some us → length us ≡ n) → laid_out x ≡ None
+none_fits None n h f = refl
+none_fits (Some us) n h f =
+    let l : length us ≡ n = f us refl in
+    let k : leb (length us) 8 ≡ false = grind arith in
+    let no : is_layout us ≡ false = second_no (leb 1 (length us)) (leb (length us) 8) (list_all is_spec us) k in
+    rw no refl
+
+-- more than eight words order no image
+pub too_many : {Z : Type 0} (ws : List (String Z)) → 8 < length ws → laid_out (units_in (word_bytes ws)) ≡ None
+too_many ws h = none_fits (units_in (word_bytes ws)) (length ws) h (λ us e. as_many (word_bytes ws) us e ∙ bytes_length ws)

@@ -1,5 +1,6 @@
 -- Words as bytes, names of images, and units in a row.
-use Rattle.std.specs.Prelude.{ℕ, Bool, false, not, eqb, List, [], ◌∷◌, String, string_bytes, Option, Some, None}
+use Rattle.std.specs.Prelude.{ℕ, Bool, false, not, eqb, if◌then◌else◌, List, [], ◌∷◌, String, string_bytes, Option, Some, None}
+use Rattle.target_answer.specs.Headers.{is_layout}
 use Rattle.target_answer.specs.declared.units.UnitSpec.{UnitSpec}
 use Rattle.unit_words.specs.Units.{unit_in}
 
@@ -22,6 +23,11 @@ with_unit (Some u) (Some us) = Some (u ∷ us)
 abbrev pub units_in : List (List ℕ) → Option (List UnitSpec)
 units_in [] = Some []
 units_in (w ∷ ws) = with_unit (unit_in w) (units_in ws)
+
+-- units that an image may have
+abbrev pub laid_out : Option (List UnitSpec) → Option (List UnitSpec)
+laid_out None = None
+laid_out (Some us) = if is_layout us then Some us else None
 
 -- the second word, which names the image of a command that works on one
 abbrev pub image_in : List (List ℕ) → List ℕ

@@ -7,4 +7,4 @@ mod words;
 
 pub use unit::{type_of, unit_of};
 pub use unit_list::UnitList;
-pub use words::{image_of, is_name, units_of};
+pub use words::{image_of, is_name, laid_out};

@@ -3,7 +3,7 @@
 ghost use Rattle.std.specs.Prelude.{◌≡◌};
 ghost use Rattle.unit_words.specs.Units.{spec_of, type_in, type_numbered, unit_in};
 
-use pi_tuple::PiType;
+use pi_tuple::{LARGEST_BLOCK, PiType};
 use script_words::{number, split_once};
 use target_answer::{UnitSpec, is_spec};
 
@@ -39,7 +39,7 @@ fn spec(
     let blocks = blocks?;
     let size = size?;
     let first = first?;
-    if size > 4096 {
+    if size > u64::from(LARGEST_BLOCK) {
         return None;
     }
     let unit = UnitSpec {

@@ -1,11 +1,12 @@
 //! Words that name an image, and words of units.
 
 ghost use Rattle.std.specs.Prelude.{◌≡◌, ◌≤◌, length, option_map, string_bytes};
-ghost use Rattle.unit_words.specs.Words.{image_in, is_name, units_in, word_bytes};
+ghost use Rattle.unit_words.specs.Words.{image_in, is_name, laid_out, units_in, word_bytes};
 
+use crate::UnitList;
 use crate::unit::unit_of;
 use arrayvec::ArrayVec;
-use target_answer::UnitSpec;
+use target_answer::{UnitSpec, is_layout};
 
 /// Whether the word names an image: it isn't empty and doesn't begin with a hyphen.
 pub fn is_name(word: &String) -> bool
@@ -18,7 +19,7 @@ pub fn is_name(word: &String) -> bool
 }
 
 /// The units that at most eight words order.
-pub fn units_of(words: &[String]) -> Option<ArrayVec<UnitSpec, 8>>
+fn units_of(words: &[String]) -> Option<ArrayVec<UnitSpec, 8>>
     requires { length words.now ≤ 8 }
     ensures { option_map (λ v. v.items) result ≡ units_in (word_bytes words.now) }
 {
@@ -31,6 +32,21 @@ pub fn units_of(words: &[String]) -> Option<ArrayVec<UnitSpec, 8>>
         }
     }
     Some(units)
+}
+
+/// The units of words, where an image may have them: 1 to 8 of them.
+pub fn laid_out(words: &[String]) -> Option<UnitList>
+    ensures { option_map (λ v. v) result ≡ laid_out (units_in (word_bytes words.now)) }
+{
+    if words.len() > 8 {
+        return None;
+    }
+    let units = units_of(words)?;
+    if is_layout(&units) {
+        Some(UnitList::from_array(units))
+    } else {
+        None
+    }
 }
 
 /// The image that the words of a command name: the second of them, or nothing where they are fewer.
