@@ -15,8 +15,8 @@ use Rattle.image_blocks.specs.Blocks.{HasBlocks, blocks_of}
 use Rattle.image_blocks.specs.Places.{IsStretch, behind_in, front_in, spec_of}
 use Rattle.image_walk.proofs.Walks.{behind_is}
 use Rattle.image_blocks.proofs.Stretches.{has_both, has_none, has_some}
-use Rattle.image_dumps.specs.declared.fault.DumpFault.{DumpFault}
-use Rattle.image_dumps.specs.declared.fault.DumpFault.TheVariants.{Store, Sink}
+use Rattle.image_walk.specs.declared.fault.WalkFault.{WalkFault}
+use Rattle.image_walk.specs.declared.fault.WalkFault.TheVariants.{Store, Sink}
 use Rattle.image_dumps.specs.declared.layout.Layout.{Layout}
 use Rattle.image_dumps.specs.declared.layout.Layout.TheVariants.{Interleaved}
 use Rattle.image_dumps.specs.Dumps.{dump_of, piece_of}
@@ -117,13 +117,13 @@ none_dumped layout us s len image x y h z t e =
     record { blocks = r.0; has = r.1; written = (0, subst (λ v. Appended [] x v) (sym e) (appended_none x)) }
 
 -- What ended the dump of a part ends that of the whole.
-pub passed_on : (X Y : Type 0) (e : DumpFault) (layout : Layout) (us : List UnitSpec) (a b : Stretch) (image was : Option (List ℕ)) (o o' n p p' q : ℕ) (mid old new : Option (List ℕ)) → image ≡ was → o ≤ o' → p ≤ p' →
+pub passed_on : (X Y : Type 0) (e : WalkFault) (layout : Layout) (us : List UnitSpec) (a b : Stretch) (image was : Option (List ℕ)) (o o' n p p' q : ℕ) (mid old new : Option (List ℕ)) → image ≡ was → o ≤ o' → p ≤ p' →
     (HasDumpedSome layout us a was mid new → HasDumpedSome layout us b was old new) → DumpEnds {X = X} (Err e) layout us a image o' n p' q mid new → DumpEnds {X = Y} (Err e) layout us b was o n p q old new
 passed_on X Y Store layout us a b image was o o' n p p' q mid old new i h k f r = (rise o o' n h r.0, f (subst (λ v. HasDumpedSome layout us a v mid new) i r.1))
 passed_on X Y Sink layout us a b image was o o' n p p' q mid old new i h k f r = (rise p p' q k r.0, f (subst (λ v. HasDumpedSome layout us a v mid new) i r.1))
 
 -- however it ended, the beginning was written
-pub some_ended : {X : Type 0} (r : Result X DumpFault) (layout : Layout) (us : List UnitSpec) (s : Stretch) (image : Option (List ℕ)) (o n p q : ℕ) (x y z : Option (List ℕ)) → z ≡ y → DumpEnds r layout us s image o n p q x y → HasDumpedSome layout us s image x z
+pub some_ended : {X : Type 0} (r : Result X WalkFault) (layout : Layout) (us : List UnitSpec) (s : Stretch) (image : Option (List ℕ)) (o n p q : ℕ) (x y z : Option (List ℕ)) → z ≡ y → DumpEnds r layout us s image o n p q x y → HasDumpedSome layout us s image x z
 some_ended (Ok v) layout us s image o n p q x y z e h = record { blocks = h.blocks; has = h.has; written = whole_is_part (dump_in layout us s h.blocks) x y z h.written e }
 some_ended (Err Store) layout us s image o n p q x y z e h = subst (λ v. HasDumpedSome layout us s image x v) (sym e) h.1
 some_ended (Err Sink) layout us s image o n p q x y z e h = subst (λ v. HasDumpedSome layout us s image x v) (sym e) h.1

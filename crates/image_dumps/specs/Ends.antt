@@ -12,8 +12,8 @@ use Rattle.image_blocks.specs.Blocks.{HasBlocks, blocks_at, blocks_of, with_stre
 use Rattle.image_blocks.specs.Places.{IsStretch, spec_of}
 use Rattle.image_dumps.specs.declared.layout.Layout.{Layout}
 use Rattle.image_dumps.specs.declared.layout.Layout.TheVariants.{Interleaved, Plain, Tuples}
-use Rattle.image_dumps.specs.declared.fault.DumpFault.{DumpFault}
-use Rattle.image_dumps.specs.declared.fault.DumpFault.TheVariants as dump
+use Rattle.image_walk.specs.declared.fault.WalkFault.{WalkFault}
+use Rattle.image_walk.specs.declared.fault.WalkFault.TheVariants as dump
 use Rattle.image_dumps.specs.declared.fault.ImportFault.{ImportFault}
 use Rattle.image_dumps.specs.declared.fault.ImportFault.TheVariants as import
 use Rattle.image_dumps.specs.Dumps.{dump_of, fits, imported, piece_len}
@@ -37,7 +37,7 @@ pub record HasDumpedSome (layout : Layout) (us : List UnitSpec) (s : Stretch) (i
   pub written : AppendedSome (dump_in layout us s blocks) old new
 
 -- How an export ends: all was written, or store or sink failed, whose count rose.
-abbrev pub DumpEnds : {X : Type 0} → Result X DumpFault → Layout → List UnitSpec → Stretch → (image : Option (List ℕ)) → (stores stores_after sinks sinks_after : ℕ) → (old new : Option (List ℕ)) → Type 0
+abbrev pub DumpEnds : {X : Type 0} → Result X WalkFault → Layout → List UnitSpec → Stretch → (image : Option (List ℕ)) → (stores stores_after sinks sinks_after : ℕ) → (old new : Option (List ℕ)) → Type 0
 DumpEnds (Ok x) layout us s image o n p q old new = HasDumped layout us s image old new
 DumpEnds (Err dump.Store) layout us s image o n p q old new = Rose o n × HasDumpedSome layout us s image old new
 DumpEnds (Err dump.Sink) layout us s image o n p q old new = Rose p q × HasDumpedSome layout us s image old new

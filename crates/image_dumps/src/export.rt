@@ -12,11 +12,10 @@ ghost use Rattle.image_dumps.specs.Dumps.{dump_of, piece_of};
 ghost use Rattle.image_dumps.specs.Ends.{DumpEnds};
 ghost use Rattle.target_answer.specs.declared.TheConstants.{MOST_FRAME};
 
-use crate::fault::DumpFault;
 use crate::layout::{Layout, stored_len};
 use dix_base::{Failed, Sink, Store};
 use image_blocks::{Image, Stretch, behind_of, block_bytes, front_of, read_blocks};
-use image_walk::blocks_in;
+use image_walk::{WalkFault, blocks_in};
 use report_text::write_all;
 use target_answer::UnitSpec;
 
@@ -90,7 +89,7 @@ fn export_piece<S: Store, O: Sink>(
     layout: Layout,
     into: &mut [u8],
     out: &mut O,
-) -> Result<(), DumpFault>
+) -> Result<(), WalkFault>
     requires place { IsStretch (units_open image.now) at }
     requires room { length into.old ≡ at.count * block_len (units_open image.now) at.dev }
     requires held { (S.state store.old).length ≡ image_size (units_open image.now) }
@@ -101,12 +100,12 @@ fn export_piece<S: Store, O: Sink>(
 {
     match read_blocks(store, image, at, into) {
         Ok(()) => {}
-        Err(Failed) => return Err(DumpFault::Store),
+        Err(Failed) => return Err(WalkFault::Store),
     }
     let unit = image.units()[at.dev as usize];
     match write_dump(out, layout, unit, at.count, into) {
         Ok(()) => Ok(()),
-        Err(Failed) => Err(DumpFault::Sink),
+        Err(Failed) => Err(WalkFault::Sink),
     }
 }
 
@@ -119,7 +118,7 @@ fn export_all<S: Store, O: Sink>(
     layout: Layout,
     room: &mut [u8],
     out: &mut O,
-) -> Result<(), DumpFault>
+) -> Result<(), WalkFault>
     requires place { IsStretch (units_open image.now) place }
     requires least { MOST_FRAME ≤ length room.old }
     requires held { (S.state store.old).length ≡ image_size (units_open image.now) }
@@ -155,7 +154,7 @@ pub fn export_blocks<S: Store, O: Sink>(
     layout: Layout,
     room: &mut [u8],
     out: &mut O,
-) -> Result<(), DumpFault>
+) -> Result<(), WalkFault>
     requires place { IsStretch (units_open image.now) place }
     requires least { MOST_FRAME ≤ length room.old }
     requires held { (S.state store.old).length ≡ image_size (units_open image.now) }
@@ -167,6 +166,6 @@ pub fn export_blocks<S: Store, O: Sink>(
     let ended = export_all(store, image, place, layout, room, out);
     match out.flush() {
         Ok(()) => ended,
-        Err(Failed) => Err(DumpFault::Sink),
+        Err(Failed) => Err(WalkFault::Sink),
     }
 }

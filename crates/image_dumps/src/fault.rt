@@ -1,13 +1,4 @@
-//! Why blocks weren't exported or imported.
-
-/// Why not all was exported.
-#[derive(Clone, Copy, Debug, PartialEq, Eq)]
-pub enum DumpFault {
-    /// The store failed.
-    Store,
-    /// The sink failed.
-    Sink,
-}
+//! Why blocks weren't imported.
 
 /// Why a dump wasn't imported, or not all of it.
 #[derive(Clone, Copy, Debug, PartialEq, Eq)]

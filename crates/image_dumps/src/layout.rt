@@ -5,7 +5,7 @@ ghost use Rattle.target_answer.specs.Frames.{stored_size};
 ghost use Rattle.image_dumps.specs.Dumps.{fits, piece_len};
 
 use pi_tuple::{PiType, TUPLE};
-use target_answer::UnitSpec;
+use target_answer::{UnitSpec, stored_size};
 
 /// What of each block a dump holds.
 #[derive(Clone, Copy, Debug, PartialEq, Eq)]
@@ -32,10 +32,7 @@ pub fn fits(layout: Layout, ty: PiType) -> bool
 pub(crate) fn stored_len(unit: UnitSpec) -> usize
     ensures { result ≡ stored_size unit.ty unit.size }
 {
-    match unit.ty {
-        PiType::Zero => unit.size as usize,
-        PiType::One | PiType::Two | PiType::Three => unit.size as usize + TUPLE,
-    }
+    stored_size(unit.ty, unit.size)
 }
 
 /// The bytes of a block's piece.
@@ -45,6 +42,6 @@ pub(crate) fn piece_len(layout: Layout, unit: UnitSpec) -> usize
     match layout {
         Layout::Interleaved => stored_len(unit),
         Layout::Plain => unit.size as usize,
-        Layout::Tuples => 8,
+        Layout::Tuples => TUPLE,
     }
 }

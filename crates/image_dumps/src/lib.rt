@@ -9,7 +9,7 @@ mod layout;
 mod pieces;
 
 pub use export::export_blocks;
-pub use fault::{DumpFault, ImportFault};
+pub use fault::ImportFault;
 pub use import::import_blocks;
 pub use laws::a_dump_comes_back;
 pub use layout::{Layout, fits};

@@ -6,6 +6,7 @@ ghost use Rattle.pi_tuple.specs.Tuples.{tuple_bytes};
 ghost use Rattle.target_answer.specs.Frames.{frames_of, joined, stored_size};
 ghost use Rattle.target_answer.specs.Passing.{with_own_tuple};
 ghost use Rattle.image_dumps.specs.Dumps.{fits, imported, imported_block, piece_len};
+ghost use Rattle.pi_tuple.specs.declared.TheConstants.{TUPLE};
 
 use crate::layout::{Layout, piece_len, stored_len};
 use dix_base::{Failed, Source};
@@ -39,7 +40,7 @@ pub(crate) fn fill<S: Source>(source: &mut S, into: &mut [u8]) -> Result<usize, 
 }
 
 fn put_tuple(block: &mut [u8], at: usize, tuple: Tuple)
-    requires { at + 8 ≡ length block.old }
+    requires { at + TUPLE ≡ length block.old }
     ensures { block.new ≡ take at block.old ++ tuple_bytes tuple }
 {
     let bytes = tuple.to_bytes();

@@ -17,8 +17,8 @@ use Rattle.image_blocks.specs.Places.{IsStretch, behind_in, front_in, spec_of}
 use Rattle.image_blocks.proofs.Stretches.{has_both, has_none, has_some}
 use Rattle.image_walk.proofs.Walks.{behind_is}
 use Rattle.target_model.proofs.Bytes.{rise}
-use Rattle.image_show.specs.declared.fault.ShowFault.{ShowFault}
-use Rattle.image_show.specs.declared.fault.ShowFault.TheVariants.{Store, Sink}
+use Rattle.image_walk.specs.declared.fault.WalkFault.{WalkFault}
+use Rattle.image_walk.specs.declared.fault.WalkFault.TheVariants.{Store, Sink}
 use Rattle.image_show.specs.Shown.{HasShown, HasShownSome, ShowEnds, bad_of, lines_of, text_of}
 
 -- ---- lines and counts of blocks behind others
@@ -155,7 +155,7 @@ none_shown text us s len image x y h z t e =
     record { blocks = r.0; has = r.1; written = (0, subst (λ v. Appended [] x v) (sym e) (appended_none x)) }
 
 -- What ended the showing of a part ends that of the whole.
-pub passed_on : (e : ShowFault) (t u : List (List ℕ) → List ℕ) (us : List UnitSpec) (a b : Stretch) (image was : Option (List ℕ)) (o o' n p p' q : ℕ) (mid old new : Option (List ℕ)) → image ≡ was → o ≤ o' → p ≤ p' →
+pub passed_on : (e : WalkFault) (t u : List (List ℕ) → List ℕ) (us : List UnitSpec) (a b : Stretch) (image was : Option (List ℕ)) (o o' n p p' q : ℕ) (mid old new : Option (List ℕ)) → image ≡ was → o ≤ o' → p ≤ p' →
     (HasShownSome t us a was mid new → HasShownSome u us b was old new) → ShowEnds (Err e) t us a image o' n p' q mid new → ShowEnds (Err e) u us b was o n p q old new
 passed_on Store t u us a b image was o o' n p p' q mid old new i h k f r = (rise o o' n h r.0, f (subst (λ v. HasShownSome t us a v mid new) i r.1))
 passed_on Sink t u us a b image was o o' n p p' q mid old new i h k f r = (rise p p' q k r.0, f (subst (λ v. HasShownSome t us a v mid new) i r.1))
@@ -182,7 +182,7 @@ pub whole_some : (text : List (List ℕ) → List ℕ) (us : List UnitSpec) (s :
 whole_some text us s bad image x y z e p = record { blocks = p.blocks; has = p.has; written = whole_is_part (text p.blocks) x y z p.written e }
 
 -- however it ended, the beginning was written
-pub some_ended : (r : Result ℕ ShowFault) (text : List (List ℕ) → List ℕ) (us : List UnitSpec) (s : Stretch) (image : Option (List ℕ)) (o n p q : ℕ) (x y z : Option (List ℕ)) → z ≡ y → ShowEnds r text us s image o n p q x y → HasShownSome text us s image x z
+pub some_ended : (r : Result ℕ WalkFault) (text : List (List ℕ) → List ℕ) (us : List UnitSpec) (s : Stretch) (image : Option (List ℕ)) (o n p q : ℕ) (x y z : Option (List ℕ)) → z ≡ y → ShowEnds r text us s image o n p q x y → HasShownSome text us s image x z
 some_ended (Ok bad) text us s image o n p q x y z e h = whole_some text us s bad image x y z e h
 some_ended (Err Store) text us s image o n p q x y z e h = subst (λ v. HasShownSome text us s image x v) (sym e) h.1
 some_ended (Err Sink) text us s image o n p q x y z e h = subst (λ v. HasShownSome text us s image x v) (sym e) h.1

@@ -5,8 +5,8 @@ use Rattle.block_lines.specs.ShowText.{block_lines, count_bad, show_text}
 use Rattle.image_blocks.specs.declared.stretch.Stretch.{Stretch}
 use Rattle.image_blocks.specs.Blocks.{HasBlocks}
 use Rattle.image_blocks.specs.Places.{spec_of}
-use Rattle.image_show.specs.declared.fault.ShowFault.{ShowFault}
-use Rattle.image_show.specs.declared.fault.ShowFault.TheVariants as fault
+use Rattle.image_walk.specs.declared.fault.WalkFault.{WalkFault}
+use Rattle.image_walk.specs.declared.fault.WalkFault.TheVariants as fault
 
 -- What is shown of the stored blocks of a stretch.
 
@@ -36,7 +36,7 @@ pub record HasShownSome (text : List (List ℕ) → List ℕ) (us : List UnitSpe
   pub written : AppendedSome (text blocks) old new
 
 -- How the showing of a stretch ends: it was shown, or store or sink failed, whose count rose.
-abbrev pub ShowEnds : Result ℕ ShowFault → (text : List (List ℕ) → List ℕ) → List UnitSpec → Stretch → (image : Option (List ℕ)) → (stores stores_after sinks sinks_after : ℕ) → (old new : Option (List ℕ)) → Type 0
+abbrev pub ShowEnds : Result ℕ WalkFault → (text : List (List ℕ) → List ℕ) → List UnitSpec → Stretch → (image : Option (List ℕ)) → (stores stores_after sinks sinks_after : ℕ) → (old new : Option (List ℕ)) → Type 0
 ShowEnds (Ok bad) text us s image o n p q old new = HasShown text us s image bad old new
 ShowEnds (Err fault.Store) text us s image o n p q old new = Rose o n × HasShownSome text us s image old new
 ShowEnds (Err fault.Sink) text us s image o n p q old new = Rose p q × HasShownSome text us s image old new

@@ -9,11 +9,10 @@ ghost use Rattle.dix_base.specs.Stores.{WasRead};
 ghost use Rattle.image_show.specs.Shown.{ShowEnds, lines_of, text_of};
 ghost use Rattle.target_answer.specs.declared.TheConstants.{MOST_FRAME};
 
-use crate::fault::ShowFault;
 use block_lines::{write_blocks, write_first, write_last};
 use dix_base::{Failed, Sink, Store};
 use image_blocks::{Image, Stretch, behind_of, block_bytes, front_of, read_blocks};
-use image_walk::blocks_in;
+use image_walk::{WalkFault, blocks_in};
 
 /// Reads the blocks of a stretch into `into`, which has just their length, and writes their lines.
 fn show_piece<S: Store, O: Sink>(
@@ -22,7 +21,7 @@ fn show_piece<S: Store, O: Sink>(
     at: Stretch,
     into: &mut [u8],
     out: &mut O,
-) -> Result<u32, ShowFault>
+) -> Result<u32, WalkFault>
     requires place { IsStretch (units_open image.now) at }
     requires room { length into.old ≡ at.count * block_len (units_open image.now) at.dev }
     requires held { (S.state store.old).length ≡ image_size (units_open image.now) }
@@ -33,12 +32,12 @@ fn show_piece<S: Store, O: Sink>(
 {
     match read_blocks(store, image, at, into) {
         Ok(()) => {}
-        Err(Failed) => return Err(ShowFault::Store),
+        Err(Failed) => return Err(WalkFault::Store),
     }
     let unit = image.units()[at.dev as usize];
     match write_blocks(out, at.dev, unit, at.first, at.count, into) {
         Ok(bad) => Ok(bad),
-        Err(Failed) => Err(ShowFault::Sink),
+        Err(Failed) => Err(WalkFault::Sink),
     }
 }
 
@@ -50,7 +49,7 @@ fn show_lines<S: Store, O: Sink>(
     place: Stretch,
     room: &mut [u8],
     out: &mut O,
-) -> Result<u32, ShowFault>
+) -> Result<u32, WalkFault>
     requires place { IsStretch (units_open image.now) place }
     requires least { MOST_FRAME ≤ length room.old }
     requires held { (S.state store.old).length ≡ image_size (units_open image.now) }
@@ -83,7 +82,7 @@ fn show_all<S: Store, O: Sink>(
     place: Stretch,
     room: &mut [u8],
     out: &mut O,
-) -> Result<u32, ShowFault>
+) -> Result<u32, WalkFault>
     requires place { IsStretch (units_open image.now) place }
     requires least { MOST_FRAME ≤ length room.old }
     requires held { (S.state store.old).length ≡ image_size (units_open image.now) }
@@ -94,7 +93,7 @@ fn show_all<S: Store, O: Sink>(
 {
     match write_first(out) {
         Ok(()) => {}
-        Err(Failed) => return Err(ShowFault::Sink),
+        Err(Failed) => return Err(WalkFault::Sink),
     }
     let bad = match show_lines(store, image, place, room, out) {
         Ok(bad) => bad,
@@ -102,7 +101,7 @@ fn show_all<S: Store, O: Sink>(
     };
     match write_last(out, place.count, bad) {
         Ok(()) => Ok(bad),
-        Err(Failed) => Err(ShowFault::Sink),
+        Err(Failed) => Err(WalkFault::Sink),
     }
 }
 
@@ -118,7 +117,7 @@ pub fn show_blocks<S: Store, O: Sink>(
     place: Stretch,
     room: &mut [u8],
     out: &mut O,
-) -> Result<u32, ShowFault>
+) -> Result<u32, WalkFault>
     requires place { IsStretch (units_open image.now) place }
     requires least { MOST_FRAME ≤ length room.old }
     requires held { (S.state store.old).length ≡ image_size (units_open image.now) }
@@ -130,6 +129,6 @@ pub fn show_blocks<S: Store, O: Sink>(
     let ended = show_all(store, image, place, room, out);
     match out.flush() {
         Ok(()) => ended,
-        Err(Failed) => Err(ShowFault::Sink),
+        Err(Failed) => Err(WalkFault::Sink),
     }
 }

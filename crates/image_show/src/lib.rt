@@ -2,9 +2,7 @@
 #![tactic(auto)]
 
 mod blocks;
-mod fault;
 mod units;
 
 pub use blocks::show_blocks;
-pub use fault::ShowFault;
 pub use units::show_units;

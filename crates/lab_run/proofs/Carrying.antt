@@ -14,7 +14,7 @@ use Rattle.image_show.specs.Shown.{bad_of}
 use Rattle.lab_words.specs.declared.command.Command.{Command}
 use Rattle.lab_words.specs.declared.command.Command.TheVariants.{Help, Version, ShowUnits, ShowBlocks, Diff, Export, Import, Vectors, Judge, Explain, Sweep}
 use Rattle.lab_words.specs.declared.layout.Layout.{Layout}
-use Rattle.lab_words.specs.declared.place.Place.{Place}
+use Rattle.lab_words.specs.declared.place.PlaceWord.{PlaceWord}
 use Rattle.rig_api.specs.Head.{head_fault, head_of, units_of}
 use Rattle.rig_api.specs.declared.rig.RigFault.{RigFault}
 use Rattle.rig_api.proofs.HeadLaws.{headed}
@@ -241,7 +241,7 @@ bad_head (Some Judge) x f e = absurd e
 bad_head (Some Explain) x f e = absurd e
 bad_head (Some (Sweep byte units)) x f e = absurd e
 
-no_place : (c : Option Command) (x : PlaceFault) (f : Facts) → CauseByCommand c (refusal.Place x) f → (place : Place) × (place_named c ≡ Some place) × HasNoPlace place x f
+no_place : (c : Option Command) (x : PlaceFault) (f : Facts) → CauseByCommand c (refusal.Place x) f → (place : PlaceWord) × (place_named c ≡ Some place) × HasNoPlace place x f
 no_place None x f e = absurd (cc)
 no_place (Some Help) x f e = absurd e
 no_place (Some Version) x f e = absurd e
@@ -255,7 +255,7 @@ no_place (Some Judge) x f e = absurd e
 no_place (Some Explain) x f e = absurd e
 no_place (Some (Sweep byte units)) x f e = absurd e
 
-no_tuples : (c : Option Command) (f : Facts) → CauseByCommand c refusal.NoTuples f → (place : Place) × (layout : Layout) × (layout_named c ≡ Some (place, layout)) × HasNoTuples place layout f
+no_tuples : (c : Option Command) (f : Facts) → CauseByCommand c refusal.NoTuples f → (place : PlaceWord) × (layout : Layout) × (layout_named c ≡ Some (place, layout)) × HasNoTuples place layout f
 no_tuples None f e = absurd (cc)
 no_tuples (Some Help) f e = absurd e
 no_tuples (Some Version) f e = absurd e
@@ -270,7 +270,7 @@ no_tuples (Some Explain) f e = absurd e
 no_tuples (Some (Sweep byte units)) f e = absurd e
 
 -- the refusals of the second image of a `diff`
-second_head : (c : Option Command) (x : RigFault) (f : Facts) → CauseByCommand c (refusal.SecondImage x) f → (one : Place) × (other : Place) × (c ≡ Some (Diff one other)) × HasBadSecond one x f
+second_head : (c : Option Command) (x : RigFault) (f : Facts) → CauseByCommand c (refusal.SecondImage x) f → (one : PlaceWord) × (other : PlaceWord) × (c ≡ Some (Diff one other)) × HasBadSecond one x f
 second_head None x f e = absurd (cc)
 second_head (Some Help) x f e = absurd e
 second_head (Some Version) x f e = absurd e
@@ -284,7 +284,7 @@ second_head (Some Judge) x f e = absurd e
 second_head (Some Explain) x f e = absurd e
 second_head (Some (Sweep byte units)) x f e = absurd e
 
-second_place : (c : Option Command) (x : PlaceFault) (f : Facts) → CauseByCommand c (refusal.SecondPlace x) f → (one : Place) × (other : Place) × (c ≡ Some (Diff one other)) × HasNoSecondPlace one other x f
+second_place : (c : Option Command) (x : PlaceFault) (f : Facts) → CauseByCommand c (refusal.SecondPlace x) f → (one : PlaceWord) × (other : PlaceWord) × (c ≡ Some (Diff one other)) × HasNoSecondPlace one other x f
 second_place None x f e = absurd (cc)
 second_place (Some Help) x f e = absurd e
 second_place (Some Version) x f e = absurd e
@@ -298,7 +298,7 @@ second_place (Some Judge) x f e = absurd e
 second_place (Some Explain) x f e = absurd e
 second_place (Some (Sweep byte units)) x f e = absurd e
 
-other_size : (c : Option Command) (f : Facts) → CauseByCommand c refusal.OtherSize f → (one : Place) × (other : Place) × (c ≡ Some (Diff one other)) × HasOtherSize one other f
+other_size : (c : Option Command) (f : Facts) → CauseByCommand c refusal.OtherSize f → (one : PlaceWord) × (other : PlaceWord) × (c ≡ Some (Diff one other)) × HasOtherSize one other f
 other_size None f e = absurd (cc)
 other_size (Some Help) f e = absurd e
 other_size (Some Version) f e = absurd e
@@ -312,7 +312,7 @@ other_size (Some Judge) f e = absurd e
 other_size (Some Explain) f e = absurd e
 other_size (Some (Sweep byte units)) f e = absurd e
 
-other_count : (c : Option Command) (f : Facts) → CauseByCommand c refusal.OtherCount f → (one : Place) × (other : Place) × (c ≡ Some (Diff one other)) × HasOtherCount one other f
+other_count : (c : Option Command) (f : Facts) → CauseByCommand c refusal.OtherCount f → (one : PlaceWord) × (other : PlaceWord) × (c ≡ Some (Diff one other)) × HasOtherCount one other f
 other_count None f e = absurd (cc)
 other_count (Some Help) f e = absurd e
 other_count (Some Version) f e = absurd e
@@ -326,7 +326,7 @@ other_count (Some Judge) f e = absurd e
 other_count (Some Explain) f e = absurd e
 other_count (Some (Sweep byte units)) f e = absurd e
 
-short_dump : (c : Option Command) (x : ℕ) (f : Facts) → CauseByCommand c (refusal.Short x) f → (place : Place) × (layout : Layout) × (c ≡ Some (Import place layout)) × HasBrokenOff (halt.Short x) place layout f
+short_dump : (c : Option Command) (x : ℕ) (f : Facts) → CauseByCommand c (refusal.Short x) f → (place : PlaceWord) × (layout : Layout) × (c ≡ Some (Import place layout)) × HasBrokenOff (halt.Short x) place layout f
 short_dump None x f e = absurd (cc)
 short_dump (Some Help) x f e = absurd e
 short_dump (Some Version) x f e = absurd e
@@ -340,7 +340,7 @@ short_dump (Some Judge) x f e = absurd e
 short_dump (Some Explain) x f e = absurd e
 short_dump (Some (Sweep byte units)) x f e = absurd e
 
-long_dump : (c : Option Command) (f : Facts) → CauseByCommand c refusal.Long f → (place : Place) × (layout : Layout) × (c ≡ Some (Import place layout)) × HasBrokenOff halt.Long place layout f
+long_dump : (c : Option Command) (f : Facts) → CauseByCommand c refusal.Long f → (place : PlaceWord) × (layout : Layout) × (c ≡ Some (Import place layout)) × HasBrokenOff halt.Long place layout f
 long_dump None f e = absurd (cc)
 long_dump (Some Help) f e = absurd e
 long_dump (Some Version) f e = absurd e
@@ -354,7 +354,7 @@ long_dump (Some Judge) f e = absurd e
 long_dump (Some Explain) f e = absurd e
 long_dump (Some (Sweep byte units)) f e = absurd e
 
-unread_dump : (c : Option Command) (f : Facts) → (c ≡ Some Judge → ⊥) → CauseByCommand c refusal.ReadFault f → (place : Place) × (layout : Layout) × (c ≡ Some (Import place layout)) × HasBrokenOff halt.Source place layout f
+unread_dump : (c : Option Command) (f : Facts) → (c ≡ Some Judge → ⊥) → CauseByCommand c refusal.ReadFault f → (place : PlaceWord) × (layout : Layout) × (c ≡ Some (Import place layout)) × HasBrokenOff halt.Source place layout f
 unread_dump None f j e = absurd (cc)
 unread_dump (Some Help) f j e = absurd e
 unread_dump (Some Version) f j e = absurd e
@@ -369,10 +369,10 @@ unread_dump (Some Explain) f j e = absurd e
 unread_dump (Some (Sweep byte units)) f j e = absurd e
 
 -- the store failed as the image was opened, or as blocks were written
-broken_store : (place : Place) (layout : Layout) (f : Facts) → HasBrokenOff halt.Store place layout f → Rose f.first.faults f.first_after.faults
+broken_store : (place : PlaceWord) (layout : Layout) (f : Facts) → HasBrokenOff halt.Store place layout f → Rose f.first.faults f.first_after.faults
 broken_store place layout f b = rose_from f.first.faults b.taken.opened_faults f.first_after.faults b.taken.since b.taken.ends.0
 
-broken_source : (place : Place) (layout : Layout) (f : Facts) → HasBrokenOff halt.Source place layout f → Rose f.reads f.reads_after
+broken_source : (place : PlaceWord) (layout : Layout) (f : Facts) → HasBrokenOff halt.Source place layout f → Rose f.reads f.reads_after
 broken_source place layout f b = b.taken.ends.0
 
 source_rose : (c : Option Command) (f : Facts) → CauseByCommand c refusal.ReadFault f → Rose f.reads f.reads_after
@@ -573,21 +573,21 @@ told_units : (f : Facts) (image : List ℕ) (us : List UnitSpec) → f.first.byt
 told_units f image us b o = units_told (image_in f.words) f.first f.first_after image us b o
 
 -- an image that has a place has no fault there
-two_places : (f : Facts) (image : List ℕ) (place : Place) (x : PlaceFault) (at : Stretch) → f.first.bytes ≡ Some image → stretch_in (units_of (head_of image)) place ≡ Ok at → HasNoPlace place x f → ⊥
+two_places : (f : Facts) (image : List ℕ) (place : PlaceWord) (x : PlaceFault) (at : Stretch) → f.first.bytes ≡ Some image → stretch_in (units_of (head_of image)) place ≡ Ok at → HasNoPlace place x f → ⊥
 two_places f image place x at b k c =
     let units = told_units f image c.units b c.opened in
     let e : stretch_in (units_of (head_of image)) place ≡ Err x = ap (λ (u : List UnitSpec). stretch_in u place) (sym units) ∙ c.judged in
     let both : ◌≡◌ {A = Result Stretch PlaceFault} (Ok at) (Err x) = sym k ∙ e in
     absurd (cc)
 
-same_place : (f : Facts) (image : List ℕ) (us : List UnitSpec) (place : Place) (at here : Stretch) → f.first.bytes ≡ Some image → HasOpened us f → stretch_in (units_of (head_of image)) place ≡ Ok at → stretch_in us place ≡ Ok here → here ≡ at
+same_place : (f : Facts) (image : List ℕ) (us : List UnitSpec) (place : PlaceWord) (at here : Stretch) → f.first.bytes ≡ Some image → HasOpened us f → stretch_in (units_of (head_of image)) place ≡ Ok at → stretch_in us place ≡ Ok here → here ≡ at
 same_place f image us place at here b o k e =
     let units = told_units f image us b o in
     let both : ◌≡◌ {A = Result Stretch PlaceFault} (Ok here) (Ok at) = sym e ∙ ap (λ (u : List UnitSpec). stretch_in u place) units ∙ k in
     cc
 
 -- a layout that fits a place doesn't lack its tuples
-two_fits : (f : Facts) (image : List ℕ) (place : Place) (layout : Layout) (at : Stretch) → f.first.bytes ≡ Some image → stretch_in (units_of (head_of image)) place ≡ Ok at → fits (laid_as layout) (spec_of (units_of (head_of image)) at.dev).ty ≡ true → HasNoTuples place layout f → ⊥
+two_fits : (f : Facts) (image : List ℕ) (place : PlaceWord) (layout : Layout) (at : Stretch) → f.first.bytes ≡ Some image → stretch_in (units_of (head_of image)) place ≡ Ok at → fits (laid_as layout) (spec_of (units_of (head_of image)) at.dev).ty ≡ true → HasNoTuples place layout f → ⊥
 two_fits f image place layout at b k z c =
     let units = told_units f image c.units b c.opened in
     let here = same_place f image c.units place at c.at b c.opened k c.there in
@@ -624,7 +624,7 @@ right_layout (Some Explain) image f i b e = i
 right_layout (Some (Sweep byte units)) image f i b e = i
 
 -- a dump of the right length isn't of another
-right_length : (f : Facts) (image : List ℕ) (us : List UnitSpec) (at : Stretch) (place : Place) (layout : Layout) → f.first.bytes ≡ Some image → (r : IsReady place layout f image) → length r.dump ≡ dump_len (units_of (head_of image)) r.at layout → HasFound us at place layout f → IsOtherLength us at layout f.left → ⊥
+right_length : (f : Facts) (image : List ℕ) (us : List UnitSpec) (at : Stretch) (place : PlaceWord) (layout : Layout) → f.first.bytes ≡ Some image → (r : IsReady place layout f image) → length r.dump ≡ dump_len (units_of (head_of image)) r.at layout → HasFound us at place layout f → IsOtherLength us at layout f.left → ⊥
 right_length f image us at place layout b r l h o =
     let units = told_units f image us b h.opened in
     let here = same_place f image us place r.at at b h.opened r.there h.there in
@@ -679,7 +679,7 @@ bad_none : (name : List ℕ) (old new : StoreState) (image : List ℕ) (x : RigF
 bad_none name old new image x b h r = let e : ◌≡◌ {A = Option RigFault} (Some x) None = sym h.judged ∙ ap head_fault (headed h.head image old.bytes b h.told) ∙ r in absurd (cc)
 
 -- a place that was found in both is the same
-one_place : (us vs : List UnitSpec) (place : Place) (at to : Stretch) → us ≡ vs → stretch_in us place ≡ Ok at → stretch_in vs place ≡ Ok to → at ≡ to
+one_place : (us vs : List UnitSpec) (place : PlaceWord) (at to : Stretch) → us ≡ vs → stretch_in us place ≡ Ok at → stretch_in vs place ≡ Ok to → at ≡ to
 one_place us vs place at to e a b = let both : ◌≡◌ {A = Result Stretch PlaceFault} (Ok at) (Ok to) = sym a ∙ ap (λ (u : List UnitSpec). stretch_in u place) e ∙ b in cc
 
 -- the places that were opened are those of the images that are told
@@ -689,7 +689,7 @@ pub record ArePlaces (p q : Places) : Type 0 where
   pub at : p.at ≡ q.at
   pub to : p.to ≡ q.to
 
-told_places : (f : Facts) (image second : List ℕ) (one other : Place) (p q : Places) → f.first.bytes ≡ Some image → f.second.bytes ≡ Some second → HaveBoth one other p f → q.units ≡ units_of (head_of image) → q.others ≡ units_of (head_of second) →
+told_places : (f : Facts) (image second : List ℕ) (one other : PlaceWord) (p q : Places) → f.first.bytes ≡ Some image → f.second.bytes ≡ Some second → HaveBoth one other p f → q.units ≡ units_of (head_of image) → q.others ≡ units_of (head_of second) →
     stretch_in q.units one ≡ Ok q.at → stretch_in q.others other ≡ Ok q.to → ArePlaces p q
 told_places f image second one other p q b d h u v a t =
     let x : p.units ≡ q.units = told_units f image p.units b h.first.opened ∙ sym u in
@@ -826,7 +826,7 @@ as_written f old new o n result v c (inr w) cs co = absurd (no_store_rose (comma
 wrong_head : (f : Facts) (image : List ℕ) (us : List UnitSpec) (x : RigFault) → f.first.bytes ≡ Some image → HasOpened us f → head_fault (head_of image) ≡ Some x → ⊥
 wrong_head f image us x b o e = let k : ◌≡◌ {A = Option RigFault} None (Some x) = sym o.right ∙ ap head_fault (headed o.head image f.first.bytes b o.told) ∙ e in absurd (cc)
 
-wrong_place : (f : Facts) (image : List ℕ) (us : List UnitSpec) (at : Stretch) (place : Place) → f.first.bytes ≡ Some image → HasOpened us f → stretch_in us place ≡ Ok at → IsNoPlace place image → ⊥
+wrong_place : (f : Facts) (image : List ℕ) (us : List UnitSpec) (at : Stretch) (place : PlaceWord) → f.first.bytes ≡ Some image → HasOpened us f → stretch_in us place ≡ Ok at → IsNoPlace place image → ⊥
 wrong_place f image us at place b o t w =
     let units = told_units f image us b o in
     let k : ◌≡◌ {A = Result Stretch PlaceFault} (Ok at) (Err w.0) = sym t ∙ ap (λ (u : List UnitSpec). stretch_in u place) units ∙ w.1 in
@@ -840,12 +840,12 @@ no_other p q s h m (inl n) = n (one_size q p (back p q s) h)
 no_other p q s h m (inr n) = n (one_number q p (back p q s) m)
 
 -- an image that was opened and has the place isn't at fault for a command that shows the place
-wrong_shown : (f : Facts) (image : List ℕ) (us : List UnitSpec) (at : Stretch) (place : Place) → f.first.bytes ≡ Some image → HasOpened us f → stretch_in us place ≡ Ok at → IsWrong (Some (ShowBlocks place)) f image → ⊥
+wrong_shown : (f : Facts) (image : List ℕ) (us : List UnitSpec) (at : Stretch) (place : PlaceWord) → f.first.bytes ≡ Some image → HasOpened us f → stretch_in us place ≡ Ok at → IsWrong (Some (ShowBlocks place)) f image → ⊥
 wrong_shown f image us at place b o t (inl w) = wrong_head f image us w.0 b o w.1
 wrong_shown f image us at place b o t (inr w) = wrong_place f image us at place b o t w
 
 -- nor, where the layout fits, for one that takes a dump
-wrong_found : (f : Facts) (image : List ℕ) (us : List UnitSpec) (at : Stretch) (place : Place) (layout : Layout) → f.first.bytes ≡ Some image → HasFound us at place layout f → IsBadHead image ⊎ (IsNoPlace place image ⊎ IsNoTuples place layout image) → ⊥
+wrong_found : (f : Facts) (image : List ℕ) (us : List UnitSpec) (at : Stretch) (place : PlaceWord) (layout : Layout) → f.first.bytes ≡ Some image → HasFound us at place layout f → IsBadHead image ⊎ (IsNoPlace place image ⊎ IsNoTuples place layout image) → ⊥
 wrong_found f image us at place layout b h (inl w) = wrong_head f image us w.0 b h.opened w.1
 wrong_found f image us at place layout b h (inr (inl w)) = wrong_place f image us at place b h.opened h.there w
 wrong_found f image us at place layout b h (inr (inr w)) =
@@ -856,13 +856,13 @@ wrong_found f image us at place layout b h (inr (inr w)) =
     absurd (cc)
 
 -- nor for one that compares it
-wrong_compared : (f : Facts) (image : List ℕ) (one other : Place) (p : Places) (ones twos : List (List ℕ)) → f.first.bytes ≡ Some image → HaveBoth one other p f → AreOneSize p → p.at.count ≡ p.to.count → IsWrong (Some (Diff one other)) f image → ⊥
+wrong_compared : (f : Facts) (image : List ℕ) (one other : PlaceWord) (p : Places) (ones twos : List (List ℕ)) → f.first.bytes ≡ Some image → HaveBoth one other p f → AreOneSize p → p.at.count ≡ p.to.count → IsWrong (Some (Diff one other)) f image → ⊥
 wrong_compared f image one other p ones twos b h s m (inl w) = wrong_head f image p.units w.0 b h.first.opened w.1
 wrong_compared f image one other p ones twos b h s m (inr (inl w)) = wrong_place f image p.units p.at one b h.first.opened h.first.there w
 wrong_compared f image one other p ones twos b h s m (inr (inr w)) = no_other p w.places (told_places f image w.second one other p w.places b w.told h w.units w.others w.there w.other_there) s m w.differ
 
 -- an image at fault isn't one that a dump was taken for
-wrong_dump : (c : Option Command) (f : Facts) (image : List ℕ) (place : Place) (layout : Layout) (us : List UnitSpec) (at : Stretch) → f.first.bytes ≡ Some image → c ≡ Some (Import place layout) → HasFound us at place layout f → IsWrong c f image → ⊥
+wrong_dump : (c : Option Command) (f : Facts) (image : List ℕ) (place : PlaceWord) (layout : Layout) (us : List UnitSpec) (at : Stretch) → f.first.bytes ≡ Some image → c ≡ Some (Import place layout) → HasFound us at place layout f → IsWrong c f image → ⊥
 wrong_dump c f image place layout us at b e h i = wrong_found f image us at place layout b h (subst (λ (x : Option Command). IsWrong x f image) e i)
 
 refused_wrong : (f : Facts) (image : List ℕ) (r : Refusal) → f.first.bytes ≡ Some image → IsWrong (command_in f.words) f image → AreCalm (command_in f.words) f → CauseByCommand (command_in f.words) r f → (status_of r ≡ status.Image) ⊎ (status_of r ≡ status.Memory)
@@ -894,7 +894,7 @@ refused_as f old new o n result ended = λ image b i cs co.
 
 -- ---- a second image at fault is refused
 
-opened_second : (f : Facts) (image : List ℕ) (one other : Place) (p : Places) → f.second.bytes ≡ Some image → HaveBoth one other p f → IsBadHead image ⊎ IsNoPlace other image → ⊥
+opened_second : (f : Facts) (image : List ℕ) (one other : PlaceWord) (p : Places) → f.second.bytes ≡ Some image → HaveBoth one other p f → IsBadHead image ⊎ IsNoPlace other image → ⊥
 opened_second f image one other p b h (inl w) = let k : ◌≡◌ {A = Option RigFault} None (Some w.0) = sym h.opened.right ∙ ap head_fault (headed h.opened.head image f.second.bytes b h.opened.told) ∙ w.1 in absurd (cc)
 opened_second f image one other p b h (inr w) =
     let units = units_told (second_in f.words) f.second f.second_after image p.others b h.opened in
@@ -902,7 +902,7 @@ opened_second f image one other p b h (inr w) =
     absurd (cc)
 
 -- what is refused of a `diff` but an image is want of memory
-second_refused : (one other : Place) (f : Facts) (r : Refusal) → command_in f.words ≡ Some (Diff one other) → AreCalm (command_in f.words) f → CauseNotCompared one other r f → (status_of r ≡ status.Image) ⊎ (status_of r ≡ status.Memory)
+second_refused : (one other : PlaceWord) (f : Facts) (r : Refusal) → command_in f.words ≡ Some (Diff one other) → AreCalm (command_in f.words) f → CauseNotCompared one other r f → (status_of r ≡ status.Image) ⊎ (status_of r ≡ status.Memory)
 second_refused one other f refusal.Words e calm c = absurd c
 second_refused one other f refusal.NoTuples e calm c = absurd c
 second_refused one other f (refusal.Short x) e calm c = absurd c
@@ -921,7 +921,7 @@ seconds f image (Shown us at blocks) b i calm c = let k = sym c.named ∙ i.name
 seconds f image (Compared p ones twos) b i calm c =
     let both : ◌≡◌ {A = Option Command} (Some (Diff c.one c.other)) (Some (Diff i.one i.other)) = sym c.named ∙ i.named in
     let same : c.other ≡ i.other = cc in
-    absurd (opened_second f image c.one c.other p b c.both (subst (λ (x : Place). IsBadHead image ⊎ IsNoPlace x image) (sym same) i.wrong))
+    absurd (opened_second f image c.one c.other p b c.both (subst (λ (x : PlaceWord). IsBadHead image ⊎ IsNoPlace x image) (sym same) i.wrong))
 seconds f image (Exported us at layout blocks) b i calm c = let k = sym c.named ∙ i.named in absurd (cc)
 seconds f image (Imported us at count layout) b i calm c = let k = sym c.named ∙ i.named in absurd (cc)
 seconds f image (Judged script) b i calm c = let k = sym c.named ∙ i.named in absurd (cc)

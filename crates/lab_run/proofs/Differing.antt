@@ -13,7 +13,7 @@ use Rattle.image_diff.specs.declared.fault.DiffFault.{DiffFault}
 use Rattle.image_diff.specs.declared.fault.DiffFault.TheVariants as compare
 use Rattle.lab_words.specs.declared.command.Command.{Command}
 use Rattle.lab_words.specs.declared.command.Command.TheVariants.{Diff}
-use Rattle.lab_words.specs.declared.place.Place.{Place}
+use Rattle.lab_words.specs.declared.place.PlaceWord.{PlaceWord}
 use Rattle.rig_api.specs.declared.rig.RigFault.{RigFault}
 use Rattle.rig_api.specs.declared.rig.RigFault.TheVariants as head
 use Rattle.rig_api.specs.State.{RigState}
@@ -50,7 +50,7 @@ opened_since image name old mid new t g = record { opened = rw (g.named, g.opene
 pub opened_in : (image : Image) (name : List ℕ) (old new : StoreState) → Tried (Ok image) name old new → OpenedAs (units_open image) name old new
 opened_in image name old new t = record { opened = t.opened; head = t.judged.head; right = t.judged.judged; told = t.judged.told; units = t.judged.units }
 
-keeps_both : (words : List (List ℕ)) (one other : Place) (old new old_second new_second : StoreState) (left : Option (List ℕ)) (reads : ℕ) (rig : RigState) → command_in words ≡ Some (Diff one other) → Kept (image_in words) old new → Kept (second_in words) old_second new_second →
+keeps_both : (words : List (List ℕ)) (one other : PlaceWord) (old new old_second new_second : StoreState) (left : Option (List ℕ)) (reads : ℕ) (rig : RigState) → command_in words ≡ Some (Diff one other) → Kept (image_in words) old new → Kept (second_in words) old_second new_second →
     Keeps (on_both words old new old_second new_second left reads rig)
 keeps_both words one other old new old_second new_second left reads rig e k s =
     let f = on_both words old new old_second new_second left reads rig in
@@ -63,7 +63,7 @@ keeps_both words one other old new old_second new_second left reads rig e k s =
       count = k.count;
     }
 
-pub uncompared : (words : List (List ℕ)) (one other : Place) (old new old_second new_second : StoreState) (left : Option (List ℕ)) (reads : ℕ) (rig : RigState) (r : Refusal) (taken taken' : Option (List ℕ)) (o n : ℕ) (result : Status) →
+pub uncompared : (words : List (List ℕ)) (one other : PlaceWord) (old new old_second new_second : StoreState) (left : Option (List ℕ)) (reads : ℕ) (rig : RigState) (r : Refusal) (taken taken' : Option (List ℕ)) (o n : ℕ) (result : Status) →
     command_in words ≡ Some (Diff one other) → CauseNotCompared one other r (on_both words old new old_second new_second left reads rig) → Kept (image_in words) old new → Kept (second_in words) old_second new_second →
     Written (status_of r) (refusal_text r) taken taken' o n result → Ended (on_both words old new old_second new_second left reads rig) taken taken' o n result
 uncompared words one other old new old_second new_second left reads rig r taken taken' o n result e cause k s w =
@@ -72,27 +72,27 @@ uncompared words one other old new old_second new_second left reads rig r taken 
 
 -- ---- images that aren't opened
 
-first_refused : (one other : Place) (x : RigFault) (f : Facts) → Tried (Err x) (image_in f.words) f.first f.first_after → CauseNotCompared one other (refusal_of x) f
+first_refused : (one other : PlaceWord) (x : RigFault) (f : Facts) → Tried (Err x) (image_in f.words) f.first f.first_after → CauseNotCompared one other (refusal_of x) f
 first_refused one other head.BadMagic f t = record { opened = t.opened; head = t.judged.head; judged = t.judged.judged; told = t.judged.told }
 first_refused one other head.BadHeader f t = record { opened = t.opened; head = t.judged.head; judged = t.judged.judged; told = t.judged.told }
 first_refused one other head.BadLength f t = record { opened = t.opened; head = t.judged.head; judged = t.judged.judged; told = t.judged.told }
 first_refused one other head.Failed f t = inl (t.failed refl)
 first_refused one other head.Memory f t = tt
 
-second_refused : (one other : Place) (us : List UnitSpec) (at : Stretch) (x : RigFault) (f : Facts) → HasFirst us at one f → Tried (Err x) (second_in f.words) f.second f.second_after → CauseNotCompared one other (second_refusal_of x) f
+second_refused : (one other : PlaceWord) (us : List UnitSpec) (at : Stretch) (x : RigFault) (f : Facts) → HasFirst us at one f → Tried (Err x) (second_in f.words) f.second f.second_after → CauseNotCompared one other (second_refusal_of x) f
 second_refused one other us at head.BadMagic f h t = record { units = us; at = at; first = h; second = record { opened = t.opened; head = t.judged.head; judged = t.judged.judged; told = t.judged.told } }
 second_refused one other us at head.BadHeader f h t = record { units = us; at = at; first = h; second = record { opened = t.opened; head = t.judged.head; judged = t.judged.judged; told = t.judged.told } }
 second_refused one other us at head.BadLength f h t = record { units = us; at = at; first = h; second = record { opened = t.opened; head = t.judged.head; judged = t.judged.judged; told = t.judged.told } }
 second_refused one other us at head.Failed f h t = inr (t.failed refl)
 second_refused one other us at head.Memory f h t = tt
 
-pub no_first : (words : List (List ℕ)) (one other : Place) (old new second : StoreState) (left : Option (List ℕ)) (reads : ℕ) (rig : RigState) (x : RigFault) (r : Refusal) (taken taken' : Option (List ℕ)) (o n : ℕ) (result : Status) →
+pub no_first : (words : List (List ℕ)) (one other : PlaceWord) (old new second : StoreState) (left : Option (List ℕ)) (reads : ℕ) (rig : RigState) (x : RigFault) (r : Refusal) (taken taken' : Option (List ℕ)) (o n : ℕ) (result : Status) →
     command_in words ≡ Some (Diff one other) → r ≡ refusal_of x → Tried (Err x) (image_in words) old new → Written (status_of r) (refusal_text r) taken taken' o n result → Ended (on_both words old new second second left reads rig) taken taken' o n result
 no_first words one other old new second left reads rig x r taken taken' o n result e s t w =
     let f = on_both words old new second second left reads rig in
     uncompared words one other old new second second left reads rig r taken taken' o n result e (subst (λ (y : Refusal). CauseNotCompared one other y f) (sym s) (first_refused one other x f t)) (since_tried (Err x) (image_in words) old new t) (still (second_in words) second) w
 
-pub no_second : (words : List (List ℕ)) (one other : Place) (old new old_second new_second : StoreState) (left : Option (List ℕ)) (reads : ℕ) (rig : RigState) (image : Image) (at : Stretch) (x : RigFault) (r : Refusal) (taken taken' : Option (List ℕ)) (o n : ℕ) (result : Status) →
+pub no_second : (words : List (List ℕ)) (one other : PlaceWord) (old new old_second new_second : StoreState) (left : Option (List ℕ)) (reads : ℕ) (rig : RigState) (image : Image) (at : Stretch) (x : RigFault) (r : Refusal) (taken taken' : Option (List ℕ)) (o n : ℕ) (result : Status) →
     command_in words ≡ Some (Diff one other) → Tried (Ok image) (image_in words) old new → Ok at ≡ stretch_in (units_open image) one → r ≡ second_refusal_of x → Tried (Err x) (second_in words) old_second new_second →
     Written (status_of r) (refusal_text r) taken taken' o n result → Ended (on_both words old new old_second new_second left reads rig) taken taken' o n result
 no_second words one other old new old_second new_second left reads rig image at x r taken taken' o n result e i p s t w =
@@ -104,13 +104,13 @@ no_second words one other old new old_second new_second left reads rig image at 
 -- ---- places that can't be compared
 
 -- both images were opened and have their places
-pub record Found (words : List (List ℕ)) (one other : Place) (old new old_second new_second : StoreState) (image beside : Image) (at to : Stretch) : Type 0 where
+pub record Found (words : List (List ℕ)) (one other : PlaceWord) (old new old_second new_second : StoreState) (image beside : Image) (at to : Stretch) : Type 0 where
   pub first : Tried (Ok image) (image_in words) old new
   pub there : Ok at ≡ stretch_in (units_open image) one
   pub second : Tried (Ok beside) (second_in words) old_second new_second
   pub other_there : Ok to ≡ stretch_in (units_open beside) other
 
-both_found : (words : List (List ℕ)) (one other : Place) (old new old_second new_second : StoreState) (left : Option (List ℕ)) (reads : ℕ) (rig : RigState) (image beside : Image) (at to : Stretch) → Found words one other old new old_second new_second image beside at to →
+both_found : (words : List (List ℕ)) (one other : PlaceWord) (old new old_second new_second : StoreState) (left : Option (List ℕ)) (reads : ℕ) (rig : RigState) (image beside : Image) (at to : Stretch) → Found words one other old new old_second new_second image beside at to →
     HaveBoth one other (places (units_open image) at (units_open beside) to) (on_both words old new old_second new_second left reads rig)
 both_found words one other old new old_second new_second left reads rig image beside at to h = record {
   first = record { opened = opened_in image (image_in words) old new h.first; there = sym h.there };
@@ -118,7 +118,7 @@ both_found words one other old new old_second new_second left reads rig image be
   there = sym h.other_there;
 }
 
-pub other_size : (words : List (List ℕ)) (one other : Place) (old new old_second new_second : StoreState) (left : Option (List ℕ)) (reads : ℕ) (rig : RigState) (image beside : Image) (at to : Stretch) (b : Bool) (taken taken' : Option (List ℕ)) (o n : ℕ) (result : Status) →
+pub other_size : (words : List (List ℕ)) (one other : PlaceWord) (old new old_second new_second : StoreState) (left : Option (List ℕ)) (reads : ℕ) (rig : RigState) (image beside : Image) (at to : Stretch) (b : Bool) (taken taken' : Option (List ℕ)) (o n : ℕ) (result : Status) →
     command_in words ≡ Some (Diff one other) → Found words one other old new old_second new_second image beside at to → b ≡ eqb (spec_of (units_open image) at.dev).size (spec_of (units_open beside) to.dev).size → b ≡ false →
     Written (status_of refusal.OtherSize) (refusal_text refusal.OtherSize) taken taken' o n result → Ended (on_both words old new old_second new_second left reads rig) taken taken' o n result
 other_size words one other old new old_second new_second left reads rig image beside at to b taken taken' o n result e h q z w =
@@ -130,7 +130,7 @@ other_size words one other old new old_second new_second left reads rig image be
     })
     (since_tried (Ok image) (image_in words) old new h.first) (since_tried (Ok beside) (second_in words) old_second new_second h.second) w
 
-pub other_count : (words : List (List ℕ)) (one other : Place) (old new old_second new_second : StoreState) (left : Option (List ℕ)) (reads : ℕ) (rig : RigState) (image beside : Image) (at to : Stretch) (b : Bool) (taken taken' : Option (List ℕ)) (o n : ℕ) (result : Status) →
+pub other_count : (words : List (List ℕ)) (one other : PlaceWord) (old new old_second new_second : StoreState) (left : Option (List ℕ)) (reads : ℕ) (rig : RigState) (image beside : Image) (at to : Stretch) (b : Bool) (taken taken' : Option (List ℕ)) (o n : ℕ) (result : Status) →
     command_in words ≡ Some (Diff one other) → Found words one other old new old_second new_second image beside at to → b ≡ eqb (spec_of (units_open image) at.dev).size (spec_of (units_open beside) to.dev).size → b ≡ true → (at.count ≡ to.count → ⊥) →
     Written (status_of refusal.OtherCount) (refusal_text refusal.OtherCount) taken taken' o n result → Ended (on_both words old new old_second new_second left reads rig) taken taken' o n result
 other_count words one other old new old_second new_second left reads rig image beside at to b taken taken' o n result e h q z m w =
@@ -150,7 +150,7 @@ pub record Walked (mid new mid_second new_second : StoreState) : Type 0 where
   pub first : WasRead mid new
   pub second : WasRead mid_second new_second
 
-has_compared : (words : List (List ℕ)) (one other : Place) (old mid new old_second mid_second new_second : StoreState) (left : Option (List ℕ)) (reads : ℕ) (rig : RigState) (image beside : Image) (at to : Stretch) (ones twos : List (List ℕ)) →
+has_compared : (words : List (List ℕ)) (one other : PlaceWord) (old mid new old_second mid_second new_second : StoreState) (left : Option (List ℕ)) (reads : ℕ) (rig : RigState) (image beside : Image) (at to : Stretch) (ones twos : List (List ℕ)) →
     command_in words ≡ Some (Diff one other) → Found words one other old mid old_second mid_second image beside at to → Walked mid new mid_second new_second →
     (spec_of (units_open image) at.dev).size ≡ (spec_of (units_open beside) to.dev).size → at.count ≡ to.count → HaveBlocks (places (units_open image) at (units_open beside) to) ones twos mid.bytes mid_second.bytes →
     HasCompared (places (units_open image) at (units_open beside) to) ones twos (on_both words old new old_second new_second left reads rig)
@@ -171,7 +171,7 @@ has_compared words one other old mid new old_second mid_second new_second left r
   };
 }
 
-pub compared : (words : List (List ℕ)) (one other : Place) (old mid new old_second mid_second new_second : StoreState) (left : Option (List ℕ)) (reads : ℕ) (rig : RigState) (image beside : Image) (at to : Stretch) (r : Result ℕ DiffFault) (taken taken' : Option (List ℕ)) (o n : ℕ) (result : Status) →
+pub compared : (words : List (List ℕ)) (one other : PlaceWord) (old mid new old_second mid_second new_second : StoreState) (left : Option (List ℕ)) (reads : ℕ) (rig : RigState) (image beside : Image) (at to : Stretch) (r : Result ℕ DiffFault) (taken taken' : Option (List ℕ)) (o n : ℕ) (result : Status) →
     command_in words ≡ Some (Diff one other) → Found words one other old mid old_second mid_second image beside at to → Walked mid new mid_second new_second →
     (spec_of (units_open image) at.dev).size ≡ (spec_of (units_open beside) to.dev).size → at.count ≡ to.count →
     DiffEnds r (diff_of (places (units_open image) at (units_open beside) to)) (places (units_open image) at (units_open beside) to) mid.bytes mid_second.bytes (counts mid.faults new.faults mid_second.faults new_second.faults o n) taken taken' → result ≡ compared_status r →

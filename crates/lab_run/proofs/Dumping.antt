@@ -14,15 +14,15 @@ use Rattle.image_blocks.specs.declared.stretch.Stretch.{Stretch}
 use Rattle.image_layout.specs.Places.{block_place}
 use Rattle.image_dumps.specs.Dumps.{fits, imported, piece_len}
 use Rattle.image_dumps.specs.Ends.{DumpEnds, HasTaken, ImportEnds, IsShort, KeepsOutside, imported_in}
-use Rattle.image_dumps.specs.declared.fault.DumpFault.{DumpFault}
-use Rattle.image_dumps.specs.declared.fault.DumpFault.TheVariants as dumping
+use Rattle.image_walk.specs.declared.fault.WalkFault.{WalkFault}
+use Rattle.image_walk.specs.declared.fault.WalkFault.TheVariants as walk
 use Rattle.image_dumps.specs.declared.fault.ImportFault.{ImportFault}
 use Rattle.image_dumps.specs.declared.fault.ImportFault.TheVariants as halt
 use Rattle.image_dumps.specs.declared.layout.Layout.{Layout as DumpLayout}
 use Rattle.lab_words.specs.declared.command.Command.{Command}
 use Rattle.lab_words.specs.declared.command.Command.TheVariants.{Export, Import}
 use Rattle.lab_words.specs.declared.layout.Layout.{Layout}
-use Rattle.lab_words.specs.declared.place.Place.{Place}
+use Rattle.lab_words.specs.declared.place.PlaceWord.{PlaceWord}
 use Rattle.pi_tuple.specs.declared.checks.PiType.{PiType}
 use Rattle.rig_api.specs.declared.rig.RigFault.{RigFault}
 use Rattle.rig_api.specs.declared.rig.RigFault.TheVariants as head
@@ -53,7 +53,7 @@ refused_still words c old new left reads rig second r taken taken' o n result e 
 
 -- ---- an image that isn't opened, or hasn't what the words ask for
 
-not_exported : (place : Place) (layout : Layout) (x : RigFault) (f : Facts) → Tried (Err x) (image_in f.words) f.first f.first_after → CauseNotExported place layout (refusal_of x) f
+not_exported : (place : PlaceWord) (layout : Layout) (x : RigFault) (f : Facts) → Tried (Err x) (image_in f.words) f.first f.first_after → CauseNotExported place layout (refusal_of x) f
 not_exported place layout head.BadMagic f t = record { opened = t.opened; head = t.judged.head; judged = t.judged.judged; told = t.judged.told }
 not_exported place layout head.BadHeader f t = record { opened = t.opened; head = t.judged.head; judged = t.judged.judged; told = t.judged.told }
 not_exported place layout head.BadLength f t = record { opened = t.opened; head = t.judged.head; judged = t.judged.judged; told = t.judged.told }
@@ -63,20 +63,20 @@ not_exported place layout head.Memory f t = tt
 untouched : (words : List (List ℕ)) (old new : StoreState) (left : Option (List ℕ)) (reads : ℕ) (rig : RigState) (second : StoreState) → new.bytes ≡ old.bytes → IsUntouched (on_first words old new left reads rig second)
 untouched words old new left reads rig second b = record { bytes = b; left = refl; reads = refl }
 
-not_imported : (place : Place) (layout : Layout) (x : RigFault) (f : Facts) → IsUntouched f → Tried (Err x) (image_in f.words) f.first f.first_after → CauseNotImported place layout (refusal_of x) f
+not_imported : (place : PlaceWord) (layout : Layout) (x : RigFault) (f : Facts) → IsUntouched f → Tried (Err x) (image_in f.words) f.first f.first_after → CauseNotImported place layout (refusal_of x) f
 not_imported place layout head.BadMagic f u t = (record { opened = t.opened; head = t.judged.head; judged = t.judged.judged; told = t.judged.told }, u)
 not_imported place layout head.BadHeader f u t = (record { opened = t.opened; head = t.judged.head; judged = t.judged.judged; told = t.judged.told }, u)
 not_imported place layout head.BadLength f u t = (record { opened = t.opened; head = t.judged.head; judged = t.judged.judged; told = t.judged.told }, u)
 not_imported place layout head.Failed f u t = inl (t.failed refl, u)
 not_imported place layout head.Memory f u t = u
 
-pub unexported : (words : List (List ℕ)) (place : Place) (layout : Layout) (old new : StoreState) (left : Option (List ℕ)) (reads : ℕ) (rig : RigState) (second : StoreState) (x : RigFault) (r : Refusal) (taken taken' : Option (List ℕ)) (o n : ℕ) (result : Status) →
+pub unexported : (words : List (List ℕ)) (place : PlaceWord) (layout : Layout) (old new : StoreState) (left : Option (List ℕ)) (reads : ℕ) (rig : RigState) (second : StoreState) (x : RigFault) (r : Refusal) (taken taken' : Option (List ℕ)) (o n : ℕ) (result : Status) →
     command_in words ≡ Some (Export place layout) → r ≡ refusal_of x → Tried (Err x) (image_in words) old new → Written (status_of r) (refusal_text r) taken taken' o n result → Ended (on_first words old new left reads rig second) taken taken' o n result
 unexported words place layout old new left reads rig second x r taken taken' o n result e s t w =
     let f = on_first words old new left reads rig second in
     refused_still words (Export place layout) old new left reads rig second r taken taken' o n result e (subst (λ (y : Refusal). CauseNotExported place layout y f) (sym s) (not_exported place layout x f t)) t.same t.opening t.count w
 
-pub unimported : (words : List (List ℕ)) (place : Place) (layout : Layout) (old new : StoreState) (left : Option (List ℕ)) (reads : ℕ) (rig : RigState) (second : StoreState) (x : RigFault) (r : Refusal) (taken taken' : Option (List ℕ)) (o n : ℕ) (result : Status) →
+pub unimported : (words : List (List ℕ)) (place : PlaceWord) (layout : Layout) (old new : StoreState) (left : Option (List ℕ)) (reads : ℕ) (rig : RigState) (second : StoreState) (x : RigFault) (r : Refusal) (taken taken' : Option (List ℕ)) (o n : ℕ) (result : Status) →
     command_in words ≡ Some (Import place layout) → r ≡ refusal_of x → Tried (Err x) (image_in words) old new → Written (status_of r) (refusal_text r) taken taken' o n result → Ended (on_first words old new left reads rig second) taken taken' o n result
 unimported words place layout old new left reads rig second x r taken taken' o n result e s t w =
     let f = on_first words old new left reads rig second in
@@ -84,25 +84,25 @@ unimported words place layout old new left reads rig second x r taken taken' o n
     (subst (λ (y : Refusal). CauseNotImported place layout y f) (sym s) (not_imported place layout x f (untouched words old new left reads rig second t.same) t)) t.same t.opening t.count w
 
 -- want of memory for the blocks
-pub spared_export : (words : List (List ℕ)) (place : Place) (layout : Layout) (old : StoreState) (left : Option (List ℕ)) (reads : ℕ) (rig : RigState) (second : StoreState) (taken taken' : Option (List ℕ)) (o n : ℕ) (result : Status) →
+pub spared_export : (words : List (List ℕ)) (place : PlaceWord) (layout : Layout) (old : StoreState) (left : Option (List ℕ)) (reads : ℕ) (rig : RigState) (second : StoreState) (taken taken' : Option (List ℕ)) (o n : ℕ) (result : Status) →
     command_in words ≡ Some (Export place layout) → Written (status_of refusal.Memory) (refusal_text refusal.Memory) taken taken' o n result → Ended (on_first words old old left reads rig second) taken taken' o n result
 spared_export words place layout old left reads rig second taken taken' o n result e w =
     refused_still words (Export place layout) old old left reads rig second refusal.Memory taken taken' o n result e tt refl (inl (refl, refl)) (omega arith) w
 
-pub spared_import : (words : List (List ℕ)) (place : Place) (layout : Layout) (old : StoreState) (left : Option (List ℕ)) (reads : ℕ) (rig : RigState) (second : StoreState) (taken taken' : Option (List ℕ)) (o n : ℕ) (result : Status) →
+pub spared_import : (words : List (List ℕ)) (place : PlaceWord) (layout : Layout) (old : StoreState) (left : Option (List ℕ)) (reads : ℕ) (rig : RigState) (second : StoreState) (taken taken' : Option (List ℕ)) (o n : ℕ) (result : Status) →
     command_in words ≡ Some (Import place layout) → Written (status_of refusal.Memory) (refusal_text refusal.Memory) taken taken' o n result → Ended (on_first words old old left reads rig second) taken taken' o n result
 spared_import words place layout old left reads rig second taken taken' o n result e w =
     refused_still words (Import place layout) old old left reads rig second refusal.Memory taken taken' o n result e (untouched words old old left reads rig second refl) refl (inl (refl, refl)) (omega arith) w
 
 -- an image without the place
-pub unplaced_export : (words : List (List ℕ)) (place : Place) (layout : Layout) (old new : StoreState) (left : Option (List ℕ)) (reads : ℕ) (rig : RigState) (second : StoreState) (image : Image) (x : PlaceFault) (taken taken' : Option (List ℕ)) (o n : ℕ) (result : Status) →
+pub unplaced_export : (words : List (List ℕ)) (place : PlaceWord) (layout : Layout) (old new : StoreState) (left : Option (List ℕ)) (reads : ℕ) (rig : RigState) (second : StoreState) (image : Image) (x : PlaceFault) (taken taken' : Option (List ℕ)) (o n : ℕ) (result : Status) →
     command_in words ≡ Some (Export place layout) → Tried (Ok image) (image_in words) old new → Err x ≡ stretch_in (units_open image) place → Written (status_of (refusal.Place x)) (refusal_text (refusal.Place x)) taken taken' o n result →
     Ended (on_first words old new left reads rig second) taken taken' o n result
 unplaced_export words place layout old new left reads rig second image x taken taken' o n result e t p w =
     let f = on_first words old new left reads rig second in
     refused_still words (Export place layout) old new left reads rig second (refusal.Place x) taken taken' o n result e (record { units = units_open image; opened = opened_on image f t; judged = sym p }) t.same t.opening t.count w
 
-pub unplaced_import : (words : List (List ℕ)) (place : Place) (layout : Layout) (old new : StoreState) (left : Option (List ℕ)) (reads : ℕ) (rig : RigState) (second : StoreState) (image : Image) (x : PlaceFault) (taken taken' : Option (List ℕ)) (o n : ℕ) (result : Status) →
+pub unplaced_import : (words : List (List ℕ)) (place : PlaceWord) (layout : Layout) (old new : StoreState) (left : Option (List ℕ)) (reads : ℕ) (rig : RigState) (second : StoreState) (image : Image) (x : PlaceFault) (taken taken' : Option (List ℕ)) (o n : ℕ) (result : Status) →
     command_in words ≡ Some (Import place layout) → Tried (Ok image) (image_in words) old new → Err x ≡ stretch_in (units_open image) place → Written (status_of (refusal.Place x)) (refusal_text (refusal.Place x)) taken taken' o n result →
     Ended (on_first words old new left reads rig second) taken taken' o n result
 unplaced_import words place layout old new left reads rig second image x taken taken' o n result e t p w =
@@ -111,14 +111,14 @@ unplaced_import words place layout old new left reads rig second image x taken t
     (record { units = units_open image; opened = opened_on image f t; judged = sym p }, untouched words old new left reads rig second t.same) t.same t.opening t.count w
 
 -- a place without what the layout holds
-pub unfit_export : (words : List (List ℕ)) (place : Place) (layout : Layout) (old new : StoreState) (left : Option (List ℕ)) (reads : ℕ) (rig : RigState) (second : StoreState) (image : Image) (at : Stretch) (b : Bool) (taken taken' : Option (List ℕ)) (o n : ℕ) (result : Status) →
+pub unfit_export : (words : List (List ℕ)) (place : PlaceWord) (layout : Layout) (old new : StoreState) (left : Option (List ℕ)) (reads : ℕ) (rig : RigState) (second : StoreState) (image : Image) (at : Stretch) (b : Bool) (taken taken' : Option (List ℕ)) (o n : ℕ) (result : Status) →
     command_in words ≡ Some (Export place layout) → Tried (Ok image) (image_in words) old new → Ok at ≡ stretch_in (units_open image) place → b ≡ fits (laid_as layout) (spec_of (units_open image) at.dev).ty → b ≡ false →
     Written (status_of refusal.NoTuples) (refusal_text refusal.NoTuples) taken taken' o n result → Ended (on_first words old new left reads rig second) taken taken' o n result
 unfit_export words place layout old new left reads rig second image at b taken taken' o n result e t p q z w =
     let f = on_first words old new left reads rig second in
     refused_still words (Export place layout) old new left reads rig second refusal.NoTuples taken taken' o n result e (record { units = units_open image; opened = opened_on image f t; at = at; there = sym p; judged = sym q ∙ z }) t.same t.opening t.count w
 
-pub unfit_import : (words : List (List ℕ)) (place : Place) (layout : Layout) (old new : StoreState) (left : Option (List ℕ)) (reads : ℕ) (rig : RigState) (second : StoreState) (image : Image) (at : Stretch) (b : Bool) (taken taken' : Option (List ℕ)) (o n : ℕ) (result : Status) →
+pub unfit_import : (words : List (List ℕ)) (place : PlaceWord) (layout : Layout) (old new : StoreState) (left : Option (List ℕ)) (reads : ℕ) (rig : RigState) (second : StoreState) (image : Image) (at : Stretch) (b : Bool) (taken taken' : Option (List ℕ)) (o n : ℕ) (result : Status) →
     command_in words ≡ Some (Import place layout) → Tried (Ok image) (image_in words) old new → Ok at ≡ stretch_in (units_open image) place → b ≡ fits (laid_as layout) (spec_of (units_open image) at.dev).ty → b ≡ false →
     Written (status_of refusal.NoTuples) (refusal_text refusal.NoTuples) taken taken' o n result → Ended (on_first words old new left reads rig second) taken taken' o n result
 unfit_import words place layout old new left reads rig second image at b taken taken' o n result e t p q z w =
@@ -128,7 +128,7 @@ unfit_import words place layout old new left reads rig second image at b taken t
 
 -- ---- blocks that are exported
 
-shown_dump : (words : List (List ℕ)) (place : Place) (layout : Layout) (old mid new : StoreState) (left : Option (List ℕ)) (reads : ℕ) (rig : RigState) (second : StoreState) (image : Image) (at : Stretch) (r : Result (Unit {0}) DumpFault) (taken taken' : Option (List ℕ)) (o n : ℕ) (result : Status) →
+shown_dump : (words : List (List ℕ)) (place : PlaceWord) (layout : Layout) (old mid new : StoreState) (left : Option (List ℕ)) (reads : ℕ) (rig : RigState) (second : StoreState) (image : Image) (at : Stretch) (r : Result (Unit {0}) WalkFault) (taken taken' : Option (List ℕ)) (o n : ℕ) (result : Status) →
     command_in words ≡ Some (Export place layout) → Tried (Ok image) (image_in words) old mid → WasRead mid new → Ok at ≡ stretch_in (units_open image) place → fits (laid_as layout) (spec_of (units_open image) at.dev).ty ≡ true →
     DumpEnds r (laid_as layout) (units_open image) at mid.bytes mid.faults new.faults o n taken taken' → result ≡ dumped_status r → Ended (on_first words old new left reads rig second) taken taken' o n result
 shown_dump words place layout old mid new left reads rig second image at (Ok x) taken taken' o n result e t g p z s w = record {
@@ -142,7 +142,7 @@ shown_dump words place layout old mid new left reads rig second image at (Ok x) 
   written = inl (inl (w, s.written));
   kept = keeps_on image words old mid new left reads rig second t g;
 }
-shown_dump words place layout old mid new left reads rig second image at (Err dumping.Store) taken taken' o n result e t g p z s w = record {
+shown_dump words place layout old mid new left reads rig second image at (Err walk.Store) taken taken' o n result e t g p z s w = record {
   verdict = Exported (units_open image) at layout s.1.blocks;
   cause = record {
     place = place;
@@ -153,7 +153,7 @@ shown_dump words place layout old mid new left reads rig second image at (Err du
   written = inr (w, rose_since old.faults mid.faults new.faults t.count s.0, s.1.written);
   kept = keeps_on image words old mid new left reads rig second t g;
 }
-shown_dump words place layout old mid new left reads rig second image at (Err dumping.Sink) taken taken' o n result e t g p z s w = record {
+shown_dump words place layout old mid new left reads rig second image at (Err walk.Sink) taken taken' o n result e t g p z s w = record {
   verdict = Exported (units_open image) at layout s.1.blocks;
   cause = record {
     place = place;
@@ -165,7 +165,7 @@ shown_dump words place layout old mid new left reads rig second image at (Err du
   kept = keeps_on image words old mid new left reads rig second t g;
 }
 
-pub exported : (words : List (List ℕ)) (place : Place) (layout : Layout) (form : DumpLayout) (old mid new : StoreState) (left : Option (List ℕ)) (reads : ℕ) (rig : RigState) (second : StoreState) (image : Image) (at : Stretch) (r : Result (Unit {0}) DumpFault) (taken taken' : Option (List ℕ)) (o n : ℕ) (result : Status) →
+pub exported : (words : List (List ℕ)) (place : PlaceWord) (layout : Layout) (form : DumpLayout) (old mid new : StoreState) (left : Option (List ℕ)) (reads : ℕ) (rig : RigState) (second : StoreState) (image : Image) (at : Stretch) (r : Result (Unit {0}) WalkFault) (taken taken' : Option (List ℕ)) (o n : ℕ) (result : Status) →
     form ≡ laid_as layout → command_in words ≡ Some (Export place layout) → Tried (Ok image) (image_in words) old mid → WasRead mid new → Ok at ≡ stretch_in (units_open image) place → fits (laid_as layout) (spec_of (units_open image) at.dev).ty ≡ true →
     DumpEnds r form (units_open image) at mid.bytes mid.faults new.faults o n taken taken' → result ≡ dumped_status r → Ended (on_first words old new left reads rig second) taken taken' o n result
 exported words place layout form old mid new left reads rig second image at r taken taken' o n result fe e t g p z s w =
@@ -218,7 +218,7 @@ head_kept us at image image_after p =
     becomes image image_after (λ was is q. sym (take-take 512 place is low) ∙ ap (take 512) q.1 ∙ take-take 512 place was low) p
 
 -- what an import leaves
-taken_by : (words : List (List ℕ)) (place : Place) (layout : Layout) (form : DumpLayout) (most : ℕ) (old mid new : StoreState) (left left_after : Option (List ℕ)) (reads reads_after : ℕ) (rig : RigState) (second : StoreState) (image : Image) (at : Stretch) (r : Result ℕ ImportFault) →
+taken_by : (words : List (List ℕ)) (place : PlaceWord) (layout : Layout) (form : DumpLayout) (most : ℕ) (old mid new : StoreState) (left left_after : Option (List ℕ)) (reads reads_after : ℕ) (rig : RigState) (second : StoreState) (image : Image) (at : Stretch) (r : Result ℕ ImportFault) →
     form ≡ laid_as layout → most ≡ 65536 → Tried (Ok image) (image_in words) old mid → Writes (units_open image) at mid new reads reads_after → Ok at ≡ stretch_in (units_open image) place → fits (laid_as layout) (spec_of (units_open image) at.dev).ty ≡ true →
     ImportEnds r form (units_open image) at most mid.faults new.faults reads reads_after mid.bytes new.bytes left left_after → DumpTaken r (units_open image) at place layout (on_input words old new left left_after reads reads_after rig second)
 taken_by words place layout form most old mid new left left_after reads reads_after rig second image at r fe me t g p z s = record {
@@ -236,7 +236,7 @@ taken_by words place layout form most old mid new left left_after reads reads_af
       subst (λ (x : Option (List ℕ)). ImportEnds r (laid_as layout) (units_open image) at 65536 mid.faults new.faults reads reads_after x new.bytes left left_after) t.same b);
 }
 
-keeps_by : (words : List (List ℕ)) (place : Place) (layout : Layout) (old mid new : StoreState) (left left_after : Option (List ℕ)) (reads reads_after : ℕ) (rig : RigState) (second : StoreState) (us : List UnitSpec) (at : Stretch) (image : Image) (r : Result ℕ ImportFault) →
+keeps_by : (words : List (List ℕ)) (place : PlaceWord) (layout : Layout) (old mid new : StoreState) (left left_after : Option (List ℕ)) (reads reads_after : ℕ) (rig : RigState) (second : StoreState) (us : List UnitSpec) (at : Stretch) (image : Image) (r : Result ℕ ImportFault) →
     command_in words ≡ Some (Import place layout) → Tried (Ok image) (image_in words) old mid → Writes us at mid new reads reads_after → DumpTaken r us at place layout (on_input words old new left left_after reads reads_after rig second) → Keeps (on_input words old new left left_after reads reads_after rig second)
 keeps_by words place layout old mid new left left_after reads reads_after rig second us at image r e t g d =
     let f = on_input words old new left left_after reads reads_after rig second in
@@ -259,7 +259,7 @@ keeps_by words place layout old mid new left left_after reads reads_after rig se
       count = (let a = t.count in let b = g.store.count in omega arith);
     }
 
-pub imports : (words : List (List ℕ)) (place : Place) (layout : Layout) (form : DumpLayout) (most : ℕ) (old mid new : StoreState) (left left_after : Option (List ℕ)) (reads reads_after : ℕ) (rig : RigState) (second : StoreState) (image : Image) (at : Stretch) (count : ℕ) (text : List ℕ) (taken taken' : Option (List ℕ)) (o n : ℕ) (result : Status) →
+pub imports : (words : List (List ℕ)) (place : PlaceWord) (layout : Layout) (form : DumpLayout) (most : ℕ) (old mid new : StoreState) (left left_after : Option (List ℕ)) (reads reads_after : ℕ) (rig : RigState) (second : StoreState) (image : Image) (at : Stretch) (count : ℕ) (text : List ℕ) (taken taken' : Option (List ℕ)) (o n : ℕ) (result : Status) →
     form ≡ laid_as layout → most ≡ 65536 → command_in words ≡ Some (Import place layout) → Tried (Ok image) (image_in words) old mid → Writes (units_open image) at mid new reads reads_after → Ok at ≡ stretch_in (units_open image) place → fits (laid_as layout) (spec_of (units_open image) at.dev).ty ≡ true →
     ImportEnds (Ok count) form (units_open image) at most mid.faults new.faults reads reads_after mid.bytes new.bytes left left_after → text ≡ imported_text count → Written status.Whole text taken taken' o n result →
     Ended (on_input words old new left left_after reads reads_after rig second) taken taken' o n result
@@ -272,13 +272,13 @@ imports words place layout form most old mid new left left_after reads reads_aft
       kept = keeps_by words place layout old mid new left left_after reads reads_after rig second (units_open image) at image (Ok count) e t g d;
     }
 
-broken : (x : ImportFault) (place : Place) (layout : Layout) (f : Facts) → HasBrokenOff x place layout f → CauseNotImported place layout (halted x) f
+broken : (x : ImportFault) (place : PlaceWord) (layout : Layout) (f : Facts) → HasBrokenOff x place layout f → CauseNotImported place layout (halted x) f
 broken (halt.Short pieces) place layout f b = b
 broken halt.Long place layout f b = b
 broken halt.Store place layout f b = inr b
 broken halt.Source place layout f b = b
 
-pub halts : (words : List (List ℕ)) (place : Place) (layout : Layout) (form : DumpLayout) (most : ℕ) (old mid new : StoreState) (left left_after : Option (List ℕ)) (reads reads_after : ℕ) (rig : RigState) (second : StoreState) (image : Image) (at : Stretch) (x : ImportFault) (r : Refusal) (taken taken' : Option (List ℕ)) (o n : ℕ) (result : Status) →
+pub halts : (words : List (List ℕ)) (place : PlaceWord) (layout : Layout) (form : DumpLayout) (most : ℕ) (old mid new : StoreState) (left left_after : Option (List ℕ)) (reads reads_after : ℕ) (rig : RigState) (second : StoreState) (image : Image) (at : Stretch) (x : ImportFault) (r : Refusal) (taken taken' : Option (List ℕ)) (o n : ℕ) (result : Status) →
     form ≡ laid_as layout → most ≡ 65536 → command_in words ≡ Some (Import place layout) → Tried (Ok image) (image_in words) old mid → Writes (units_open image) at mid new reads reads_after → Ok at ≡ stretch_in (units_open image) place → fits (laid_as layout) (spec_of (units_open image) at.dev).ty ≡ true →
     ImportEnds (Err x) form (units_open image) at most mid.faults new.faults reads reads_after mid.bytes new.bytes left left_after → r ≡ halted x → Written (status_of r) (refusal_text r) taken taken' o n result →
     Ended (on_input words old new left left_after reads reads_after rig second) taken taken' o n result

@@ -12,11 +12,11 @@ use Rattle.image_blocks.specs.declared.stretch.PlaceFault.{PlaceFault}
 use Rattle.image_blocks.specs.declared.stretch.Stretch.{Stretch}
 use Rattle.image_commands.specs.Views.{OpenedOnce as RigOpenedOnce}
 use Rattle.image_show.specs.Shown.{ShowEnds, text_of}
-use Rattle.image_show.specs.declared.fault.ShowFault.{ShowFault}
-use Rattle.image_show.specs.declared.fault.ShowFault.TheVariants as show
+use Rattle.image_walk.specs.declared.fault.WalkFault.{WalkFault}
+use Rattle.image_walk.specs.declared.fault.WalkFault.TheVariants as walk
 use Rattle.lab_words.specs.declared.command.Command.{Command}
 use Rattle.lab_words.specs.declared.command.Command.TheVariants.{Help, Version, ShowUnits, ShowBlocks, Diff, Export, Import, Vectors, Judge, Explain, Sweep}
-use Rattle.lab_words.specs.declared.place.Place.{Place}
+use Rattle.lab_words.specs.declared.place.PlaceWord.{PlaceWord}
 use Rattle.rig_api.specs.Telling.{OpenedBy}
 use Rattle.rig_api.specs.declared.rig.RigFault.{RigFault}
 use Rattle.rig_api.specs.declared.rig.RigFault.TheVariants as head
@@ -61,7 +61,7 @@ not_listed head.BadLength f t = record { opened = t.opened; head = t.judged.head
 not_listed head.Failed f t = t.failed refl
 not_listed head.Memory f t = tt
 
-not_shown : (place : Place) (x : RigFault) (f : Facts) → Tried (Err x) (image_in f.words) f.first f.first_after → CauseNotShown place (refusal_of x) f
+not_shown : (place : PlaceWord) (x : RigFault) (f : Facts) → Tried (Err x) (image_in f.words) f.first f.first_after → CauseNotShown place (refusal_of x) f
 not_shown place head.BadMagic f t = record { opened = t.opened; head = t.judged.head; judged = t.judged.judged; told = t.judged.told }
 not_shown place head.BadHeader f t = record { opened = t.opened; head = t.judged.head; judged = t.judged.judged; told = t.judged.told }
 not_shown place head.BadLength f t = record { opened = t.opened; head = t.judged.head; judged = t.judged.judged; told = t.judged.told }
@@ -126,7 +126,7 @@ unlisted words old new left reads rig second x r taken taken' o n result e s t w
     (subst (λ (c : Option Command). CauseByCommand c r f) (sym e) (subst (λ (y : Refusal). CauseNotListed y f) (sym s) (not_listed x f t)))
     (kept_on words old new left reads rig second t.same t.opening t.count) w
 
-pub unshown : (words : List (List ℕ)) (place : Place) (old new : StoreState) (left : Option (List ℕ)) (reads : ℕ) (rig : RigState) (second : StoreState) (x : RigFault) (r : Refusal) (taken taken' : Option (List ℕ)) (o n : ℕ) (result : Status) →
+pub unshown : (words : List (List ℕ)) (place : PlaceWord) (old new : StoreState) (left : Option (List ℕ)) (reads : ℕ) (rig : RigState) (second : StoreState) (x : RigFault) (r : Refusal) (taken taken' : Option (List ℕ)) (o n : ℕ) (result : Status) →
     command_in words ≡ Some (ShowBlocks place) → r ≡ refusal_of x → Tried (Err x) (image_in words) old new → Written (status_of r) (refusal_text r) taken taken' o n result → Ended (on_first words old new left reads rig second) taken taken' o n result
 unshown words place old new left reads rig second x r taken taken' o n result e s t w =
     let f = on_first words old new left reads rig second in
@@ -135,7 +135,7 @@ unshown words place old new left reads rig second x r taken taken' o n result e 
     (kept_on words old new left reads rig second t.same t.opening t.count) w
 
 -- want of memory for the blocks
-pub spared : (words : List (List ℕ)) (place : Place) (old : StoreState) (left : Option (List ℕ)) (reads : ℕ) (rig : RigState) (second : StoreState) (taken taken' : Option (List ℕ)) (o n : ℕ) (result : Status) →
+pub spared : (words : List (List ℕ)) (place : PlaceWord) (old : StoreState) (left : Option (List ℕ)) (reads : ℕ) (rig : RigState) (second : StoreState) (taken taken' : Option (List ℕ)) (o n : ℕ) (result : Status) →
     command_in words ≡ Some (ShowBlocks place) → Written (status_of refusal.Memory) (refusal_text refusal.Memory) taken taken' o n result → Ended (on_first words old old left reads rig second) taken taken' o n result
 spared words place old left reads rig second taken taken' o n result e w =
     let f = on_first words old old left reads rig second in
@@ -157,7 +157,7 @@ listed words old new left reads rig second image taken taken' o n result e t w =
 }
 
 -- an image without the place
-pub unplaced : (words : List (List ℕ)) (place : Place) (old new : StoreState) (left : Option (List ℕ)) (reads : ℕ) (rig : RigState) (second : StoreState) (image : Image) (x : PlaceFault) (taken taken' : Option (List ℕ)) (o n : ℕ) (result : Status) →
+pub unplaced : (words : List (List ℕ)) (place : PlaceWord) (old new : StoreState) (left : Option (List ℕ)) (reads : ℕ) (rig : RigState) (second : StoreState) (image : Image) (x : PlaceFault) (taken taken' : Option (List ℕ)) (o n : ℕ) (result : Status) →
     command_in words ≡ Some (ShowBlocks place) → Tried (Ok image) (image_in words) old new → Err x ≡ stretch_in (units_open image) place → Written (status_of (refusal.Place x)) (refusal_text (refusal.Place x)) taken taken' o n result →
     Ended (on_first words old new left reads rig second) taken taken' o n result
 unplaced words place old new left reads rig second image x taken taken' o n result e t p w =
@@ -181,7 +181,7 @@ pub keeps_on : (image : Image) (words : List (List ℕ)) (old mid new : StoreSta
 keeps_on image words old mid new left reads rig second t g =
     kept_on words old new left reads rig second (g.same ∙ t.same) (rw (g.named, g.opened) t.opening) (let a = t.count in let b = g.count in omega arith)
 
-pub shown : (words : List (List ℕ)) (place : Place) (old mid new : StoreState) (left : Option (List ℕ)) (reads : ℕ) (rig : RigState) (second : StoreState) (image : Image) (at : Stretch) (r : Result ℕ ShowFault) (taken taken' : Option (List ℕ)) (o n : ℕ) (result : Status) →
+pub shown : (words : List (List ℕ)) (place : PlaceWord) (old mid new : StoreState) (left : Option (List ℕ)) (reads : ℕ) (rig : RigState) (second : StoreState) (image : Image) (at : Stretch) (r : Result ℕ WalkFault) (taken taken' : Option (List ℕ)) (o n : ℕ) (result : Status) →
     command_in words ≡ Some (ShowBlocks place) → Tried (Ok image) (image_in words) old mid → WasRead mid new → Ok at ≡ stretch_in (units_open image) place →
     ShowEnds r (text_of (units_open image) at) (units_open image) at mid.bytes mid.faults new.faults o n taken taken' → result ≡ shown_status r → Ended (on_first words old new left reads rig second) taken taken' o n result
 shown words place old mid new left reads rig second image at (Ok bad) taken taken' o n result e t g p s w = record {
@@ -190,13 +190,13 @@ shown words place old mid new left reads rig second image at (Ok bad) taken take
   written = inl (inl (w ∙ ap (λ (k : ℕ). done_status (ltb 0 k)) s.counted, s.written));
   kept = keeps_on image words old mid new left reads rig second t g;
 }
-shown words place old mid new left reads rig second image at (Err show.Store) taken taken' o n result e t g p s w = record {
+shown words place old mid new left reads rig second image at (Err walk.Store) taken taken' o n result e t g p s w = record {
   verdict = Shown (units_open image) at s.1.blocks;
   cause = record { place = place; named = e; opened = on_opened image words old mid new left reads rig second t g; there = sym p; has = subst (λ (b : Option (List ℕ)). HasBlocks (units_open image) at s.1.blocks b) t.same s.1.has };
   written = inr (w, rose_since old.faults mid.faults new.faults t.count s.0, s.1.written);
   kept = keeps_on image words old mid new left reads rig second t g;
 }
-shown words place old mid new left reads rig second image at (Err show.Sink) taken taken' o n result e t g p s w = record {
+shown words place old mid new left reads rig second image at (Err walk.Sink) taken taken' o n result e t g p s w = record {
   verdict = Shown (units_open image) at s.1.blocks;
   cause = record { place = place; named = e; opened = on_opened image words old mid new left reads rig second t g; there = sym p; has = subst (λ (b : Option (List ℕ)). HasBlocks (units_open image) at s.1.blocks b) t.same s.1.has };
   written = inl (inr (w, s.0, s.1.written));

@@ -2,13 +2,13 @@
 use Rattle.std.proofs.Common.{◌≡◌, ℕ, ◌≤◌, Bool, true, false, eqb, List, [], ◌∷◌, Option, Some, None, refl, subst, arith}
 use Rattle.std.specs.Prelude.{codes, if◌then◌else◌}
 use Rattle.std.specs.Str.{bytes_eq}
-use Rattle.unit_words.specs.Words.{units_in}
-use Rattle.lab_words.specs.Grammar.{PlaceAhead, alone, alone_behind, behind_image, command_by, command_in, diff_ahead, diff_of, diff_with, explain_of, export_of, exported, flip_in, image_and_place, import_of, imported, laid_in, laid_out, show_of, shown, shown_at, shown_behind, sweep_of, sweep_with, unless_zero, vectors_of}
+use Rattle.unit_words.specs.Words.{laid_out, units_in}
+use Rattle.lab_words.specs.Grammar.{PlaceAhead, alone, alone_behind, behind_image, command_by, command_in, diff_ahead, diff_of, diff_with, explain_of, export_of, exported, flip_in, image_and_place, import_of, imported, laid_in, show_of, shown, shown_at, shown_behind, sweep_of, sweep_with, unless_zero, vectors_of}
 use Rattle.lab_words.specs.Places.{place_in}
 use Rattle.lab_words.specs.declared.command.Command.{Command}
 use Rattle.lab_words.specs.declared.command.Command.TheVariants.{Help, Version, ShowUnits, ShowBlocks, Diff, Export, Import, Vectors, Judge, Explain, Sweep}
 use Rattle.lab_words.specs.declared.layout.Layout.{Layout}
-use Rattle.lab_words.specs.declared.place.Place.{Place}
+use Rattle.lab_words.specs.declared.place.PlaceWord.{PlaceWord}
 use Rattle.script_words.specs.Hexes.{byte_in}
 use Rattle.target_answer.specs.Headers.{is_layout}
 use Rattle.target_answer.specs.declared.units.UnitSpec.{UnitSpec}
@@ -65,7 +65,7 @@ good_behind : (c : Command) (o : Option (List (List ℕ))) → IsGood (Some c) �
 good_behind c None p = tt
 good_behind c (Some words) p = good_alone c words p
 
-good_shown_at : (o : Option Place) (words : List (List ℕ)) → IsGood (shown_at o words)
+good_shown_at : (o : Option PlaceWord) (words : List (List ℕ)) → IsGood (shown_at o words)
 good_shown_at None words = tt
 good_shown_at (Some place) words = good_alone (ShowBlocks place) words tt
 
@@ -77,7 +77,7 @@ good_shown_behind : (o : Option (List (List ℕ))) → IsGood (shown_behind o)
 good_shown_behind None = tt
 good_shown_behind (Some words) = good_shown words
 
-good_diff_with : (one : Place) (o : Option PlaceAhead) → IsGood (diff_with one o)
+good_diff_with : (one : PlaceWord) (o : Option PlaceAhead) → IsGood (diff_with one o)
 good_diff_with one None = tt
 good_diff_with one (Some a) = good_alone (Diff one a.place) a.rest tt
 
@@ -85,11 +85,11 @@ good_diff_ahead : (o : Option PlaceAhead) → IsGood (diff_ahead o)
 good_diff_ahead None = tt
 good_diff_ahead (Some a) = good_diff_with a.place (image_and_place a.rest)
 
-good_exported : (o : Option (Place × Layout)) → IsGood (exported o)
+good_exported : (o : Option (PlaceWord × Layout)) → IsGood (exported o)
 good_exported None = tt
 good_exported (Some p) = tt
 
-good_imported : (o : Option (Place × Layout)) → IsGood (imported o)
+good_imported : (o : Option (PlaceWord × Layout)) → IsGood (imported o)
 good_imported None = tt
 good_imported (Some p) = tt
 

@@ -10,8 +10,8 @@ use Rattle.lab_words.specs.declared.command.Command.{Command}
 use Rattle.lab_words.specs.declared.command.Command.TheVariants.{Help, Version, ShowUnits, ShowBlocks, Diff, Export, Import, Vectors, Judge, Explain, Sweep}
 use Rattle.lab_words.specs.declared.layout.Layout.{Layout}
 use Rattle.lab_words.specs.declared.layout.Layout.TheVariants as word
-use Rattle.lab_words.specs.declared.place.Place.{Place}
-use Rattle.lab_words.specs.declared.place.Place.TheVariants.{Device, Blocks}
+use Rattle.lab_words.specs.declared.place.PlaceWord.{PlaceWord}
+use Rattle.lab_words.specs.declared.place.PlaceWord.TheVariants.{Device, Blocks}
 use Rattle.rig_api.specs.Telling.{Opened, Stayed}
 use Rattle.rig_api.specs.State.{RigState}
 use Rattle.target_answer.specs.declared.units.UnitSpec.{UnitSpec}
@@ -57,7 +57,7 @@ second_in (verb ∷ image ∷ place ∷ []) = []
 second_in (verb ∷ image ∷ place ∷ second ∷ words) = second
 
 -- the blocks of a place, where the units have them, or why they haven't
-abbrev pub stretch_in : List UnitSpec → Place → Result Stretch PlaceFault
+abbrev pub stretch_in : List UnitSpec → PlaceWord → Result Stretch PlaceFault
 stretch_in us (Device dev) = whole_in us dev
 stretch_in us (Blocks dev first count) = part_in us dev first count
 

@@ -11,7 +11,7 @@ use Rattle.image_blocks.specs.declared.stretch.Stretch.{Stretch}
 use Rattle.lab_words.specs.declared.command.Command.{Command}
 use Rattle.lab_words.specs.declared.command.Command.TheVariants.{Help, Version, ShowUnits, ShowBlocks, Diff, Export, Import, Vectors, Judge, Explain, Sweep}
 use Rattle.lab_words.specs.declared.layout.Layout.{Layout}
-use Rattle.lab_words.specs.declared.place.Place.{Place}
+use Rattle.lab_words.specs.declared.place.PlaceWord.{PlaceWord}
 use Rattle.rig_api.specs.Head.{head_fault, head_of, units_of}
 use Rattle.rig_api.specs.declared.rig.RigFault.{RigFault}
 use Rattle.target_answer.specs.declared.units.UnitSpec.{UnitSpec}
@@ -44,7 +44,7 @@ pub record WroteUnits (f : Facts) (old new : Option (List ℕ)) (result : Status
   pub wrote : Wrote status.Whole (units_text units) old new result
 
 -- Each block of the place was told, and the status is 1 exactly where one of them is at fault.
-pub record WroteBlocks (place : Place) (f : Facts) (old new : Option (List ℕ)) (result : Status) : Type 0 where
+pub record WroteBlocks (place : PlaceWord) (f : Facts) (old new : Option (List ℕ)) (result : Status) : Type 0 where
   pub units : List UnitSpec
   pub at : Stretch
   pub blocks : List (List ℕ)
@@ -53,7 +53,7 @@ pub record WroteBlocks (place : Place) (f : Facts) (old new : Option (List ℕ))
   pub wrote : Wrote (done_status (ltb 0 (bad_of units at blocks))) (text_of units at blocks) old new result
 
 -- Each two blocks of the places that differ were told, and the status is 1 exactly where there are such.
-pub record WroteDifferences (one other : Place) (f : Facts) (old new : Option (List ℕ)) (result : Status) : Type 0 where
+pub record WroteDifferences (one other : PlaceWord) (f : Facts) (old new : Option (List ℕ)) (result : Status) : Type 0 where
   pub places : Places
   pub ones : List (List ℕ)
   pub twos : List (List ℕ)
@@ -63,7 +63,7 @@ pub record WroteDifferences (one other : Place) (f : Facts) (old new : Option (L
   pub wrote : Wrote (done_status (ltb 0 (differ_of places ones twos))) (diff_of places ones twos) old new result
 
 -- Each block of the place was written in the layout, and nothing else.
-pub record WroteDump (place : Place) (layout : Layout) (f : Facts) (old new : Option (List ℕ)) (result : Status) : Type 0 where
+pub record WroteDump (place : PlaceWord) (layout : Layout) (f : Facts) (old new : Option (List ℕ)) (result : Status) : Type 0 where
   pub units : List UnitSpec
   pub at : Stretch
   pub blocks : List (List ℕ)
@@ -72,7 +72,7 @@ pub record WroteDump (place : Place) (layout : Layout) (f : Facts) (old new : Op
   pub wrote : Wrote status.Whole (dump_in (laid_as layout) units at blocks) old new result
 
 -- The dump is in the place, and its blocks were counted.
-pub record TookDump (place : Place) (layout : Layout) (f : Facts) (old new : Option (List ℕ)) (result : Status) : Type 0 where
+pub record TookDump (place : PlaceWord) (layout : Layout) (f : Facts) (old new : Option (List ℕ)) (result : Status) : Type 0 where
   pub units : List UnitSpec
   pub at : Stretch
   pub count : ℕ
@@ -112,7 +112,7 @@ abbrev pub CameTo : Status → Facts → Type 0
 CameTo s f = (w : Outcome) × (ending_status w.ending ≡ s) × CauseRan (command_in f.words) w f
 
 -- the place that a command names, and `diff` first
-abbrev pub place_named : Option Command → Option Place
+abbrev pub place_named : Option Command → Option PlaceWord
 place_named None = None
 place_named (Some Help) = None
 place_named (Some Version) = None
@@ -127,7 +127,7 @@ place_named (Some Explain) = None
 place_named (Some (Sweep byte units)) = None
 
 -- the place and the layout that a command names
-abbrev pub layout_named : Option Command → Option (Place × Layout)
+abbrev pub layout_named : Option Command → Option (PlaceWord × Layout)
 layout_named None = None
 layout_named (Some Help) = None
 layout_named (Some Version) = None
@@ -142,27 +142,27 @@ layout_named (Some Explain) = None
 layout_named (Some (Sweep byte units)) = None
 
 -- The first image of a `diff` isn't at fault, but its second is: its head, or it hasn't its place; or the places have other sizes of block, or other numbers of them.
-abbrev pub IsSecondAtFault : (one other : Place) → Facts → Type 0
+abbrev pub IsSecondAtFault : (one other : PlaceWord) → Facts → Type 0
 IsSecondAtFault one other f = ((fault : RigFault) × HasBadSecond one fault f) ⊎ (((fault : PlaceFault) × HasNoSecondPlace one other fault f) ⊎ (HasOtherSize one other f ⊎ HasOtherCount one other f))
 
 -- The image hasn't the place of the words.
 pub record IsUnplaced (f : Facts) : Type 0 where
-  pub place : Place
+  pub place : PlaceWord
   pub fault : PlaceFault
   pub named : place_named (command_in f.words) ≡ Some place
   pub none : HasNoPlace place fault f
 
 -- It has no tuples there, which the layout of the words asks for.
 pub record IsUnfit (f : Facts) : Type 0 where
-  pub place : Place
+  pub place : PlaceWord
   pub layout : Layout
   pub named : layout_named (command_in f.words) ≡ Some (place, layout)
   pub none : HasNoTuples place layout f
 
 -- The second image of a `diff` is at fault.
 pub record IsUncompared (f : Facts) : Type 0 where
-  pub one : Place
-  pub other : Place
+  pub one : PlaceWord
+  pub other : PlaceWord
   pub named : command_in f.words ≡ Some (Diff one other)
   pub second : IsSecondAtFault one other f
 
@@ -175,15 +175,15 @@ abbrev pub IsBadHead : List ℕ → Type 0
 IsBadHead image = (fault : RigFault) × (head_fault (head_of image) ≡ Some fault)
 
 -- An image that is told hasn't the place.
-abbrev pub IsNoPlace : Place → List ℕ → Type 0
+abbrev pub IsNoPlace : PlaceWord → List ℕ → Type 0
 IsNoPlace place image = (fault : PlaceFault) × (stretch_in (units_of (head_of image)) place ≡ Err fault)
 
 -- An image that is told has the place, but no tuples there, which the layout asks for.
-abbrev pub IsNoTuples : Place → Layout → List ℕ → Type 0
+abbrev pub IsNoTuples : PlaceWord → Layout → List ℕ → Type 0
 IsNoTuples place layout image = (at : Stretch) × (stretch_in (units_of (head_of image)) place ≡ Ok at) × (fits (laid_as layout) (spec_of (units_of (head_of image)) at.dev).ty ≡ false)
 
 -- Two images that are told have their places, but of other sizes or numbers of blocks.
-pub record AreOtherPlaces (one other : Place) (image : List ℕ) (beside : Option (List ℕ)) : Type 0 where
+pub record AreOtherPlaces (one other : PlaceWord) (image : List ℕ) (beside : Option (List ℕ)) : Type 0 where
   pub second : List ℕ
   pub places : Places
   pub told : beside ≡ Some second
@@ -195,8 +195,8 @@ pub record AreOtherPlaces (one other : Place) (image : List ℕ) (beside : Optio
 
 -- The second image of a `diff` that is told is at fault: its head, or it hasn't its place.
 pub record IsSecondWrong (c : Option Command) (image : List ℕ) : Type 0 where
-  pub one : Place
-  pub other : Place
+  pub one : PlaceWord
+  pub other : PlaceWord
   pub named : c ≡ Some (Diff one other)
   pub wrong : IsBadHead image ⊎ IsNoPlace other image
 
@@ -226,7 +226,7 @@ IsOtherLength us at layout (Some dump) = length dump ≡ dump_len us at layout �
 
 -- The dump of an `import` is at fault: it is too short or too long.
 pub record IsDumpAtFault (f : Facts) : Type 0 where
-  pub place : Place
+  pub place : PlaceWord
   pub layout : Layout
   pub units : List UnitSpec
   pub at : Stretch
@@ -235,7 +235,7 @@ pub record IsDumpAtFault (f : Facts) : Type 0 where
   pub other : IsOtherLength units at layout f.left
 
 -- The image that is told has the place, and what the layout asks for; and the source tells a dump, and doesn't fail.
-pub record IsReady (place : Place) (layout : Layout) (f : Facts) (image : List ℕ) : Type 0 where
+pub record IsReady (place : PlaceWord) (layout : Layout) (f : Facts) (image : List ℕ) : Type 0 where
   pub right : head_fault (head_of image) ≡ None
   pub at : Stretch
   pub there : stretch_in (units_of (head_of image)) place ≡ Ok at
@@ -281,7 +281,7 @@ pub record Causes (f : Facts) (o n : ℕ) (result : Status) : Type 0 where
   pub reads : result ≡ status.ReadFault → Rose f.reads f.reads_after
 
 -- Two images that are told are right and have the places of a `diff`, of one size of block and one number of blocks.
-pub record AreComparable (one other : Place) (image : List ℕ) (beside : Option (List ℕ)) : Type 0 where
+pub record AreComparable (one other : PlaceWord) (image : List ℕ) (beside : Option (List ℕ)) : Type 0 where
   pub right : head_fault (head_of image) ≡ None
   pub second : List ℕ
   pub told : beside ≡ Some second

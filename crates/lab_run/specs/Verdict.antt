@@ -10,20 +10,18 @@ use Rattle.image_blocks.specs.declared.stretch.PlaceFault.{PlaceFault}
 use Rattle.image_blocks.specs.declared.stretch.Stretch.{Stretch}
 use Rattle.image_dumps.specs.Dumps.{fits}
 use Rattle.image_dumps.specs.Ends.{ImportEnds, KeepsOutside, dump_in}
-use Rattle.image_dumps.specs.declared.fault.DumpFault.{DumpFault}
-use Rattle.image_dumps.specs.declared.fault.DumpFault.TheVariants as dumping
+use Rattle.image_walk.specs.declared.fault.WalkFault.{WalkFault}
+use Rattle.image_walk.specs.declared.fault.WalkFault.TheVariants as walk
 use Rattle.image_dumps.specs.declared.fault.ImportFault.{ImportFault}
 use Rattle.image_dumps.specs.declared.fault.ImportFault.TheVariants as halt
 use Rattle.image_diff.specs.Compared.{HaveBlocks, Places, diff_of, differ_of}
 use Rattle.image_diff.specs.declared.fault.DiffFault.{DiffFault}
 use Rattle.image_diff.specs.declared.fault.DiffFault.TheVariants as compare
 use Rattle.image_show.specs.Shown.{bad_of, text_of}
-use Rattle.image_show.specs.declared.fault.ShowFault.{ShowFault}
-use Rattle.image_show.specs.declared.fault.ShowFault.TheVariants as show
 use Rattle.lab_words.specs.declared.command.Command.{Command}
 use Rattle.lab_words.specs.declared.command.Command.TheVariants.{Help, Version, ShowUnits, ShowBlocks, Diff, Export, Import, Vectors, Judge, Explain, Sweep}
 use Rattle.lab_words.specs.declared.layout.Layout.{Layout}
-use Rattle.lab_words.specs.declared.place.Place.{Place}
+use Rattle.lab_words.specs.declared.place.PlaceWord.{PlaceWord}
 use Rattle.rig_api.specs.Head.{Head, IsHeadOf, head_fault, units_of}
 use Rattle.rig_api.specs.Telling.{Opened}
 use Rattle.rig_api.specs.declared.rig.RigFault.{RigFault}
@@ -46,6 +44,7 @@ use Rattle.lab_run.specs.declared.refusal.Refusal.{Refusal}
 use Rattle.lab_run.specs.declared.refusal.Refusal.TheVariants as refusal
 use Rattle.lab_run.specs.declared.status.Status.{Status}
 use Rattle.lab_run.specs.declared.status.Status.TheVariants as status
+use Rattle.lab_run.specs.declared.importing.TheConstants.{STRETCH}
 
 -- ---- what was done
 
@@ -67,19 +66,19 @@ HasOpenedSecond us f = OpenedAs us (second_in f.words) f.second f.second_after
 
 -- The image was opened, it has the place of the words, and these are its blocks: as many as the place has, each of the length that is stored. Where the image is told they are the stored ones.
 pub record HasShown (us : List UnitSpec) (at : Stretch) (blocks : List (List ℕ)) (f : Facts) : Type 0 where
-  pub place : Place
+  pub place : PlaceWord
   pub named : command_in f.words ≡ Some (ShowBlocks place)
   pub opened : HasOpened us f
   pub there : stretch_in us place ≡ Ok at
   pub has : HasBlocks us at blocks f.first.bytes
 
 -- The first image was opened, and has its place.
-pub record HasFirst (us : List UnitSpec) (at : Stretch) (place : Place) (f : Facts) : Type 0 where
+pub record HasFirst (us : List UnitSpec) (at : Stretch) (place : PlaceWord) (f : Facts) : Type 0 where
   pub opened : HasOpened us f
   pub there : stretch_in us place ≡ Ok at
 
 -- Both images were opened, and have their places.
-pub record HaveBoth (one other : Place) (p : Places) (f : Facts) : Type 0 where
+pub record HaveBoth (one other : PlaceWord) (p : Places) (f : Facts) : Type 0 where
   pub first : HasFirst p.units p.at one f
   pub opened : HasOpenedSecond p.others f
   pub there : stretch_in p.others other ≡ Ok p.to
@@ -90,8 +89,8 @@ AreOneSize p = (spec_of p.units p.at.dev).size ≡ (spec_of p.others p.to.dev).s
 
 -- Both images were opened and have the places of the words, of one size of block and one number of blocks, and these are their blocks: each of the length that is stored. Where an image is told they are the stored ones.
 pub record HasCompared (p : Places) (ones twos : List (List ℕ)) (f : Facts) : Type 0 where
-  pub one : Place
-  pub other : Place
+  pub one : PlaceWord
+  pub other : PlaceWord
   pub named : command_in f.words ≡ Some (Diff one other)
   pub both : HaveBoth one other p f
   pub size : AreOneSize p
@@ -104,29 +103,29 @@ pub record HasListed (us : List UnitSpec) (f : Facts) : Type 0 where
   pub opened : HasOpened us f
 
 -- The image was opened, it has the place, and what the words name has the layout.
-pub record HasFound (us : List UnitSpec) (at : Stretch) (place : Place) (layout : Layout) (f : Facts) : Type 0 where
+pub record HasFound (us : List UnitSpec) (at : Stretch) (place : PlaceWord) (layout : Layout) (f : Facts) : Type 0 where
   pub opened : HasOpened us f
   pub there : stretch_in us place ≡ Ok at
   pub fits : fits (laid_as layout) (spec_of us at.dev).ty ≡ true
 
 -- These are the blocks of the place of an `export`, whose layout this is: as many as the place has, each of the length that is stored. Where the image is told they are the stored ones.
 pub record HasExported (us : List UnitSpec) (at : Stretch) (layout : Layout) (blocks : List (List ℕ)) (f : Facts) : Type 0 where
-  pub place : Place
+  pub place : PlaceWord
   pub named : command_in f.words ≡ Some (Export place layout)
   pub found : HasFound us at place layout f
   pub has : HasBlocks us at blocks f.first.bytes
 
 -- The dump of an `import` was taken so: what came of it, and what stands in the place and is left in the source. The store has the length of the units.
-pub record DumpTaken (result : Result ℕ ImportFault) (us : List UnitSpec) (at : Stretch) (place : Place) (layout : Layout) (f : Facts) : Type 0 where
+pub record DumpTaken (result : Result ℕ ImportFault) (us : List UnitSpec) (at : Stretch) (place : PlaceWord) (layout : Layout) (f : Facts) : Type 0 where
   pub found : HasFound us at place layout f
   pub opened_faults : ℕ
   pub since : f.first.faults ≤ opened_faults
-  pub ends : ImportEnds result (laid_as layout) us at 65536 opened_faults f.first_after.faults f.reads f.reads_after f.first.bytes f.first_after.bytes f.left f.left_after
+  pub ends : ImportEnds result (laid_as layout) us at STRETCH opened_faults f.first_after.faults f.reads f.reads_after f.first.bytes f.first_after.bytes f.left f.left_after
   pub len : f.first_after.length ≡ image_size us
 
 -- The dump is in the place: so many blocks of it, which are all that the place has.
 pub record HasImported (us : List UnitSpec) (at : Stretch) (count : ℕ) (layout : Layout) (f : Facts) : Type 0 where
-  pub place : Place
+  pub place : PlaceWord
   pub named : command_in f.words ≡ Some (Import place layout)
   pub taken : DumpTaken (Ok count) us at place layout f
 
@@ -151,13 +150,13 @@ CauseNotListed refusal.Memory f = Unit {0}
 CauseNotListed _ f = ⊥
 
 -- The image was opened, and hasn't the place, for this reason.
-pub record HasNoPlace (place : Place) (fault : PlaceFault) (f : Facts) : Type 0 where
+pub record HasNoPlace (place : PlaceWord) (fault : PlaceFault) (f : Facts) : Type 0 where
   pub units : List UnitSpec
   pub opened : HasOpened units f
   pub judged : stretch_in units place ≡ Err fault
 
 -- Why the blocks of a place aren't told.
-abbrev pub CauseNotShown : Place → Refusal → Facts → Type 0
+abbrev pub CauseNotShown : PlaceWord → Refusal → Facts → Type 0
 CauseNotShown place (refusal.Image fault) f = HasBadHead fault f
 CauseNotShown place (refusal.Place fault) f = HasNoPlace place fault f
 CauseNotShown place refusal.RigFault f = Rose f.first.faults f.first_after.faults
@@ -165,7 +164,7 @@ CauseNotShown place refusal.Memory f = Unit {0}
 CauseNotShown place _ f = ⊥
 
 -- The image was opened and has the place, but no tuples there, which the words ask for.
-pub record HasNoTuples (place : Place) (layout : Layout) (f : Facts) : Type 0 where
+pub record HasNoTuples (place : PlaceWord) (layout : Layout) (f : Facts) : Type 0 where
   pub units : List UnitSpec
   pub opened : HasOpened units f
   pub at : Stretch
@@ -173,7 +172,7 @@ pub record HasNoTuples (place : Place) (layout : Layout) (f : Facts) : Type 0 wh
   pub judged : fits (laid_as layout) (spec_of units at.dev).ty ≡ false
 
 -- Why no block of a place is exported.
-abbrev pub CauseNotExported : Place → Layout → Refusal → Facts → Type 0
+abbrev pub CauseNotExported : PlaceWord → Layout → Refusal → Facts → Type 0
 CauseNotExported place layout (refusal.Image fault) f = HasBadHead fault f
 CauseNotExported place layout (refusal.Place fault) f = HasNoPlace place fault f
 CauseNotExported place layout refusal.NoTuples f = HasNoTuples place layout f
@@ -188,13 +187,13 @@ pub record IsUntouched (f : Facts) : Type 0 where
   pub reads : f.reads_after ≡ f.reads
 
 -- The dump was broken off so, with what that leaves.
-pub record HasBrokenOff (fault : ImportFault) (place : Place) (layout : Layout) (f : Facts) : Type 0 where
+pub record HasBrokenOff (fault : ImportFault) (place : PlaceWord) (layout : Layout) (f : Facts) : Type 0 where
   pub units : List UnitSpec
   pub at : Stretch
   pub taken : DumpTaken (Err fault) units at place layout f
 
 -- Why a dump isn't imported whole, and what is left then.
-abbrev pub CauseNotImported : Place → Layout → Refusal → Facts → Type 0
+abbrev pub CauseNotImported : PlaceWord → Layout → Refusal → Facts → Type 0
 CauseNotImported place layout (refusal.Image fault) f = HasBadHead fault f × IsUntouched f
 CauseNotImported place layout (refusal.Place fault) f = HasNoPlace place fault f × IsUntouched f
 CauseNotImported place layout refusal.NoTuples f = HasNoTuples place layout f × IsUntouched f
@@ -206,14 +205,14 @@ CauseNotImported place layout refusal.Memory f = IsUntouched f
 CauseNotImported place layout _ f = ⊥
 
 -- The first image was opened and has its place, the second was opened, and this is the first fault of its head.
-pub record HasBadSecond (one : Place) (fault : RigFault) (f : Facts) : Type 0 where
+pub record HasBadSecond (one : PlaceWord) (fault : RigFault) (f : Facts) : Type 0 where
   pub units : List UnitSpec
   pub at : Stretch
   pub first : HasFirst units at one f
   pub second : BadHeadOf fault (second_in f.words) f.second f.second_after
 
 -- The first image was opened and has its place, and the second was opened and hasn't its own, for this reason.
-pub record HasNoSecondPlace (one other : Place) (fault : PlaceFault) (f : Facts) : Type 0 where
+pub record HasNoSecondPlace (one other : PlaceWord) (fault : PlaceFault) (f : Facts) : Type 0 where
   pub units : List UnitSpec
   pub at : Stretch
   pub first : HasFirst units at one f
@@ -222,20 +221,20 @@ pub record HasNoSecondPlace (one other : Place) (fault : PlaceFault) (f : Facts)
   pub judged : stretch_in others other ≡ Err fault
 
 -- Both images have their places, of other sizes of blocks.
-pub record HasOtherSize (one other : Place) (f : Facts) : Type 0 where
+pub record HasOtherSize (one other : PlaceWord) (f : Facts) : Type 0 where
   pub places : Places
   pub both : HaveBoth one other places f
   pub judged : AreOneSize places → ⊥
 
 -- Both images have their places, of one size of block, but of other numbers of blocks.
-pub record HasOtherCount (one other : Place) (f : Facts) : Type 0 where
+pub record HasOtherCount (one other : PlaceWord) (f : Facts) : Type 0 where
   pub places : Places
   pub both : HaveBoth one other places f
   pub size : AreOneSize places
   pub judged : places.at.count ≡ places.to.count → ⊥
 
 -- Why two places aren't compared.
-abbrev pub CauseNotCompared : (one other : Place) → Refusal → Facts → Type 0
+abbrev pub CauseNotCompared : (one other : PlaceWord) → Refusal → Facts → Type 0
 CauseNotCompared one other (refusal.Image fault) f = HasBadHead fault f
 CauseNotCompared one other (refusal.Place fault) f = HasNoPlace one fault f
 CauseNotCompared one other (refusal.SecondImage fault) f = HasBadSecond one fault f
@@ -297,10 +296,10 @@ abbrev pub done_status : Bool → Status
 done_status bad = if bad then status.SomeBad else status.Whole
 
 -- the status of a stretch that was shown, or wasn't
-abbrev pub shown_status : Result ℕ ShowFault → Status
+abbrev pub shown_status : Result ℕ WalkFault → Status
 shown_status (Ok bad) = done_status (ltb 0 bad)
-shown_status (Err show.Store) = status.RigFault
-shown_status (Err show.Sink) = status.WriteFault
+shown_status (Err walk.Store) = status.RigFault
+shown_status (Err walk.Sink) = status.WriteFault
 
 -- the status of places that were compared, or weren't
 abbrev pub compared_status : Result ℕ DiffFault → Status
@@ -310,10 +309,10 @@ compared_status (Err compare.Second) = status.RigFault
 compared_status (Err compare.Sink) = status.WriteFault
 
 -- the status of a dump that was written, or wasn't
-abbrev pub dumped_status : Result (Unit {0}) DumpFault → Status
+abbrev pub dumped_status : Result (Unit {0}) WalkFault → Status
 dumped_status (Ok x) = status.Whole
-dumped_status (Err dumping.Store) = status.RigFault
-dumped_status (Err dumping.Sink) = status.WriteFault
+dumped_status (Err walk.Store) = status.RigFault
+dumped_status (Err walk.Sink) = status.WriteFault
 
 -- the refusal of a dump that isn't taken whole
 abbrev pub halted : ImportFault → Refusal
@@ -423,7 +422,7 @@ abbrev pub KeepsHead : (image image_after : Option (List ℕ)) → Type 0
 KeepsHead image image_after = Becomes (λ was is. take 512 is ≡ take 512 was) image image_after
 
 -- The image has the place, and is as before around it: each block, each byte and the length; and its head.
-pub record KeepsAround (place : Place) (f : Facts) : Type 0 where
+pub record KeepsAround (place : PlaceWord) (f : Facts) : Type 0 where
   pub units : List UnitSpec
   pub at : Stretch
   pub opened : HasOpened units f
@@ -433,7 +432,7 @@ pub record KeepsAround (place : Place) (f : Facts) : Type 0 where
   pub head : KeepsHead f.first.bytes f.first_after.bytes
 
 -- Each byte that the image tells is as before, or each outside of the place.
-abbrev pub KeepsOthers : Place → Facts → Type 0
+abbrev pub KeepsOthers : PlaceWord → Facts → Type 0
 KeepsOthers place f = (f.first_after.bytes ≡ f.first.bytes) ⊎ KeepsAround place f
 
 -- Each byte that the image tells is as before; `import` keeps those outside of its place.

@@ -17,7 +17,7 @@ use crate::status::Status;
 use dix_base::{Sink, Store};
 use image_blocks::{Image, Stretch, open_image};
 use image_diff::{DiffFault, diff_blocks};
-use lab_words::Place;
+use lab_words::PlaceWord;
 use std::alloc::Global;
 use unit_words::image_of;
 
@@ -58,8 +58,8 @@ fn status_of(ended: Result<u32, DiffFault>) -> Status
 pub(crate) fn diff<A: Store, B: Store, O: Sink>(
     alloc: Global,
     words: &[String],
-    one: Place,
-    other: Place,
+    one: PlaceWord,
+    other: PlaceWord,
     first: &mut A,
     second: &mut B,
     out: &mut O,

@@ -11,7 +11,8 @@ ghost use Rattle.lab_run.specs.Verdict.{dumped_status, halted};
 use crate::refusal::Refusal;
 use crate::status::Status;
 use image_blocks::{Image, Stretch};
-use image_dumps::{DumpFault, ImportFault, fits};
+use image_dumps::{ImportFault, fits};
+use image_walk::WalkFault;
 use lab_words::Layout;
 use report_text::{Line, add, add_number};
 
@@ -36,13 +37,13 @@ pub(crate) fn fits_there(image: &Image, at: Stretch, layout: Layout) -> bool
 }
 
 /// The status of a dump that was written, or wasn't.
-pub(crate) fn dumped(ended: Result<(), DumpFault>) -> Status
+pub(crate) fn dumped(ended: Result<(), WalkFault>) -> Status
     ensures { result ≡ dumped_status ended }
 {
     match ended {
         Ok(()) => Status::Whole,
-        Err(DumpFault::Store) => Status::RigFault,
-        Err(DumpFault::Sink) => Status::WriteFault,
+        Err(WalkFault::Store) => Status::RigFault,
+        Err(WalkFault::Sink) => Status::WriteFault,
     }
 }
 

@@ -17,7 +17,7 @@ use crate::status::Status;
 use dix_base::{Sink, Store};
 use image_blocks::open_image;
 use image_dumps::export_blocks;
-use lab_words::{Layout, Place};
+use lab_words::{Layout, PlaceWord};
 use std::alloc::Global;
 use unit_words::image_of;
 
@@ -25,7 +25,7 @@ use unit_words::image_of;
 pub(crate) fn export<A: Store, O: Sink>(
     alloc: Global,
     words: &[String],
-    place: Place,
+    place: PlaceWord,
     layout: Layout,
     store: &mut A,
     out: &mut O,

@@ -17,7 +17,7 @@ use crate::status::Status;
 use dix_base::{Sink, Source, Store};
 use image_blocks::open_image;
 use image_dumps::import_blocks;
-use lab_words::{Layout, Place};
+use lab_words::{Layout, PlaceWord};
 use std::alloc::Global;
 use unit_words::image_of;
 
@@ -25,7 +25,7 @@ use unit_words::image_of;
 pub(crate) fn import<S: Source, A: Store, O: Sink>(
     alloc: Global,
     words: &[String],
-    place: Place,
+    place: PlaceWord,
     layout: Layout,
     input: &mut S,
     store: &mut A,
@@ -58,4 +58,4 @@ pub(crate) fn import<S: Source, A: Store, O: Sink>(
 }
 
 /// So many bytes of blocks are written at once, at most: a write that fails may leave anything in as many.
-const STRETCH: usize = 65536;
+pub(crate) const STRETCH: usize = 65536;

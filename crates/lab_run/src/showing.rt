@@ -17,19 +17,19 @@ use crate::refusal::Refusal;
 use crate::status::Status;
 use dix_base::{Failed, Sink, Store};
 use image_blocks::{Image, PlaceFault, Stretch, open_image, part_of, whole_of};
-use image_show::ShowFault;
-use lab_words::Place;
+use image_walk::WalkFault;
+use lab_words::PlaceWord;
 use std::alloc::Global;
 use unit_words::image_of;
 
 /// The blocks of a place.
-pub(crate) fn stretch_of(image: &Image, place: Place) -> Result<Stretch, PlaceFault>
+pub(crate) fn stretch_of(image: &Image, place: PlaceWord) -> Result<Stretch, PlaceFault>
     ensures value { result ≡ stretch_in (units_open image.now) place }
     ensures there { IfOk result (IsStretch (units_open image.now)) }
 {
     match place {
-        Place::Device { dev } => whole_of(image, dev),
-        Place::Blocks { dev, first, count } => part_of(image, dev, first, count),
+        PlaceWord::Device { dev } => whole_of(image, dev),
+        PlaceWord::Blocks { dev, first, count } => part_of(image, dev, first, count),
     }
 }
 
@@ -44,13 +44,13 @@ fn list_units<O: Sink>(image: &Image, out: &mut O) -> Status
 }
 
 /// The status of blocks that were shown.
-fn status_of(ended: Result<u32, ShowFault>) -> Status
+fn status_of(ended: Result<u32, WalkFault>) -> Status
     ensures { result ≡ shown_status ended }
 {
     match ended {
         Ok(bad) => status_for(bad > 0),
-        Err(ShowFault::Store) => Status::RigFault,
-        Err(ShowFault::Sink) => Status::WriteFault,
+        Err(WalkFault::Store) => Status::RigFault,
+        Err(WalkFault::Sink) => Status::WriteFault,
     }
 }
 
@@ -75,7 +75,7 @@ pub(crate) fn show_units<A: Store, O: Sink>(
 pub(crate) fn show_blocks<A: Store, O: Sink>(
     alloc: Global,
     words: &[String],
-    place: Place,
+    place: PlaceWord,
     store: &mut A,
     out: &mut O,
 ) -> Status
