@@ -10,7 +10,7 @@ use Rattle.script_text.specs.Crossings.{crossed}
 use Rattle.script_text.specs.declared.fault.ScriptFault.{ScriptFault}
 use Rattle.script_text.specs.declared.script.Script.{Script}
 use Rattle.stack_ops.specs.declared.op.Op.{Op}
-use Rattle.run_follows.specs.Overwrites.{is_overwrite}
+use Rattle.stack_ops.specs.Ops.{is_overwrite}
 use Rattle.flip_sweep.specs.declared.flips.Site.{Site}
 
 -- ---- crossings

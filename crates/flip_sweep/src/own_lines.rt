@@ -1,20 +1,10 @@
 //! Faults that a script has itself.
 
 ghost use Rattle.std.specs.Prelude.{◌≡◌};
-ghost use Rattle.run_follows.specs.Overwrites.{is_overwrite};
 ghost use Rattle.flip_sweep.specs.Flips.{bad_at, overwrite_fault, own_fault};
 
 use script_text::{Script, ScriptFault, ScriptKind};
 use stack_ops::Op;
-
-fn is_overwrite(op: &Op) -> bool
-    ensures { result ≡ is_overwrite op.now }
-{
-    match op {
-        Op::Overwrite { .. } => true,
-        _ => false,
-    }
-}
 
 fn bad_at(line: u32) -> Option<ScriptFault>
     ensures { result ≡ bad_at line }
@@ -33,7 +23,7 @@ fn overwrite_fault(ops: &[Op], lines: &[u32]) -> Option<ScriptFault>
     let mut numbers = lines;
     while let Some((op, behind)) = rest.split_first() {
         let (line, more) = numbers.split_first()?;
-        if is_overwrite(op) {
+        if op.is_overwrite() {
             return bad_at(*line);
         }
         rest = behind;

@@ -17,7 +17,7 @@ use Rattle.whole_run.specs.Steps.{Step}
 use Rattle.whole_run.specs.UnderMap.{AreClean, NoEscape, NoneEscapes, home, opened, under}
 use Rattle.run_laws.specs.ShownRun.{DevicesAreClean}
 use Rattle.run_premises.specs.Forms.{escapes_none, shows_by_form}
-use Rattle.run_follows.specs.Overwrites.{is_overwrite}
+use Rattle.stack_ops.specs.Ops.{is_overwrite}
 use Rattle.script_text.specs.Language.{script_in}
 use Rattle.script_text.specs.declared.script.Script.{Script}
 use Rattle.run_command.specs.Texts.{has_bad}

@@ -14,7 +14,8 @@ use Rattle.volume_table.specs.Places.{place_in, volume_len}
 use Rattle.block_path.specs.Acts.{State}
 use Rattle.whole_run.specs.CalmRun.{AllFit, Fits, LiesIn}
 use Rattle.whole_run.specs.Settings.{Setting}
-use Rattle.run_premises.specs.Forms.{first_virt, op_of}
+use Rattle.stack_ops.specs.Ops.{first_virt}
+use Rattle.run_premises.specs.Forms.{op_of}
 use Rattle.script_lines.specs.declared.line.Spot.{Spot}
 use Rattle.script_lines.specs.declared.line.Spot.TheVariants.{Host, Wire, Medium}
 use Rattle.script_text.specs.Bindings.{request_of}

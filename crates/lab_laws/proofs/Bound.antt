@@ -9,7 +9,7 @@ use Rattle.fault_schedule.specs.declared.fault.Crossing.TheVariants.{TargetToMed
 use Rattle.fault_schedule.specs.declared.fault.FaultKind.TheVariants.{Flip}
 use Rattle.fault_schedule.specs.declared.fault.FaultLine.{FaultLine}
 use Rattle.stack_ops.specs.declared.op.Op.{Op}
-use Rattle.run_follows.specs.Overwrites.{is_overwrite}
+use Rattle.stack_ops.specs.Ops.{is_overwrite}
 use Rattle.target_answer.specs.Frames.{tuple_of}
 use Rattle.target_answer.specs.Image.{formatted}
 use Rattle.target_answer.specs.Target.{Stored}

@@ -20,7 +20,8 @@ use Rattle.whole_run.specs.CalmRun.{AllFit, LiesIn}
 use Rattle.whole_run.specs.Settings.{Setting}
 use Rattle.whole_run.specs.UnderMap.{NoEscape, home}
 use Rattle.whole_run.proofs.TupleFrames.{below_replicate}
-use Rattle.run_premises.specs.Forms.{first_virt, op_of}
+use Rattle.stack_ops.specs.Ops.{first_virt}
+use Rattle.run_premises.specs.Forms.{op_of}
 use Rattle.script_ground.proofs.Calm.{all-fit}
 use Rattle.script_laws.specs.Keeping.{Each}
 use Rattle.script_text.specs.Crossings.{is_read}

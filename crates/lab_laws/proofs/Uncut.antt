@@ -40,7 +40,7 @@ use Rattle.run_follows.specs.Falls.{Falls, falling, over_falls, stores_or}
 use Rattle.run_follows.specs.Flips.{Flips, flip_op, with_flips}
 use Rattle.stack_core.specs.Mediums.{medium_lines}
 use Rattle.stack_core.specs.OnRecord.{IsFormed, command_by}
-use Rattle.run_follows.specs.Overwrites.{is_overwrite}
+use Rattle.stack_ops.specs.Ops.{is_overwrite}
 use Rattle.script_text.specs.Bindings.{binding_fault}
 use Rattle.script_text.specs.Language.{script_in}
 use Rattle.script_text.specs.declared.script.Script.{Script}

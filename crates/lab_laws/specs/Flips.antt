@@ -12,7 +12,8 @@ use Rattle.stack_ops.specs.declared.reply.Reply.{Reply}
 use Rattle.target_answer.specs.Headers.{is_layout}
 use Rattle.target_answer.specs.Image.{formatted}
 use Rattle.whole_run.specs.UnderMap.{NoEscape}
-use Rattle.run_premises.specs.Forms.{escapes_none, first_virt, op_of}
+use Rattle.stack_ops.specs.Ops.{first_virt}
+use Rattle.run_premises.specs.Forms.{escapes_none, op_of}
 use Rattle.script_laws.specs.Keeping.{Each}
 use Rattle.run_command.specs.Working.{IsSound}
 use Rattle.volume_table.specs.Faults.{table_fault}

@@ -9,7 +9,8 @@ use Rattle.fault_schedule.specs.declared.fault.FaultLine.{FaultLine}
 use Rattle.stack_ops.specs.declared.op.Op.{Op}
 use Rattle.stack_ops.specs.declared.op.Op.TheVariants.{Fetch, Wait}
 use Rattle.whole_run.specs.Steps.{each_from}
-use Rattle.run_premises.specs.Forms.{brings_tuples, first_virt, is_good_line, is_shown_line, may_mend, may_undo, stores, virt_of}
+use Rattle.stack_ops.specs.Ops.{first_virt}
+use Rattle.run_premises.specs.Forms.{brings_tuples, is_good_line, is_shown_line, may_mend, may_undo, stores, virt_of}
 use Rattle.mirror_premises.specs.Forms.{is_good_on_legs, may_undo_on_legs, stores_on_legs, virt_in, virt_on_legs}
 
 -- greater than each place, and than the number of each op

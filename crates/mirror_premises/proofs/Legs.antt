@@ -11,7 +11,8 @@ use Rattle.whole_run.specs.FirstLayer.{is_flip}
 use Rattle.whole_run.specs.Past.{steps_from}
 use Rattle.whole_run.specs.Settings.{Block, Setting, block_of, route}
 use Rattle.whole_run.specs.Steps.{Reads, Seals, Step, Writes, WritesPi, body_of, each_from, frame_at, steps_of, tuple_of}
-use Rattle.run_premises.specs.Forms.{first_virt, is_overwrite, op_of}
+use Rattle.stack_ops.specs.Ops.{first_virt, is_overwrite}
+use Rattle.run_premises.specs.Forms.{op_of}
 use Rattle.run_premises.proofs.Lines.{line_of, none_of, pick}
 use Rattle.mirror_walk.specs.Mirror.{blocks_in, count_of, twin}
 use Rattle.mirror_walk.specs.OneGood.{AllSpare, HasGoodLeg, IsUnnamed, OneGood, on_leg}

@@ -3,7 +3,7 @@ use Rattle.std.proofs.Common.{◌≡◌, ◌<◌, ◌≤◌, ℕ, ◌+◌, ◌-�
 use Rattle.std.specs.Prelude.{nat_lt}
 use Rattle.std.proofs.lemmas.Bool.{lt-ltb, ltb-true, false_from_ne_true}
 use Rattle.stack_ops.specs.declared.op.Op.{Op}
-use Rattle.run_premises.specs.Forms.{first_virt}
+use Rattle.stack_ops.specs.Ops.{first_virt}
 use Rattle.mirror_walk.specs.Mirror.{blocks_in}
 use Rattle.mirror_premises.specs.Forms.{virt_in}
 

@@ -25,7 +25,8 @@ use Rattle.whole_run.proofs.CalmRuns.{part_length}
 use Rattle.whole_run.proofs.TupleFrames.{below_replicate}
 use Rattle.run_laws.proofs.Layers.{checked}
 use Rattle.run_laws.proofs.Reading.{checked_form}
-use Rattle.run_premises.specs.Forms.{first_virt, is_good_line, is_overwrite, is_shown_line, op_of}
+use Rattle.stack_ops.specs.Ops.{first_virt, is_overwrite}
+use Rattle.run_premises.specs.Forms.{is_good_line, is_shown_line, op_of}
 use Rattle.run_premises.specs.FormedRun.{IsOfBytes}
 use Rattle.run_premises.proofs.Lines.{IsLineOf, line_of, none_of, pick}
 use Rattle.run_premises.proofs.Runs.{if_all}

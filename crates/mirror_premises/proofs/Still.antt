@@ -31,7 +31,7 @@ use Rattle.whole_run.specs.Steps.{Alters, Reads, Seals, Sets, Shows, Step, Write
 use Rattle.whole_run.specs.UnderMap.{address_of, home}
 use Rattle.whole_run.proofs.TagLaws.{passed_all}
 use Rattle.run_laws.proofs.Found.{from_both, passes_if, unmasked}
-use Rattle.run_premises.specs.Forms.{is_overwrite}
+use Rattle.stack_ops.specs.Ops.{is_overwrite}
 use Rattle.mirror_walk.specs.Mirror.{Mirror, all_asked, asked, asks, count_of, done, mirror_opened, mirror_past, mirror_walk, marks_of, twin}
 use Rattle.mirror_walk.specs.OneGood.{AllBind, AreBytes, Binds, HoldsProper, IsMirrorRun, IsRepaired, ReadsLast, last_of, on_leg, script_asks}
 use Rattle.mirror_walk.specs.Repair.{Repair, mirror_repair}

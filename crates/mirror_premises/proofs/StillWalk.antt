@@ -27,7 +27,7 @@ use Rattle.whole_run.specs.Steps.{Alters, Reads, Seals, Sets, Shows, Step, Write
 use Rattle.whole_run.specs.UnderMap.{address_of, home}
 use Rattle.whole_run.proofs.CalmRuns.{part_length}
 use Rattle.run_laws.proofs.Layers.{unmoved}
-use Rattle.run_premises.specs.Forms.{is_overwrite}
+use Rattle.stack_ops.specs.Ops.{is_overwrite}
 use Rattle.mirror_walk.specs.Mirror.{Mirror, accepted, answer, asked, asks, done, findings, is_none, listed, marked_by, marks_of, mirror_past, replies_from, twin}
 use Rattle.mirror_walk.specs.LegByLeg.{DeliversWhole, HasLegs}
 use Rattle.mirror_walk.specs.OneGood.{AllBind, Binds}

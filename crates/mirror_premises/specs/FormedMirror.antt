@@ -14,7 +14,8 @@ use Rattle.whole_run.specs.Past.{brought_by}
 use Rattle.whole_run.specs.Settings.{Setting}
 use Rattle.whole_run.specs.UnderMap.{AreClean, NoneEscapes, home}
 use Rattle.run_laws.specs.ShownRun.{DevicesAreClean, HasCells, IsChecked, LiesOn}
-use Rattle.run_premises.specs.Forms.{escapes_none, is_overwrite}
+use Rattle.stack_ops.specs.Ops.{is_overwrite}
+use Rattle.run_premises.specs.Forms.{escapes_none}
 use Rattle.run_premises.specs.FormedRun.{IsOfBytes}
 use Rattle.mirror_walk.specs.OneGood.{AllBind, AreBytes, IsRepaired, ReadsLast, script_asks}
 use Rattle.mirror_premises.specs.Forms.{shows_on_legs}

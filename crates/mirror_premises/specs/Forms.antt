@@ -5,7 +5,8 @@ use Rattle.fault_schedule.specs.Altered.{is_same}
 use Rattle.fault_schedule.specs.declared.fault.Crossing.TheVariants.{MediumToTarget, TargetToMedium}
 use Rattle.fault_schedule.specs.declared.fault.FaultLine.{FaultLine}
 use Rattle.stack_ops.specs.declared.op.Op.{Op}
-use Rattle.run_premises.specs.Forms.{first_virt, is_overwrite, is_shown_line, op_of}
+use Rattle.stack_ops.specs.Ops.{first_virt, is_overwrite}
+use Rattle.run_premises.specs.Forms.{is_shown_line, op_of}
 use Rattle.mirror_walk.specs.Mirror.{blocks_in}
 
 -- Which scheduled faults on a mirror tuples can show, and whether they leave each block a leg, told by their lines, the ops and the mirror's length alone.

@@ -22,7 +22,8 @@ use Rattle.whole_run.specs.Detectable.{detectable}
 use Rattle.whole_run.specs.Settings.{Setting}
 use Rattle.whole_run.specs.UnderMap.{AreClean, NoneEscapes, address_of, home}
 use Rattle.run_laws.specs.ShownRun.{DevicesAreClean}
-use Rattle.run_premises.specs.Forms.{is_overwrite, supplies_none}
+use Rattle.stack_ops.specs.Ops.{is_overwrite}
+use Rattle.run_premises.specs.Forms.{supplies_none}
 use Rattle.mirror_walk.specs.OneGood.{AreBytes, OneGood, script_asks}
 use Rattle.mirror_premises.specs.Forms.{is_good_on_legs, spares_other_leg}
 use Rattle.mirror_premises.specs.FormedMirror.{AllPutBytes, HasFormedLegs, HasStillLegs, PutsBytes, ServesLast}

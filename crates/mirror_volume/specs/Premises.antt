@@ -9,7 +9,8 @@ use Rattle.whole_run.specs.Detectable.{detectable}
 use Rattle.whole_run.specs.Past.{brought_by}
 use Rattle.whole_run.specs.UnderMap.{NoneEscapes, home}
 use Rattle.run_laws.specs.ShownRun.{DevicesAreClean}
-use Rattle.run_premises.specs.Forms.{escapes_none, is_overwrite}
+use Rattle.stack_ops.specs.Ops.{is_overwrite}
+use Rattle.run_premises.specs.Forms.{escapes_none}
 use Rattle.script_text.specs.declared.script.Script.{Script}
 use Rattle.script_stack.specs.Causes.{table_of}
 use Rattle.mirror_walk.specs.OneGood.{OneGood, script_asks}

@@ -11,13 +11,13 @@ ghost use Rattle.leg_runs.specs.Standing.{op_at};
 
 use crate::legs::Plan;
 use crate::mirror::{State, whole_request};
-use crate::pages::{data_of, fill, put, shown};
+use crate::pages::{data_of, shown};
 use crate::reading::read_blocks;
 use crate::replies::request_reply;
 use crate::writing::write_request;
 use page_pool::SgList;
 use rig_api::{Change, Rig};
-use stack_ops::{Op, Reply};
+use stack_ops::{Op, Reply, fill, put};
 use std::alloc::{AllocError, Global};
 
 /// Writes n blocks from block v on, as op `number`.

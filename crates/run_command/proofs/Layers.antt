@@ -22,7 +22,7 @@ use Rattle.stack_ops.specs.declared.op.Op.{Op}
 use Rattle.stack_ops.specs.declared.op.Op.TheVariants.{Fetch, FetchPi, Fill, Overwrite, Put, Seal, Show, Wait, Write, WritePi}
 use Rattle.stack_ops.specs.declared.reply.BadBlock.{BadBlock}
 use Rattle.stack_ops.specs.declared.reply.Reply.TheVariants.{Silent}
-use Rattle.run_follows.specs.Overwrites.{is_overwrite}
+use Rattle.stack_ops.specs.Ops.{is_overwrite}
 use Rattle.stack_core.specs.Walking.{is_medium}
 use Rattle.whole_run.specs.ScriptWalk.{act_of, acts_of, bad_from, replies_from, reply_of, script_replies, shown_reply, whole_or_bad}
 use Rattle.whole_run.specs.Settings.{Block, Setting, route}

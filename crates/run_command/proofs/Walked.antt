@@ -21,7 +21,7 @@ use Rattle.run_laws.specs.Records.{recorded}
 use Rattle.run_laws.specs.ToldRun.{told}
 use Rattle.stack_ops.specs.declared.reply.Reply.TheVariants.{Silent}
 use Rattle.script_stack.specs.Followed.{HasFallen, HasWalked, IsBackedBy, failed_in, none_fails, opening_of, setting_of, unit_of}
-use Rattle.run_follows.specs.Overwrites.{is_overwrite}
+use Rattle.stack_ops.specs.Ops.{is_overwrite}
 use Rattle.run_follows.specs.Falls.{of_blocks}
 use Rattle.stack_core.specs.Going.{Went}
 use Rattle.script_stack.proofs.Ended.{BackedLaw, FallenLaw, IsOver, MediumLaw, ToldLaw, answered_by, backed_by, fallen_at, few_lines, sent_by, told_at, walked_at}

@@ -13,7 +13,7 @@ use Rattle.whole_run.specs.Settings.{Setting}
 use Rattle.whole_run.specs.UnderMap.{AreClean, NoEscape}
 use Rattle.run_laws.specs.ShownRun.{DevicesAreClean}
 use Rattle.run_premises.specs.Forms.{escapes_none, shows_by_form}
-use Rattle.run_follows.specs.Overwrites.{is_overwrite}
+use Rattle.stack_ops.specs.Ops.{is_overwrite}
 use Rattle.script_stack.specs.Followed.{none_fails, opening_of, setting_of}
 use Rattle.script_text.specs.declared.script.Script.{Script}
 

@@ -2,7 +2,7 @@ use Rattle.std.specs.Prelude.{ℕ, suc, ◌≡◌, ◌+◌, ◌*◌, ◌<◌, �
 use Rattle.std.specs.List.{list_any}
 use Rattle.dix_base.specs.Told.{Calm, Rose}
 use Rattle.answered_record.specs.Answered.{AreAnswersTo}
-use Rattle.run_follows.specs.Overwrites.{is_overwrite}
+use Rattle.stack_ops.specs.Ops.{is_overwrite}
 use Rattle.page_pool.specs.Pages.{IsBlank}
 use Rattle.dix_adapter.specs.Groups.{mode_of}
 use Rattle.image_commands.specs.Causes.{CauseUntold, WasTold}

@@ -15,7 +15,6 @@ pub mod Spots
 pub mod Ground
 pub mod Units
 pub mod Seals
-pub mod Overwrites
 pub mod Sheets
 pub mod Settling
 pub mod Settled

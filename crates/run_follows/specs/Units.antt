@@ -6,23 +6,10 @@ use Rattle.target_answer.specs.Target.{has_blocks}
 use Rattle.target_answer.specs.declared.units.UnitSpec.{UnitSpec}
 use Rattle.rig_api.specs.Telling.{no_spec}
 use Rattle.stack_ops.specs.declared.op.Op.{Op}
-use Rattle.stack_ops.specs.declared.op.Op.TheVariants.{Fetch, FetchPi, Fill, Overwrite, Put, Seal, Show, Wait, Write, WritePi}
+use Rattle.stack_ops.specs.Ops.{first_virt}
 use Rattle.whole_run.specs.Settings.{Setting, block_of, route}
 use Rattle.run_laws.specs.ScriptMoves.{fates_of}
 use Rattle.run_follows.specs.Spots.{op_in}
-
--- the first virtual block of a request
-abbrev pub first_virt : Op → ℕ
-first_virt (Fill seg byte) = 0
-first_virt (Put page off bytes) = 0
-first_virt (Show seg) = 0
-first_virt (Seal n body tuples app rtag) = 0
-first_virt (Write v n body app) = v
-first_virt (Fetch v n body) = v
-first_virt (WritePi v n body tuples) = v
-first_virt (FetchPi v n body tuples) = v
-first_virt (Overwrite dev lba change) = 0
-first_virt Wait = 0
 
 -- The unit behind a device is of the volume's type, with blocks of its size, and has a block at this address.
 pub record IsAtUnit (m : Setting) (units : List UnitSpec) (dev : ℕ) (lba : ℤ) : Type 0 where

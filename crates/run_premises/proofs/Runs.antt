@@ -24,7 +24,8 @@ use Rattle.whole_run.proofs.CalmRuns.{frame_length, part_length}
 use Rattle.whole_run.proofs.TupleFrames.{below_replicate}
 use Rattle.run_laws.proofs.Layers.{checked}
 use Rattle.run_laws.proofs.Reading.{checked_form, none_escapes}
-use Rattle.run_premises.specs.Forms.{brings_tuples, first_virt, is_good_line, is_overwrite, is_stored_altered, op_of, virt_of}
+use Rattle.stack_ops.specs.Ops.{first_virt, is_overwrite}
+use Rattle.run_premises.specs.Forms.{brings_tuples, is_good_line, is_stored_altered, op_of, virt_of}
 use Rattle.run_premises.specs.FormedRun.{HasFormedFaults, IsOfBytes}
 use Rattle.run_premises.proofs.Shown.{AllSuit, all_shown, begins, both_suit, each_suits}
 use Rattle.run_premises.proofs.Lines.{IsLineOf, line_of, none_of}

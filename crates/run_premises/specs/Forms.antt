@@ -10,6 +10,7 @@ use Rattle.fault_schedule.specs.declared.fault.Crossing.TheVariants.{AdapterToHo
 use Rattle.fault_schedule.specs.declared.fault.FaultLine.{FaultLine}
 use Rattle.stack_ops.specs.declared.op.Op.{Op}
 use Rattle.stack_ops.specs.declared.op.Op.TheVariants.{Fetch, FetchPi, Fill, Overwrite, Put, Seal, Show, Wait, Write, WritePi}
+use Rattle.stack_ops.specs.Ops.{first_virt, is_overwrite}
 use Rattle.whole_run.specs.FirstLayer.{is_flip}
 use Rattle.pi_tuple.specs.declared.TheConstants.{TUPLE}
 
@@ -61,19 +62,6 @@ is_shown_line kind size faults line = is_flip line.kind && is_shown size (kind_a
 abbrev pub op_of : List Op → ℕ → Op
 op_of ops number = get_or ops (number - 1) Wait
 
--- the first virtual block of a request
-abbrev pub first_virt : Op → ℕ
-first_virt (Fill seg byte) = 0
-first_virt (Put page off bytes) = 0
-first_virt (Show seg) = 0
-first_virt (Seal n body tuples app rtag) = 0
-first_virt (Write v n body app) = v
-first_virt (Fetch v n body) = v
-first_virt (WritePi v n body tuples) = v
-first_virt (FetchPi v n body tuples) = v
-first_virt (Overwrite dev lba change) = 0
-first_virt Wait = 0
-
 -- the virtual block of a line
 abbrev pub virt_of : List Op → FaultLine → ℕ
 virt_of ops line = first_virt (op_of ops line.op) + line.k
@@ -108,19 +96,6 @@ abbrev pub may_undo : List Op → List FaultLine → FaultLine → Bool
 may_undo ops faults line = is_same line.at MediumToTarget && is_stored_altered ops faults (virt_of ops line)
 
 -- ---- the form
-
--- an op that alters a stored block without a command
-abbrev pub is_overwrite : Op → Bool
-is_overwrite (Fill seg byte) = false
-is_overwrite (Put page off bytes) = false
-is_overwrite (Show seg) = false
-is_overwrite (Seal n body tuples app rtag) = false
-is_overwrite (Write v n body app) = false
-is_overwrite (Fetch v n body) = false
-is_overwrite (WritePi v n body tuples) = false
-is_overwrite (FetchPi v n body tuples) = false
-is_overwrite (Overwrite dev lba change) = true
-is_overwrite Wait = false
 
 abbrev pub is_good_line : GuardKind → (size : ℕ) → List FaultLine → List Op → FaultLine → Bool
 is_good_line kind size faults ops line = is_shown_line kind size faults line && (not (may_mend ops line) && not (may_undo ops faults line))

@@ -3,7 +3,8 @@
 ghost use Rattle.std.specs.Prelude.{◌≡◌, ◌+◌, ◌∷◌, false, length, IfOk};
 ghost use Rattle.std.specs.List.{list_all, list_any};
 ghost use Rattle.whole_run.specs.FirstLayer.{is_flip};
-ghost use Rattle.run_premises.specs.Forms.{brings_tuples, escapes_none, first_virt, is_good_line, is_near, is_none, is_overwrite, is_seen, is_shown, is_shown_line, is_stored_altered, kind_at, label_of, may_mend, may_undo, op_of, shows_by_form, stores, supplies_none, virt_of};
+ghost use Rattle.stack_ops.specs.Ops.{first_virt, is_overwrite};
+ghost use Rattle.run_premises.specs.Forms.{brings_tuples, escapes_none, is_good_line, is_near, is_none, is_seen, is_shown, is_shown_line, is_stored_altered, kind_at, label_of, may_mend, may_undo, op_of, shows_by_form, stores, supplies_none, virt_of};
 
 use fault_schedule::{Crossing, FaultKind, FaultLine, FaultList, Label, Tamper};
 use pi_guard::{GuardKind, crc16};
@@ -148,16 +149,10 @@ fn may_undo(ops: &[Op], faults: &[FaultLine], line: &FaultLine) -> bool
     line.at == Crossing::MediumToTarget && is_stored_altered(ops, faults, virt_of(ops, line))
 }
 
-fn is_overwrite(op: &Op) -> bool
-    ensures { result ≡ is_overwrite op.now }
-{
-    matches!(op, Op::Overwrite { .. })
-}
-
 fn has_overwrite(ops: &[Op]) -> bool
     ensures { result ≡ list_any is_overwrite ops.now }
 {
-    ops.iter().any(|op| is_overwrite(op))
+    ops.iter().any(|op| op.is_overwrite())
 }
 
 /// Whether all lines are good; the bytes are room for a frame.

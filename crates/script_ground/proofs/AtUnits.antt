@@ -22,7 +22,8 @@ use Rattle.volume_table.specs.Tables.{IsOn, MadeFor, Table}
 use Rattle.whole_run.specs.Settings.{Setting}
 use Rattle.run_laws.specs.ScriptMoves.{fates_of}
 use Rattle.run_follows.specs.Spots.{op_in as op_at}
-use Rattle.run_follows.specs.Units.{AreAtUnits, IsAtUnit, first_virt}
+use Rattle.stack_ops.specs.Ops.{first_virt}
+use Rattle.run_follows.specs.Units.{AreAtUnits, IsAtUnit}
 use Rattle.script_text.specs.declared.script.Script.{Script}
 use Rattle.script_text.specs.Bindings.{binding_fault, op_fault, request_of}
 use Rattle.script_ground.specs.Bound.{IsSettingOf}

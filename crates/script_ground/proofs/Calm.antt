@@ -29,7 +29,7 @@ use Rattle.script_text.specs.declared.fault.ScriptFault.{ScriptFault}
 use Rattle.script_text.specs.declared.script.Script.{Script}
 use Rattle.script_laws.specs.Keeping.{IsMode, IsOp as KeepsRules, IsTag}
 use Rattle.script_laws.specs.Lines.{tag_of}
-use Rattle.run_follows.specs.Overwrites.{is_overwrite}
+use Rattle.stack_ops.specs.Ops.{is_overwrite}
 use Rattle.script_ground.specs.Units.{all_blocks}
 use Rattle.script_ground.proofs.AtTarget.{told-long}
 use Rattle.script_ground.proofs.Bodies.{if-none}

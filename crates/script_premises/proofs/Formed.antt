@@ -1,5 +1,5 @@
 -- A bound script whose faults have the form: all that the law of its run asks.
-use Rattle.std.proofs.Common.{◌≡◌, ◌<◌, ℕ, ◌*◌, true, not, ◌||◌, List, [], ◌∷◌, refl, sym, ap, ◌∙◌, arith, map, false}
+use Rattle.std.proofs.Common.{◌≡◌, ◌<◌, ℕ, ◌*◌, true, not, List, [], ◌∷◌, refl, arith, map, false}
 use Rattle.std.specs.Prelude.{All}
 use Rattle.std.specs.List.{list_all, list_any}
 use Rattle.std.proofs.lemmas.Bool.{and_parts, not-true}
@@ -9,8 +9,7 @@ use Rattle.fault_schedule.specs.declared.fault.FaultKind.TheVariants.{Flip, Shif
 use Rattle.fault_schedule.specs.declared.fault.FaultLine.{FaultLine}
 use Rattle.dix_adapter.specs.Ways.{blocks_told, shapes_of}
 use Rattle.stack_ops.specs.declared.op.Op.{Op}
-use Rattle.stack_ops.specs.declared.op.Op.TheVariants.{Fetch, FetchPi, Fill, Overwrite, Put, Seal, Show, Wait, Write, WritePi}
-use Rattle.run_follows.specs.Overwrites.{is_overwrite as overwrites}
+use Rattle.stack_ops.specs.Ops.{is_overwrite}
 use Rattle.target_answer.specs.Target.{Stored}
 use Rattle.volume_table.specs.Tables.{Table}
 use Rattle.block_path.specs.Acts.{State}
@@ -29,7 +28,7 @@ use Rattle.whole_run.specs.Settings.{Setting}
 use Rattle.whole_run.specs.CalmRun.{IsCalmRun}
 use Rattle.whole_run.specs.ScriptWalk.{script_walk}
 use Rattle.whole_run.specs.UnderMap.{AreClean, NoEscape, address_of}
-use Rattle.run_premises.specs.Forms.{is_good_line, is_overwrite, supplies_none}
+use Rattle.run_premises.specs.Forms.{is_good_line, supplies_none}
 use Rattle.run_premises.specs.FormedRun.{HasFormedFaults, IsOfBytes}
 use Rattle.script_premises.specs.FormedScript.{IsBoundTo, IsFormedScript, IsStillScript}
 use Rattle.small_laws.proofs.Numbers.{even_size as even}
@@ -41,22 +40,6 @@ kind-bytes size f (Shift by) h = tt
 pub lines-bytes : (size : ℕ) (ops : List Op) (faults : List FaultLine) → Each (IsFault size ops) faults → All (λ (line : FaultLine). IsOfBytes line.kind) faults
 lines-bytes size ops [] h = All-nil (λ (line : FaultLine). IsOfBytes line.kind)
 lines-bytes size ops (f ∷ faults) h = All-cons (λ (line : FaultLine). IsOfBytes line.kind) f faults (kind-bytes size f f.kind h.0.kind_is) (lines-bytes size ops faults h.1)
-
-same-test : (op : Op) → is_overwrite op ≡ overwrites op
-same-test (Fill seg byte) = refl
-same-test (Put page off bytes) = refl
-same-test (Show seg) = refl
-same-test (Seal n body tuples app rtag) = refl
-same-test (Write v n body app) = refl
-same-test (Fetch v n body) = refl
-same-test (WritePi v n body tuples) = refl
-same-test (FetchPi v n body tuples) = refl
-same-test (Overwrite dev lba change) = refl
-same-test Wait = refl
-
-same-tests : (ops : List Op) → list_any is_overwrite ops ≡ list_any overwrites ops
-same-tests [] = refl
-same-tests (op ∷ ops) = ap (λ b. b || list_any is_overwrite ops) (same-test op) ∙ ap (λ b. overwrites op || b) (same-tests ops)
 
 -- the law of a run
 abbrev pub FormLaw : Type 0
@@ -80,7 +63,7 @@ formed-run s t us b p =
       pages = All-replicate (λ x. x < 256) (4096 * s.pages) 0 (omega arith);
       lies = lies-in s t us o p.bytes;
       clean = p.clean;
-      fit = all-fit s t us o (sym (same-tests s.ops) ∙ not-true _ form.1);
+      fit = all-fit s t us o (not-true _ form.1);
       no_escape = p.no_escape;
       form = p.form;
     }
@@ -109,5 +92,5 @@ stays-clean s t us law b p clean =
     let m = over s t (shapes_of us) in
     let volume : AreClean m (blocks_told us) = λ v l z. clean v (address_of m v) l (o.made.inside v l) in
     law m (map info_of (shapes_of us)) s.ops (at_first s us) p.tuples
-    (calm-run s t us o p.faults (sym (same-tests s.ops) ∙ p.overwrites) p.bytes volume p.no_escape)
+    (calm-run s t us o p.faults (p.overwrites) p.bytes volume p.no_escape)
     (lies-on s t us o) (has-cells s t us o) clean

@@ -12,7 +12,8 @@ use Rattle.script_laws.specs.Keeping.{Keeps}
 use Rattle.script_ground.specs.Units.{AreStored}
 use Rattle.script_stack.specs.Followed.{none_fails, opening_of, setting_of}
 use Rattle.whole_run.specs.UnderMap.{AreClean, NoEscape}
-use Rattle.run_premises.specs.Forms.{is_overwrite, shows_by_form}
+use Rattle.stack_ops.specs.Ops.{is_overwrite}
+use Rattle.run_premises.specs.Forms.{shows_by_form}
 
 -- What is asked of a script so that a reader of it alone knows of what its run is told: all but that the blocks are clean.
 

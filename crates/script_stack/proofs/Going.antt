@@ -4,7 +4,7 @@ use Rattle.std.specs.List.{list_any}
 use Rattle.std.proofs.lemmas.List.{append_assoc}
 use Rattle.rig_api.specs.State.{RigState}
 use Rattle.answered_record.proofs.Going.{puts_nothing, puts_then}
-use Rattle.run_follows.specs.Overwrites.{is_overwrite}
+use Rattle.stack_ops.specs.Ops.{is_overwrite}
 use Rattle.stack_core.specs.declared.sheet.Sheet.{Sheet}
 use Rattle.stack_core.specs.Stacks.{GoesOn, Stays}
 use Rattle.dix_base.specs.Told.{Calm}

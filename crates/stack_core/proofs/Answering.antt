@@ -35,7 +35,7 @@ use Rattle.dix_adapter.proofs.Units.{Stands}
 use Rattle.stack_ops.specs.declared.op.Op.{Op}
 use Rattle.stack_ops.specs.declared.op.Op.TheVariants.{Fetch, FetchPi, Fill, Overwrite, Put, Seal, Show, Wait, Write as WriteOp, WritePi}
 use Rattle.stack_ops.specs.declared.reply.Reply.{Reply}
-use Rattle.run_follows.specs.Overwrites.{is_overwrite}
+use Rattle.stack_ops.specs.Ops.{is_overwrite}
 use Rattle.run_follows.specs.Sheets.{op_in}
 use Rattle.stack_core.specs.Walking.{IsKnown, units_left}
 

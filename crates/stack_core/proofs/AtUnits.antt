@@ -18,7 +18,7 @@ use Rattle.target_answer.specs.Target.{has_blocks}
 use Rattle.target_answer.specs.declared.units.UnitSpec.{UnitSpec}
 use Rattle.run_follows.proofs.Puts.{InTurn}
 use Rattle.dix_adapter.proofs.Asking.{is-pos}
-use Rattle.run_follows.specs.Units.{first_virt}
+use Rattle.stack_ops.specs.Ops.{first_virt}
 use Rattle.run_follows.specs.Requests.{first_page, page_after, request_of, requests_from}
 use Rattle.run_follows.specs.Sheets.{io_at, no_io, op_in}
 use Rattle.whole_run.specs.Settings.{Setting}

@@ -31,7 +31,7 @@ use Rattle.stack_core.specs.Rooms.{Suits}
 use Rattle.run_follows.specs.Sheets.{op_in}
 use Rattle.stack_core.specs.Stacks.{room_at}
 use Rattle.stack_core.specs.Walking.{Data, FailedBy, Follow, GoesOn, IsReply, shown_by, shown_in, status_of, why_in}
-use Rattle.run_follows.specs.Overwrites.{is_overwrite}
+use Rattle.stack_ops.specs.Ops.{is_overwrite}
 use Rattle.stack_core.specs.Courses.{Course, Falling, Straight}
 use Rattle.stack_core.proofs.Courses.{same_by}
 use Rattle.stack_core.proofs.Listed.{listed_as}

@@ -29,7 +29,7 @@ use Rattle.run_follows.specs.Following.{Follows}
 use Rattle.run_follows.specs.Slots.{Status}
 use Rattle.run_follows.specs.Flips.{Flips, flip_op, with_flips}
 use Rattle.run_follows.specs.FollowsFalling.{HasFallen}
-use Rattle.run_follows.specs.Overwrites.{is_overwrite}
+use Rattle.stack_ops.specs.Ops.{is_overwrite}
 use Rattle.run_follows.proofs.NoneFell.{none_fell}
 use Rattle.run_follows.specs.Sheets.{op_in}
 use Rattle.run_follows.specs.Statuses.{fate_in}

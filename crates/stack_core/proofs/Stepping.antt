@@ -7,7 +7,7 @@ use Rattle.rig_api.specs.State.{RigState, Stays as RigStays}
 use Rattle.rig_api.specs.Telling.{IsStanding, units_told}
 use Rattle.answered_record.specs.Answered.{PutsAnswers}
 use Rattle.answered_record.proofs.Going.{puts_nothing}
-use Rattle.run_follows.specs.Overwrites.{is_overwrite}
+use Rattle.stack_ops.specs.Ops.{is_overwrite}
 use Rattle.stack_steps.specs.declared.choice.Choice.{Choice}
 use Rattle.stack_steps.specs.Does.{Chooses, Does}
 use Rattle.stack_core.specs.declared.stack.Stack.{Stack}

@@ -60,7 +60,8 @@ use Rattle.run_laws.specs.Records.{recorded}
 use Rattle.run_follows.specs.Sending.{AllGoing, AllSized, NoneBefore, with_fates}
 use Rattle.run_follows.specs.Slots.{Status}
 use Rattle.run_follows.proofs.Recording.{none_in, none_out}
-use Rattle.run_follows.specs.Units.{AreAtUnits, IsAtUnit, first_virt}
+use Rattle.stack_ops.specs.Ops.{first_virt}
+use Rattle.run_follows.specs.Units.{AreAtUnits, IsAtUnit}
 use Rattle.run_follows.proofs.WalksStanding.{IsOut}
 use Rattle.stack_core.specs.Courses.{Course, Falling, FollowsBy, Straight}
 use Rattle.stack_core.specs.declared.sheet.Sheet.{Sheet}

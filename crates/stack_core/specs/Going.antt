@@ -8,7 +8,7 @@ use Rattle.block_path.specs.Acts.{State}
 use Rattle.whole_run.specs.Settings.{Setting}
 use Rattle.stack_ops.specs.declared.op.Op.{Op}
 use Rattle.stack_ops.specs.declared.reply.Reply.{Reply}
-use Rattle.run_follows.specs.Overwrites.{is_overwrite}
+use Rattle.stack_ops.specs.Ops.{is_overwrite}
 use Rattle.stack_core.specs.declared.stack.Stack.{Stack}
 use Rattle.stack_core.specs.Mediums.{HasCounted, RoseBy, medium_replies}
 use Rattle.stack_core.specs.Stacks.{HasSpare, IsStack, Reaches}

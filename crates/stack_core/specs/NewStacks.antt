@@ -1,10 +1,13 @@
 -- What a stack is before its first step.
-use Rattle.std.specs.Prelude.{◌≡◌, ℕ, ◌<◌, ◌≤◌, List, length, map, replicate}
+use Rattle.std.specs.Prelude.{◌≡◌, ℕ, ◌<◌, ◌≤◌, Bool, List, length, map, replicate}
 use Rattle.bio_core.specs.declared.fate.Fate.TheVariants.{Untouched}
 use Rattle.page_pool.specs.Pages.{IsBlank}
 use Rattle.block_path.specs.Routes.{host_type}
 use Rattle.dix_adapter.specs.Groups.{mode_of}
+use Rattle.fault_schedule.specs.declared.fault.FaultLine.{FaultLine}
+use Rattle.merge_queue.specs.declared.limits.Limits.{Limits}
 use Rattle.volume_table.specs.Places.{place_in, volume_len}
+use Rattle.volume_table.specs.Tables.{Table}
 use Rattle.stack_ops.specs.declared.op.Op.{Op}
 use Rattle.stack_ops.specs.declared.reply.Reply.TheVariants.{Silent}
 use Rattle.stack_view.specs.Runs.{blocks_of_requests}
@@ -14,6 +17,7 @@ use Rattle.run_follows.specs.Requests.{pages_from, requests_from}
 use Rattle.run_follows.specs.Sheets.{request_in}
 use Rattle.run_follows.specs.Shifts.{shifted_by}
 use Rattle.stack_core.specs.declared.setup.Setup.{Setup}
+use Rattle.stack_core.specs.declared.sheet.Sheet.{Sheet}
 use Rattle.stack_core.specs.declared.stack.Stack.{Stack}
 use Rattle.stack_core.specs.OnRecord.{HasQueues}
 use Rattle.stack_core.specs.Stacks.{plan_in}
@@ -30,6 +34,16 @@ pub record IsSetUp (setup : Setup) (given : List Op) (s : Stack) : Type 0 where
   pub ty : s.adapter.ty ≡ setup.table.ty
   pub host : s.host ≡ host_type setup.table.ty
   pub faults : s.adapter.tamper ≡ setup.faults
+
+-- The sheet of these ops before the first step: their requests, whether a shift line names each, and no more devices than the volume has, with a queue for each.
+pub record IsNewSheet (volume : Table) (dix : Bool) (most : Limits) (pages : ℕ) (faults : List FaultLine) (given : List Op) (s : Sheet) : Type 0 where
+  pub ops : s.ops ≡ given
+  pub ios : s.ios.items ≡ requests_from dix pages given
+  pub shifted : s.shifted.items ≡ shifted_by faults (length given)
+  pub table : s.table ≡ volume
+  pub limits : s.limits ≡ most
+  pub devices : (n : ℕ) → ((v : ℕ) → v < volume_len volume.entries → (place_in volume.entries v).0 < n) → s.devices ≤ n
+  pub queues : HasQueues (plan_in s)
 
 -- None of its ops has begun: its machine shows the first view, no fate is known, no op has replied, and all pages are zeros. It needs no more devices than the volume has, with a queue for each.
 pub record IsNewStack (setup : Setup) (given : List Op) (s : Stack) : Type 0 where

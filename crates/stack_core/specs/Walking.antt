@@ -52,7 +52,7 @@ use Rattle.stack_core.specs.declared.stack.Stack.{Stack}
 use Rattle.run_follows.specs.AtTheEnd.{EndsAsFalling}
 use Rattle.run_follows.specs.Flips.{Flips, with_flips}
 use Rattle.rig_api.specs.declared.change.Change.{Change}
-use Rattle.run_follows.specs.Overwrites.{is_overwrite}
+use Rattle.stack_ops.specs.Ops.{is_overwrite}
 use Rattle.stack_core.specs.Courses.{Course, Falling, FollowsBy, Straight}
 use Rattle.stack_core.specs.Doing.{CanReach}
 use Rattle.run_follows.specs.Moved.{why_of}

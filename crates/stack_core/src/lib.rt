@@ -3,7 +3,6 @@
 
 mod kept;
 mod laws;
-mod pages;
 mod requests;
 mod settle;
 mod setup;

@@ -94,6 +94,20 @@ impl Sheet {
         &self.ios[op]
     }
 
+    /// All ops.
+    pub(crate) fn all_ops(&self) -> &[Op]
+        ensures { result.now ≡ self.now.ops }
+    {
+        self.ops.as_slice()
+    }
+
+    /// Whether a shift line names each op.
+    pub(crate) fn shifted(&self) -> &[bool]
+        ensures { result.now ≡ self.now.shifted.items }
+    {
+        self.shifted.as_slice()
+    }
+
     /// An op.
     pub(crate) fn op(&self, op: usize) -> &Op
         requires { op < length self.now.ops }

@@ -23,7 +23,6 @@ ghost use Rattle.stack_core.specs.Stacks.{GoesOn, HasStep, IsStack, Stays, Steps
 ghost use Rattle.stack_core.specs.Going.{AdmitsOver, FailsCounted, SettlesNone, StandsOver, Went};
 
 use crate::kept::{Fates, Room, reply_of, shown};
-use crate::pages::{fill, put};
 use crate::settle::settle_all;
 use crate::sheet::Sheet;
 use bio_core::{Bio, Dir, Fate, Io};
@@ -34,7 +33,7 @@ use pi_guard::GuardKind;
 use pi_tuple::PiType;
 use ref_remap::map_out;
 use rig_api::{Change, Rig};
-use stack_ops::{Op, Reply};
+use stack_ops::{Op, Reply, fill, put};
 use stack_steps::{Choice, Machine};
 
 /// Ops in flight over a rig: those that are requests are cut into pieces, joined, sent, partly done and sent again, in

@@ -1,24 +1,32 @@
 //! A stack before its first step.
 
-ghost use Rattle.std.specs.Prelude.{◌≡◌, ◌<◌, ◌≤◌, ◌+◌, ◌||◌, ℕ, false, List, IfOk, length, replicate, slice_index_or};
+ghost use Rattle.std.specs.Prelude.{◌≡◌, ◌<◌, ◌≤◌, ◌+◌, ◌||◌, ℕ, false, List, IfOk, length, map, replicate, slice_index_or};
+ghost use Rattle.std.specs.Vec.{vec_capacity};
+ghost use Rattle.bio_core.specs.declared.fate.Fate.TheVariants.{Untouched};
+ghost use Rattle.range_gate.specs.Gates.{IsGateFor};
+ghost use Rattle.dix_adapter.specs.Room.{HoldsBlocks};
+ghost use Rattle.stack_view.specs.Runs.{blocks_of_requests};
 ghost use Rattle.stack_ops.specs.declared.reply.Reply.TheVariants.{Silent};
 ghost use Rattle.stack_ops.specs.Footprints.{IsShortPut};
-ghost use Rattle.run_follows.specs.Sheets.{IsSheet, op_in, plan_of, prints_of};
+ghost use Rattle.run_follows.specs.Sheets.{IsSheet, op_in, plan_of, prints_of, request_in};
 ghost use Rattle.run_follows.specs.Shifts.{is_shift, shifted_by, shifts};
 ghost use Rattle.run_follows.specs.Requests.{first_page, own_blocks, page_after, pages_from, requests_from};
 ghost use Rattle.stack_core.specs.Replies.{HoldsBad};
 ghost use Rattle.stack_core.specs.Rooms.{Suits, blocks_in};
 ghost use Rattle.stack_core.specs.Stacks.{IsStack, plan_in, room_at};
-ghost use Rattle.stack_core.specs.NewStacks.{FollowsAtFirst, IsNewStack, IsSetUp};
+ghost use Rattle.stack_core.specs.NewStacks.{FollowsAtFirst, IsNewSheet, IsNewStack, IsSetUp};
+ghost use Rattle.run_follows.specs.Settling.{AreFates};
 ghost use Rattle.run_follows.specs.Starting.{CanStart};
 ghost use Rattle.bio_core.specs.declared.TheConstants.{MOST_BLOCKS};
+ghost use Rattle.dix_adapter.specs.declared.TheConstants.{MOST_OF_COMMAND};
+ghost use Rattle.pi_tuple.specs.declared.TheConstants.{LARGEST_BLOCK};
 ghost use Rattle.stack_steps.specs.declared.TheConstants.{MOST_OPS, MOST_PAGES};
 
 use crate::kept::{Fates, Room, room_for};
 use crate::requests::{own_blocks, pages_for, request_of};
 use crate::sheet::{Sheet, count_devices, largest_block};
 use crate::{Setup, Stack};
-use bio_core::Io;
+use bio_core::{Bio, Fate, Io};
 use block_path::host_type;
 use dix_adapter::{Adapter, Mode, Scratch};
 use fault_schedule::{FaultKind, FaultLine, FaultList, Tamper};
@@ -173,6 +181,90 @@ fn adapter_of(mode: Mode, ty: PiType, faults: FaultList) -> Adapter
     }
 }
 
+/// The ops as the steps are told of them, and how many pages there are with those of the block layer's tuples.
+fn sheet_for(
+    alloc: Global,
+    ops: OpList,
+    table: VolumeTable,
+    mode: Mode,
+    limits: Limits,
+    pages: u32,
+    faults: &[FaultLine],
+) -> Result<(Sheet, u32), AllocError>
+    requires { (pool : List (List ℕ)) × CanStart table mode.dix mode.protect limits pages pool ops }
+    ensures sheet { IfOk result (λ r. IsNewSheet table mode.dix limits pages faults.now ops r.0) }
+    ensures pages { IfOk result (λ r. r.1 ≡ pages_from mode.dix pages ops) }
+{
+    let count = ops.as_slice().len() as u32;
+    let shifted = shifted_ops(alloc, count, faults)?;
+    let (ios, pages) = requests(alloc, ops.as_slice(), mode.dix, pages)?;
+    let devices = count_devices(&ios, &table);
+    Ok((sheet_of(ops, shifted, ios, table, limits, devices), pages))
+}
+
+/// The gate of the ops, all of which wait.
+fn gate_for(alloc: Global, ops: &[Op], shifted: &[bool]) -> Result<Gate, AllocError>
+    requires few { length ops.now ≤ MOST_OPS }
+    requires count { length shifted.now ≡ length ops.now }
+    requires short { (i : ℕ) → i < length ops.now → IsShortPut (op_in ops.now i) }
+    ensures { IfOk result (IsGateFor (prints_of ops.now shifted.now)) }
+{
+    Gate::new(alloc, footprints(alloc, ops, shifted)?)
+}
+
+/// What becomes of the blocks of each op, the room of its reply, and its reply.
+#[derive(Drop)]
+struct Outcomes {
+    kept: Fates,
+    rooms: Vec<Room>,
+    replies: Vec<Reply>,
+}
+
+/// Of no op anything became yet.
+fn first_outcomes(alloc: Global, ops: &[Op], ios: &[Io]) -> Result<Outcomes, AllocError>
+    requires { blocks_of_requests (map request_in ios.now) ≤ MOST_BLOCKS }
+    ensures fates { IfOk result (λ o. AreFates ios.now o.kept.starts.items o.kept.held.items) }
+    ensures held { IfOk result (λ o. o.kept.held.items ≡ replicate (blocks_of_requests (map request_in ios.now)) Untouched) }
+    ensures count { IfOk result (λ o. length o.rooms.items ≡ length ops.now) }
+    ensures bad { IfOk result (λ o. (i : ℕ) → i < length ops.now → HoldsBad (blocks_in (op_in ops.now i)) (room_at o.rooms.items i)) }
+    ensures suits { IfOk result (λ o. (i : ℕ) → i < length ops.now → Suits (op_in ops.now i) (room_at o.rooms.items i)) }
+    ensures replies { IfOk result (λ o. o.replies.items ≡ replicate (length ios.now) Silent) }
+{
+    Ok(Outcomes {
+        kept: Fates::new(alloc, ios)?,
+        rooms: rooms_of(alloc, ops)?,
+        replies: silent(alloc, ios.len())?,
+    })
+}
+
+/// The room of one command: its frames, its bios and the fates of its blocks.
+#[derive(Drop)]
+struct CommandRoom {
+    scratch: Scratch,
+    group: Vec<Bio>,
+    fates: Vec<Fate>,
+}
+
+/// Room for a command of so many blocks of so many bytes, of all `blocks` of a run.
+fn command_room(
+    alloc: Global,
+    blocks: u32,
+    max_blocks: u32,
+    most_bytes: u32,
+) -> Result<CommandRoom, AllocError>
+    requires few { max_blocks ≤ MOST_OF_COMMAND }
+    requires bytes { most_bytes ≤ LARGEST_BLOCK }
+    ensures scratch { IfOk result (λ r. HoldsBlocks most_bytes max_blocks r.scratch) }
+    ensures group { IfOk result (λ r. blocks ≤ vec_capacity r.group) }
+    ensures fates { IfOk result (λ r. blocks ≤ vec_capacity r.fates) }
+{
+    Ok(CommandRoom {
+        scratch: Scratch::for_size(alloc, max_blocks, most_bytes)?,
+        group: Vec::with_capacity(alloc, blocks as usize)?,
+        fates: Vec::with_capacity(alloc, blocks as usize)?,
+    })
+}
+
 impl Stack {
     /// A stack of these ops, none of which has begun. Takes all the memory of the run.
     ///
@@ -192,28 +284,34 @@ impl Stack {
             pages,
             faults,
         } = setup;
-        let count = ops.as_slice().len() as u32;
-        let shifted = shifted_ops(alloc, count, faults.as_slice())?;
-        let gate = Gate::new(alloc, footprints(alloc, ops.as_slice(), &shifted)?)?;
-        let (ios, pages) = requests(alloc, ops.as_slice(), mode.dix, pages)?;
         let ty = table.ty();
-        let devices = count_devices(&ios, &table);
-        let kept = Fates::new(alloc, &ios)?;
-        let most_bytes = largest_block(&ios);
-        let rooms = rooms_of(alloc, ops.as_slice())?;
-        let replies = silent(alloc, ios.len())?;
-        let blocks = kept.blocks() as usize;
-        let sheet = sheet_of(ops, shifted, ios, table, limits, devices);
+        let (sheet, pages) = sheet_for(alloc, ops, table, mode, limits, pages, faults.as_slice())?;
+        let gate = gate_for(alloc, sheet.all_ops(), sheet.shifted())?;
         let machine = Machine::new(alloc, &sheet, gate)?;
+        let outcomes = first_outcomes(alloc, sheet.all_ops(), sheet.ios())?;
+        let most_bytes = largest_block(sheet.ios());
+        let blocks = outcomes.kept.blocks();
+        let room = command_room(alloc, blocks, limits.max_blocks, most_bytes)?;
+        let pool = PagePool::new(alloc, pages)?;
+        let Outcomes {
+            kept,
+            rooms,
+            replies,
+        } = outcomes;
+        let CommandRoom {
+            scratch,
+            group,
+            fates,
+        } = room;
         Ok(Stack {
             sheet,
             machine,
             adapter: adapter_of(mode, ty, faults),
             host: host_type(ty),
-            pool: PagePool::new(alloc, pages)?,
-            scratch: Scratch::for_size(alloc, limits.max_blocks, most_bytes)?,
-            group: Vec::with_capacity(alloc, blocks)?,
-            fates: Vec::with_capacity(alloc, blocks)?,
+            pool,
+            scratch,
+            group,
+            fates,
             kept,
             rooms,
             replies,

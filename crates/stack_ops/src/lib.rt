@@ -4,9 +4,11 @@
 mod footprints;
 mod laws;
 mod op;
+mod pages;
 mod reply;
 
 pub use footprints::footprint_of;
 pub use laws::footprints_are_cells;
 pub use op::{Op, OpList};
+pub use pages::{fill, put};
 pub use reply::{BadBlock, BadList, Reply};

@@ -1,6 +1,7 @@
 //! The ops of a script.
 
 ghost use Rattle.std.specs.Prelude.{◌≡◌};
+ghost use Rattle.stack_ops.specs.Ops.{is_overwrite};
 
 use dix_base::ByteList;
 use page_pool::{Seg, SgList};
@@ -69,6 +70,15 @@ pub enum Op {
     },
     /// Lets all earlier ops end first.
     Wait,
+}
+
+impl Op {
+    /// Whether the op alters a stored block without a command.
+    pub fn is_overwrite(&self) -> bool
+        ensures { result ≡ is_overwrite self.now }
+    {
+        matches!(self, Op::Overwrite { .. })
+    }
 }
 
 /// A list of ops.

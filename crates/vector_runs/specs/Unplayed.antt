@@ -2,15 +2,11 @@ use Rattle.std.specs.Prelude.{ℕ, Bool, true, false, if◌then◌else◌, List,
 use Rattle.fault_schedule.specs.declared.fault.FaultLine.{FaultLine}
 use Rattle.script_lines.specs.declared.kind.ScriptKind.TheVariants.{BadFault}
 use Rattle.stack_ops.specs.declared.op.Op.{Op}
-use Rattle.stack_ops.specs.declared.op.Op.TheVariants.{Overwrite}
+use Rattle.stack_ops.specs.Ops.{is_overwrite}
 use Rattle.script_text.specs.declared.fault.ScriptFault.{ScriptFault}
 use Rattle.script_text.specs.declared.script.Script.{Script}
 
 -- Which scripts have no vectors: those with a fault, a shift or an overwrite, which act behind the commands.
-
-abbrev pub is_overwrite : Op → Bool
-is_overwrite (Overwrite dev lba change) = true
-is_overwrite op = false
 
 -- the line of the first overwrite
 abbrev pub first_overwrite : (lines : List ℕ) → List Op → Option ℕ

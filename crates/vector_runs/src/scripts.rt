@@ -1,23 +1,13 @@
 //! Which scripts have vectors.
 
 ghost use Rattle.std.specs.Prelude.{◌≡◌};
-ghost use Rattle.vector_runs.specs.Unplayed.{first_overwrite, is_overwrite, unplayed, unplayed_line};
+ghost use Rattle.vector_runs.specs.Unplayed.{first_overwrite, unplayed, unplayed_line};
 
 use fault_schedule::FaultLine;
 use script_text::{Script, ScriptFault, ScriptKind};
 use stack_ops::Op;
 
-/// Whether the op alters a stored block behind the rig's back.
-fn is_overwrite(op: &Op) -> bool
-    ensures { result ≡ is_overwrite op.now }
-{
-    match op {
-        Op::Overwrite { .. } => true,
-        _ => false,
-    }
-}
-
-/// The line of the first op that does so; each op has a line.
+/// The line of the first op that alters a stored block behind the rig's back; each op has a line.
 fn first_overwrite(lines: &[u32], ops: &[Op]) -> Option<u32>
     ensures { result ≡ first_overwrite lines.now ops.now }
 {
@@ -27,7 +17,7 @@ fn first_overwrite(lines: &[u32], ops: &[Op]) -> Option<u32>
         let Some((op, more)) = left.split_first() else {
             return None;
         };
-        if is_overwrite(op) {
+        if op.is_overwrite() {
             return Some(*line);
         }
         rest = behind;

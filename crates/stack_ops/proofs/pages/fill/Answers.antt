@@ -2,7 +2,7 @@ use Rattle.std.proofs.Common.{◌≡◌, ◌∙◌, ap, length, replicate, rules
 use Rattle.page_pool.specs.Pages.{Wrote, with_part}
 use Rattle.page_pool.specs.Places.{places_of}
 use Rattle.page_pool.proofs.Paging.{wrote-with_part}
-use Rattle.stack_core.proofs.pages.fill.Goals as goal
+use Rattle.stack_ops.proofs.pages.fill.Goals as goal
 
 pub returns : goal.returns
 returns c =

@@ -8,7 +8,7 @@ ghost use Rattle.stack_ops.specs.Footprints.{put_seg};
 use page_pool::{PagePool, Seg};
 
 /// Sets the bytes of a segment to one value.
-pub(crate) fn fill(pool: &mut PagePool, seg: Seg, byte: u8)
+pub fn fill(pool: &mut PagePool, seg: Seg, byte: u8)
     requires { LiesIn pool.old seg }
     ensures { Wrote pool.old pool.new (places_of seg) (replicate seg.len byte) }
 {
@@ -16,7 +16,7 @@ pub(crate) fn fill(pool: &mut PagePool, seg: Seg, byte: u8)
 }
 
 /// Writes bytes to a page, from an offset on.
-pub(crate) fn put(pool: &mut PagePool, page: u32, off: u32, bytes: &[u8])
+pub fn put(pool: &mut PagePool, page: u32, off: u32, bytes: &[u8])
     requires lies { LiesIn pool.old (put_seg page off bytes.now) }
     requires few { length bytes.now < 2 ^ 32 }
     ensures { Wrote pool.old pool.new (places_of (put_seg page off bytes.now)) bytes.now }
