@@ -11,7 +11,7 @@ use Rattle.script_text.specs.declared.trees.Inner.{Inner}
 use Rattle.std.specs.declared.alloc.Global.{Global}
 use Rattle.std.specs.declared.vec.Vec.{Vec}
 use Rattle.std.proofs.lemmas.List.{map-append}
-use Rattle.std.proofs.lemmas.Bool.{eq-eqb}
+use Rattle.std.proofs.lemmas.Bool.{eq-eqb, ne_eqb}
 use Rattle.volume_tree.specs.Tracks.{tracks_of}
 use Rattle.script_text.specs.Trees.{are_lengths, is_bad_volume, is_length, is_past, track_from, tracks_in}
 use Rattle.small_laws.proofs.Tests.{and_first, and_second}
@@ -31,6 +31,14 @@ next_past volume k inner d h = ap (list_any (is_past volume)) (drop-cons inner k
 pub take_track : (start volume k : ℕ) (inner : List Inner) (d : Inner) → k < length inner → (get_or inner k d).volume ≡ volume → track_from start volume (drop k inner) ≡ extent start (get_or inner k d) ∷ track_from (start + (get_or inner k d).len) volume (drop (k + 1) inner)
 take_track start volume k inner d h n =
     next_track start volume k inner d h ∙ ap (λ b. cond b (extent start (get_or inner k d) ∷ track_from (start + (get_or inner k d).len) volume (drop (k + 1) inner)) (track_from start volume (drop (k + 1) inner))) (eq-eqb (get_or inner k d).volume volume n)
+
+pub skip_track : (start volume k : ℕ) (inner : List Inner) (d : Inner) → k < length inner → ((get_or inner k d).volume ≡ volume → ⊥) → track_from start volume (drop k inner) ≡ track_from start volume (drop (k + 1) inner)
+skip_track start volume k inner d h n =
+    next_track start volume k inner d h ∙ ap (λ b. cond b (extent start (get_or inner k d) ∷ track_from (start + (get_or inner k d).len) volume (drop (k + 1) inner)) (track_from start volume (drop (k + 1) inner))) (ne_eqb (get_or inner k d).volume volume n)
+
+pub skip_past : (volume k : ℕ) (inner : List Inner) (d : Inner) → k < length inner → ((get_or inner k d).volume ≡ volume → ⊥) → list_any (is_past volume) (drop k inner) ≡ list_any (is_past volume) (drop (k + 1) inner)
+skip_past volume k inner d h n =
+    next_past volume k inner d h ∙ ap (λ t. t && leb (2 ^ 64) ((get_or inner k d).at + (get_or inner k d).len) || list_any (is_past volume) (drop (k + 1) inner)) (ne_eqb (get_or inner k d).volume volume n)
 
 past_by : (volume k : ℕ) (inner : List Inner) (d : Inner) (b : Bool) → k < length inner → (get_or inner k d).volume ≡ volume → leb (2 ^ 64) ((get_or inner k d).at + (get_or inner k d).len) ≡ b → list_any (is_past volume) (drop k inner) ≡ b || list_any (is_past volume) (drop (k + 1) inner)
 past_by volume k inner d b h n e =

@@ -2,7 +2,7 @@ use Rattle.std.proofs.Common.{◌≡◌, ◌+◌, ◌*◌, ◌^◌, ◌<◌, ◌
 use Rattle.linear_volume.specs.declared.Linear.{Linear}
 use Rattle.script_text.specs.declared.trees.Inner.{Inner}
 use Rattle.script_text.specs.Trees.{track_from}
-use Rattle.script_text.proofs.Tracking.{length_at, more_follows, more_len, more_track, take_past, take_track}
+use Rattle.script_text.proofs.Tracking.{length_at, more_follows, more_len, more_track, skip_past, skip_track, take_past, take_track}
 use Rattle.script_text.proofs.trees.track.Goals as goal
 
 pub loop-extent-preserved : goal.loop-extent-preserved
@@ -24,4 +24,18 @@ loop-extent-preserved c =
       follows = more_follows c.loop-extent.track.items c.add.new.list.items e c.loop-extent.start c.loop-extent.invariant.follows c.loop-extent.invariant.start refl low high (omega (arith, bound, few, high, here)) fits added;
       start = more_len c.loop-extent.track.items c.add.new.list.items e c.loop-extent.start c.loop-extent.invariant.start added;
       bound = omega (arith, bound, high);
+    }
+
+pub loop-extent-preserved-then-extent-volume : goal.loop-extent-preserved-then-extent-volume
+loop-extent-preserved-then-extent-volume c =
+    let none : Inner = record { volume = 0; len = 0; dev = 0; at = 0 } in
+    let i = c.loop-extent.extent-index in
+    let inner = c.args.inner.now in
+    let before = c.loop-extent.invariant in
+    record {
+      track = ap (λ x. c.loop-extent.track.items ++ x) (sym (skip_track c.loop-extent.start c.args.volume i inner none c.loop-extent-test.true c.if-extent-volume.true)) ∙ before.track;
+      past = sym (skip_past c.args.volume i inner none c.loop-extent-test.true c.if-extent-volume.true) ∙ before.past;
+      follows = before.follows;
+      start = before.start;
+      bound = omega arith;
     }
