@@ -125,23 +125,29 @@ fn steps<S: Store>(alloc: Global, store: &mut S, steps: &str) -> Result<String, 
 }
 
 /// What comes of the steps of a store in memory, and what it holds then.
+fn kept(alloc: Global, held: &str, fails: &str, calls: &str) -> Result<String, AllocError> {
+    let mut store = MemStore::new(bytes_of(alloc, held)?, numbers(alloc, fails)?);
+    let text = steps(alloc, &mut store, calls)?;
+    let bytes = hex_of(alloc, store.bytes())?;
+    format!(in alloc; "{text};holds {bytes}")
+}
+
+/// The same of one of which no call fails.
+fn kept_calm(alloc: Global, held: &str, calls: &str) -> Result<String, AllocError> {
+    let mut store = CalmStore::new(bytes_of(alloc, held)?);
+    let text = steps(alloc, &mut store, calls)?;
+    let bytes = hex_of(alloc, store.bytes())?;
+    format!(in alloc; "{text};holds {bytes}")
+}
+
+/// What comes of a form, by its words, and its calls.
 pub(crate) fn answer(alloc: Global, words: &str) -> Result<String, AllocError> {
     let (form, calls) = words.split_once(';').unwrap_or((words, ""));
     let (word, rest) = cut(form);
     let (held, fails) = cut(rest);
-    let held = bytes_of(alloc, held)?;
-    let (text, bytes) = if word == "calm" {
-        let mut store = CalmStore::new(held);
-        (
-            steps(alloc, &mut store, calls)?,
-            hex_of(alloc, store.bytes())?,
-        )
+    if word == "calm" {
+        kept_calm(alloc, held, calls)
     } else {
-        let mut store = MemStore::new(held, numbers(alloc, fails)?);
-        (
-            steps(alloc, &mut store, calls)?,
-            hex_of(alloc, store.bytes())?,
-        )
-    };
-    format!(in alloc; "{text};holds {bytes}")
+        kept(alloc, held, fails, calls)
+    }
 }

@@ -1,12 +1,11 @@
 //! Calls from bytes to bytes.
 
 use crate::calls::Came;
-use crate::lines::behind;
 use crate::sources::source_in;
 use crate::wanted::{add_call, add_image};
 use headline::{Way, run_on_bytes};
 use std::alloc::{AllocError, Global};
-use test_table::cut;
+use test_table::{behind, cut};
 
 /// What the first of a row's words does with a script.
 fn way_of(lines: &[String]) -> Way {

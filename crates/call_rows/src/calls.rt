@@ -1,12 +1,12 @@
 //! One call of the top call, and what comes of it.
 
-use crate::lines::{behind, numbers};
 use crate::sources::{source_in, words_in};
 use dix_base::{MemSink, MemSource, Sink, Source};
 use dix_run::run;
 use report_text::print_trace;
 use rig_api::Rig;
 use std::alloc::{AllocError, Global};
+use test_table::{behind, numbers};
 
 /// The most bytes of a text or a trace, where a row says nothing else.
 const ROOM: u32 = 100_000;

@@ -1,14 +1,14 @@
 //! Calls over an image in a file.
 
 use crate::calls::came_over;
-use crate::lines::has;
-use crate::outside::image_in;
 use crate::wanted::{add_call, add_image};
 use dix_base::FileStore;
 use image_rig::ImageRig;
 use std::fs::{OpenOptions, Permissions};
 use std::os::unix::fs::PermissionsExt;
 use std::{env, fs, io, process};
+use test_rig::image_in;
+use test_table::has;
 
 /// A path in the folder for temporary files, of this process alone.
 pub(crate) fn path_of(rt: &HostRuntime) -> io::Result<String> {

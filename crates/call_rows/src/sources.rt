@@ -1,26 +1,16 @@
 //! The words of a row's call, and the source that it reads.
 
-use crate::lines::{behind, text};
+use crate::lines::text;
 use script_text::{big_script, print_script};
 use std::alloc::{AllocError, Global};
-use test_table::{cut, number};
+use test_table::{behind, cut, number, word_of};
 
 /// A word, which is the image's name for `a`, else has a space for each `_`, and nothing for `''`.
-fn word_of(alloc: Global, text: &str, name: &str) -> Result<String, AllocError> {
+fn named(alloc: Global, text: &str, name: &str) -> Result<String, AllocError> {
     if text == "a" {
         return String::from_str(alloc, name);
     }
-    let mut word = String::new(alloc);
-    if text == "''" {
-        return Ok(word);
-    }
-    for (i, part) in text.split('_').enumerate() {
-        if i > 0 {
-            word.push(' ')?;
-        }
-        word.push_str(part)?;
-    }
-    Ok(word)
+    word_of(alloc, text)
 }
 
 /// The words of the call.
@@ -35,7 +25,7 @@ pub(crate) fn words_in(
         return Ok(words);
     }
     for word in line.split(' ') {
-        words.push(word_of(alloc, word, name)?)?;
+        words.push(named(alloc, word, name)?)?;
     }
     Ok(words)
 }

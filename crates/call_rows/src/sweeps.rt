@@ -1,10 +1,12 @@
 //! Calls whose sink fails at each of its calls in turn, or has a byte more room each time.
 
 use crate::calls::{Came, came_over};
-use crate::lines::{add_line, behind, text};
-use crate::outside::{image_in, rig_over};
+use crate::lines::text;
+use crate::outside::rig_over;
 use crate::wanted::add_call;
 use std::alloc::{AllocError, Global};
+use test_rig::image_in;
+use test_table::{add_line, behind};
 
 /// What a row's call comes to with one more line.
 fn came_with(

@@ -4,16 +4,16 @@ use crate::bytes::add_on_bytes;
 use crate::calls::came_over;
 use crate::commands::{command_row, image_row};
 use crate::files::{add_in_file, path_of};
-use crate::lines::{add_line, has, is_mark};
-use crate::outside::{answers_in, image_in, image_of, rig_over};
+use crate::lines::is_mark;
+use crate::outside::{answers_in, rig_over};
 use crate::sweeps::add_sweep;
 use crate::wanted::{add_call, add_image};
 use dix_base::MemStore;
 use image_rig::ImageRig;
 use std::alloc::{AllocError, Global};
 use std::{fs, io};
-use test_rig::ScriptedRig;
-use test_table::{Judge, cut};
+use test_rig::{ScriptedRig, image_in, image_of_words};
+use test_table::{Judge, add_line, cut, has};
 
 /// What the row before left.
 #[derive(Drop)]
@@ -35,6 +35,34 @@ pub(crate) struct Table {
 }
 
 impl Left {
+    /// The rig of the row before, where a row goes on with it; else one over this image.
+    fn rig_of(
+        &mut self,
+        alloc: Global,
+        lines: &[String],
+        image: &Vec<u8>,
+    ) -> Result<ImageRig<MemStore>, AllocError> {
+        match self.rig.take() {
+            Some(rig) if has(lines, "again") => Ok(rig),
+            _ => rig_over(alloc, lines, image.clone()?),
+        }
+    }
+
+    /// Makes a row's call over a rig, and answers its text. Adds what came otherwise than the row says.
+    fn text_over(
+        &self,
+        alloc: Global,
+        lines: &[String],
+        others: &mut Vec<u8>,
+        before: &[u8],
+        rig: &mut ImageRig<MemStore>,
+    ) -> Result<Vec<u8>, AllocError> {
+        let came = came_over(alloc, lines, "a", rig)?;
+        add_call(alloc, others, lines, &came, &self.text)?;
+        add_image(alloc, others, lines, before, rig.store().bytes())?;
+        Ok(came.text)
+    }
+
     /// Makes a row's call over the image, or over the rig of the row before. Adds what came otherwise than the row says.
     fn call(
         &mut self,
@@ -43,16 +71,10 @@ impl Left {
         others: &mut Vec<u8>,
     ) -> Result<(), AllocError> {
         let before = image_in(alloc, lines, &self.image)?;
-        let mut rig = match self.rig.take() {
-            Some(rig) if has(lines, "again") => rig,
-            _ => rig_over(alloc, lines, before.clone()?)?,
-        };
-        let came = came_over(alloc, lines, "a", &mut rig)?;
-        add_call(alloc, others, lines, &came, &self.text)?;
-        add_image(alloc, others, lines, &before, rig.store().bytes())?;
+        let mut rig = self.rig_of(alloc, lines, &before)?;
+        self.text = self.text_over(alloc, lines, others, &before, &mut rig)?;
         self.image = Vec::from_slice(alloc, rig.store().bytes())?;
         self.rig = Some(rig);
-        self.text = came.text;
         Ok(())
     }
 
@@ -135,7 +157,7 @@ impl Judge for Table {
     fn set(&mut self, alloc: Global, line: &str) -> Result<bool, AllocError> {
         let (word, rest) = cut(line);
         if word == "image" {
-            self.left.image = image_of(alloc, rest)?;
+            self.left.image = image_of_words(alloc, rest)?;
             self.is_in_file = false;
             return Ok(true);
         }

@@ -1,10 +1,10 @@
 //! What a row wants, against what came.
 
 use crate::calls::Came;
-use crate::lines::{add_line, behind, has, text};
+use crate::lines::text;
 use std::alloc::{AllocError, Global};
 use std::str;
-use test_table::{bytes_of, cut, hex_of, number};
+use test_table::{add_line, behind, bytes_of, cut, has, hex_of, number, status_wanted};
 
 /// Whether a text has this line.
 fn has_line(text: &str, line: &str) -> bool {
@@ -125,15 +125,6 @@ fn add_came(others: &mut Vec<u8>, text: &[u8], none: &str) -> Result<(), AllocEr
         add_line(others, none)
     } else {
         others.extend_from_slice(text)
-    }
-}
-
-/// The status that a row wants: 0 where it says none.
-fn status_wanted(lines: &[String]) -> u64 {
-    if has(lines, "status") {
-        number(behind(lines, "status"))
-    } else {
-        0
     }
 }
 

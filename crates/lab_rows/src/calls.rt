@@ -1,12 +1,13 @@
 //! One call of the top call, and what comes of it.
 
-use crate::images::{Images, image_after, image_in, second_in};
-use crate::lines::{behind, numbers, source};
+use crate::images::{Images, image_after, images_in};
+use crate::lines::source;
 use dix_base::{MemSink, MemSource, MemStore, Sink, Source, Store};
 use image_rig::ImageRig;
 use lab_run::run;
 use rig_api::Rig;
 use std::alloc::{AllocError, Global};
+use test_table::{behind, numbers, word_of};
 
 /// The most bytes of a text, where a row says nothing else.
 const ROOM: u32 = 1_000_000;
@@ -18,21 +19,6 @@ pub(crate) struct Came {
     pub(crate) text: Vec<u8>,
     /// Whether each byte of the images is as the row says.
     pub(crate) is_left: bool,
-}
-
-/// A word, which is nothing for `''`, else has a space for each `_`.
-fn word_of(alloc: Global, text: &str) -> Result<String, AllocError> {
-    let mut word = String::new(alloc);
-    if text == "''" {
-        return Ok(word);
-    }
-    for (i, part) in text.split('_').enumerate() {
-        if i > 0 {
-            word.push(' ')?;
-        }
-        word.push_str(part)?;
-    }
-    Ok(word)
 }
 
 /// The words of the call.
@@ -61,6 +47,24 @@ fn exit<S: Source, R: Rig, A: Store, B: Store, O: Sink>(
     run(alloc, words, input, rig, first, second, out).number()
 }
 
+/// The source, the stores and the sink of a call, each of which fails where a row says so.
+#[derive(Drop)]
+struct Outside {
+    input: MemSource,
+    rig: ImageRig<MemStore>,
+    first: MemStore,
+    second: MemStore,
+    sink: MemSink,
+}
+
+/// A source with the text that a row says, which fails as it says.
+fn input_in(alloc: Global, lines: &[String]) -> Result<MemSource, AllocError> {
+    Ok(MemSource::new(
+        source(alloc, lines)?,
+        numbers(alloc, lines, "source-fails")?,
+    ))
+}
+
 /// A store with these bytes, which fails as the line with this mark says.
 fn store_of(
     alloc: Global,
@@ -77,6 +81,48 @@ fn sink_in(alloc: Global, lines: &[String]) -> Result<MemSink, AllocError> {
     MemSink::new(alloc, room, numbers(alloc, lines, "sink-fails")?)
 }
 
+/// What a row's call is made over.
+fn outside_of(alloc: Global, lines: &[String], images: &Images) -> Result<Outside, AllocError> {
+    Ok(Outside {
+        input: input_in(alloc, lines)?,
+        rig: ImageRig::new(alloc, store_of(alloc, lines, &images.first, "rig-fails")?),
+        first: store_of(alloc, lines, &images.first, "store-fails")?,
+        second: store_of(alloc, lines, &images.second, "second-fails")?,
+        sink: sink_in(alloc, lines)?,
+    })
+}
+
+impl Outside {
+    /// The exit status of a call with these words.
+    fn status(&mut self, alloc: Global, words: &[String]) -> u8 {
+        exit(
+            alloc,
+            words,
+            &mut self.input,
+            &mut self.rig,
+            &mut self.first,
+            &mut self.second,
+            &mut self.sink,
+        )
+    }
+
+    /// Whether a call over these images left each byte as a row says.
+    fn is_left(
+        &self,
+        alloc: Global,
+        lines: &[String],
+        images: &Images,
+    ) -> Result<bool, AllocError> {
+        let first = image_after(alloc, lines, &images.first, "then")?;
+        let rig = image_after(alloc, lines, &images.first, "rig")?;
+        Ok(
+            self.first.bytes() == first.as_slice()
+                && self.rig.store().bytes() == rig.as_slice()
+                && self.second.bytes() == images.second.as_slice(),
+        )
+    }
+}
+
 /// Calls the top call with the words of a row over its images.
 pub(crate) fn came_over(
     alloc: Global,
@@ -84,30 +130,12 @@ pub(crate) fn came_over(
     table: &Images,
 ) -> Result<Came, AllocError> {
     let words = words_in(alloc, lines)?;
-    let before = image_in(alloc, lines, &table.first)?;
-    let beside = second_in(alloc, lines, &table.second)?;
-    let mut input = MemSource::new(
-        source(alloc, lines)?,
-        numbers(alloc, lines, "source-fails")?,
-    );
-    let mut rig = ImageRig::new(alloc, store_of(alloc, lines, &before, "rig-fails")?);
-    let mut first = store_of(alloc, lines, &before, "store-fails")?;
-    let mut second = store_of(alloc, lines, &beside, "second-fails")?;
-    let mut sink = sink_in(alloc, lines)?;
-    let status = exit(
-        alloc,
-        &words,
-        &mut input,
-        &mut rig,
-        &mut first,
-        &mut second,
-        &mut sink,
-    );
+    let images = images_in(alloc, lines, table)?;
+    let mut outside = outside_of(alloc, lines, &images)?;
+    let status = outside.status(alloc, &words);
     Ok(Came {
         status,
-        text: Vec::from_slice(alloc, sink.bytes())?,
-        is_left: first.bytes() == image_after(alloc, lines, &before, "then")?.as_slice()
-            && rig.store().bytes() == image_after(alloc, lines, &before, "rig")?.as_slice()
-            && second.bytes() == beside.as_slice(),
+        text: Vec::from_slice(alloc, outside.sink.bytes())?,
+        is_left: outside.is_left(alloc, lines, &images)?,
     })
 }

@@ -1,7 +1,7 @@
 //! The lines of a row by their first words, their marks.
 
 use std::alloc::{AllocError, Global};
-use test_table::{bytes_of, cut, hex_of};
+use test_table::{add_line, bytes_of, cut, hex_of, is_one_of};
 
 /// The marks of lines of images.
 const IMAGE_MARKS: &str = "put cut more second-put second-cut second-more then rig";
@@ -10,55 +10,9 @@ const IMAGE_MARKS: &str = "put cut more second-put second-cut second-more then r
 const CALL_MARKS: &str =
     "$ in < <* source-fails store-fails second-fails rig-fails sink-fails room each status > >* >/ out";
 
-fn is_one_of(word: &str, marks: &str) -> bool {
-    for mark in marks.split(' ') {
-        if mark == word {
-            return true;
-        }
-    }
-    false
-}
-
 /// Whether a line may have this mark.
 pub(crate) fn is_mark(word: &str) -> bool {
     is_one_of(word, IMAGE_MARKS) || is_one_of(word, CALL_MARKS)
-}
-
-/// What stands behind the mark in the first line that has it.
-pub(crate) fn found<'a>(lines: &'a [String], mark: &str) -> Option<&'a str> {
-    for line in lines {
-        let (word, rest) = cut(line.as_str());
-        if word == mark {
-            return Some(rest);
-        }
-    }
-    None
-}
-
-/// Whether a line has this mark.
-pub(crate) fn has(lines: &[String], mark: &str) -> bool {
-    found(lines, mark).is_some()
-}
-
-/// What stands behind the mark in the first line that has it; nothing where none has it.
-pub(crate) fn behind<'a>(lines: &'a [String], mark: &str) -> &'a str {
-    found(lines, mark).unwrap_or("")
-}
-
-/// The numbers behind a mark.
-pub(crate) fn numbers(alloc: Global, lines: &[String], mark: &str) -> Result<Vec<u64>, AllocError> {
-    let mut numbers = Vec::new(alloc);
-    for word in behind(lines, mark).split(' ') {
-        numbers.push(word.parse::<u64>().unwrap_or(0))?;
-    }
-    Ok(numbers)
-}
-
-/// One more line of a text.
-pub(crate) fn add_line(text: &mut Vec<u8>, line: &str) -> Result<(), AllocError> {
-    text.extend_from_slice(line.as_bytes())?;
-    text.push(b'\n')?;
-    Ok(())
 }
 
 /// One more line of a text, which has the digits of the bytes for each word with a `*`.

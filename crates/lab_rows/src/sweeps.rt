@@ -3,9 +3,10 @@
 
 use crate::calls::{Came, came_over};
 use crate::images::Images;
-use crate::lines::{add_line, behind, text};
+use crate::lines::text;
 use crate::wanted::add_call;
 use std::alloc::{AllocError, Global};
+use test_table::{add_line, behind};
 
 /// What a row's call comes to with one more line.
 fn came_with(

@@ -1,12 +1,13 @@
 //! The lines of the table.
 
 use crate::calls::came_over;
-use crate::images::{Images, image_of};
-use crate::lines::{has, is_mark};
+use crate::images::Images;
+use crate::lines::is_mark;
 use crate::sweeps::add_sweep;
 use crate::wanted::add_call;
 use std::alloc::{AllocError, Global};
-use test_table::{Judge, cut};
+use test_rig::image_of_words;
+use test_table::{Judge, cut, has};
 
 /// The images that rows go over, and the lines of the row that is read.
 #[derive(Drop)]
@@ -31,12 +32,12 @@ impl Judge for Table {
     fn set(&mut self, alloc: Global, line: &str) -> Result<bool, AllocError> {
         let (word, rest) = cut(line);
         if word == "image" {
-            self.images.first = image_of(alloc, rest)?;
+            self.images.first = image_of_words(alloc, rest)?;
             self.images.second = self.images.first.clone()?;
             return Ok(true);
         }
         if word == "second" {
-            self.images.second = image_of(alloc, rest)?;
+            self.images.second = image_of_words(alloc, rest)?;
             return Ok(true);
         }
         self.lines.push(String::from_str(alloc, line)?)?;

@@ -1,18 +1,9 @@
 //! What a row wants, against what came.
 
 use crate::calls::Came;
-use crate::lines::{add_line, behind, has, text};
+use crate::lines::text;
 use std::alloc::{AllocError, Global};
-use test_table::number;
-
-/// The status that a row wants: 0 where it says none.
-fn status_wanted(lines: &[String]) -> u64 {
-    if has(lines, "status") {
-        number(behind(lines, "status"))
-    } else {
-        0
-    }
-}
+use test_table::{add_line, status_wanted};
 
 /// What came otherwise than a row says.
 pub(crate) fn add_call(

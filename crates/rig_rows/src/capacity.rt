@@ -2,6 +2,8 @@
 
 use crate::images::rig_over;
 use crate::units::{sense_of, type_word};
+use dix_base::MemStore;
+use image_rig::ImageRig;
 use rig_api::{Outcome, Rig};
 use rig_discovery::discover;
 use std::alloc::{AllocError, Global};
@@ -46,20 +48,37 @@ fn device_text(alloc: Global, device: DeviceInfo) -> Result<String, AllocError> 
     format!(in alloc; "{ty} {blocks} {size} {first}")
 }
 
+/// What a device tells, or that its answer is at fault.
+fn found_text(alloc: Global, found: Option<DeviceInfo>) -> Result<String, AllocError> {
+    match found {
+        Some(device) => device_text(alloc, device),
+        None => String::from_str(alloc, "fault"),
+    }
+}
+
+/// A rig over this image whose device answers so; none where the image can't be opened.
+fn answering(
+    alloc: Global,
+    image: &[u8],
+    words: &str,
+) -> Result<Option<ScriptedRig<ImageRig<MemStore>>>, AllocError> {
+    let mut inner = rig_over(alloc, Vec::from_slice(alloc, image)?, 0)?;
+    if inner.open(alloc, "unit.img").is_err() {
+        return Ok(None);
+    }
+    let answers = Vec::from_array(alloc, [answer_of(alloc, words)?])?;
+    Ok(Some(ScriptedRig::new(alloc, inner, answers)))
+}
+
 /// What is found where the device of this image answers so to READ CAPACITY(16).
 pub(crate) fn answer(
     alloc: Global,
     image: &[u8],
     words: &str,
 ) -> Result<Option<String>, AllocError> {
-    let mut inner = rig_over(alloc, Vec::from_slice(alloc, image)?, 0)?;
-    if inner.open(alloc, "unit.img").is_err() {
+    let Some(mut rig) = answering(alloc, image, words)? else {
         return Ok(None);
-    }
-    let answers = Vec::from_array(alloc, [answer_of(alloc, words)?])?;
-    let mut rig = ScriptedRig::new(alloc, inner, answers);
-    match first_device(alloc, &mut rig)? {
-        Some(device) => Ok(Some(device_text(alloc, device)?)),
-        None => Ok(Some(String::from_str(alloc, "fault")?)),
-    }
+    };
+    let found = first_device(alloc, &mut rig)?;
+    Ok(Some(found_text(alloc, found)?))
 }

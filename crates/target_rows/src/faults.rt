@@ -1,8 +1,8 @@
 //! Faults as a row writes them: of the op whose labels the commands have.
 
-use crate::bytes::{cut, small};
 use arrayvec::ArrayVec;
 use fault_schedule::{Crossing, FaultKind, FaultLine, Label, ShortBytes};
+use test_table::{cut, small};
 
 /// The labels of the blocks of every command.
 pub(crate) const LABELS: [Label; 3] = [

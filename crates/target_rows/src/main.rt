@@ -2,7 +2,6 @@
 //! it says, and how many rows there were, and how many of these.
 #![tactic(auto)]
 
-mod bytes;
 mod faults;
 mod outcomes;
 mod scene;

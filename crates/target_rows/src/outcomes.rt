@@ -1,9 +1,9 @@
 //! What a command ends with, as a row writes it.
 
-use crate::bytes::{cut, small};
 use hex::FromHex;
 use rig_api::Outcome;
 use sense_codes::Sense;
+use test_table::{cut, small};
 
 /// The sense of a word: key, code and qualifier in hexadecimal, and behind @ the information, if it has any; none of
 /// another word.

@@ -1,6 +1,5 @@
 //! The steps of a row.
 
-use crate::bytes::{bytes_of, cut, number};
 use crate::faults::{flip, shift};
 use crate::outcomes::is_outcome;
 use crate::units::answered;
@@ -9,6 +8,7 @@ use fault_schedule::{FaultLine, FaultList, Tamper};
 use rig_api::Outcome;
 use std::alloc::{AllocError, Global};
 use target_model::LogicalUnit;
+use test_table::{bytes_of, cut, number};
 
 /// A unit and its store, what a command brings, and what it left.
 #[derive(Drop)]

@@ -1,10 +1,10 @@
 //! The lines of the table.
 
-use crate::bytes::{bytes_of, cut};
 use crate::scene::Scene;
 use crate::units::{FIRST, unit_of};
 use std::alloc::{AllocError, Global};
 use target_model::LogicalUnit;
+use test_table::{bytes_of, cut};
 
 /// The unit and the bytes of its store from here on, how many rows there were, and of how many something else came.
 #[derive(Drop)]

@@ -4,7 +4,6 @@ ghost use Rattle.std.specs.Prelude.{◌≡◌, ◌+◌, ◌*◌, ◌≤◌, true
 ghost use Rattle.target_answer.specs.Frames.{stored_size};
 ghost use Rattle.target_model.specs.Served.{IsUnit};
 
-use crate::bytes::{number, small};
 use crate::faults::LABELS;
 use dix_base::{MemStore, Store};
 use fault_schedule::Tamper;
@@ -12,6 +11,7 @@ use pi_tuple::PiType;
 use rig_api::Outcome;
 use std::alloc::{AllocError, Global};
 use target_model::{LogicalUnit, serve};
+use test_table::{number, small};
 
 /// The unit before the first that the table names.
 pub(crate) const FIRST: LogicalUnit = LogicalUnit {

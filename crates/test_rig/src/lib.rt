@@ -8,5 +8,5 @@ mod image;
 mod scripted;
 
 pub use answers::Answer;
-pub use image::formatted;
+pub use image::{change, formatted, image_in, image_of_words};
 pub use scripted::ScriptedRig;

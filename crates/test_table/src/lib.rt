@@ -4,10 +4,12 @@
 
 mod escapes;
 mod line;
+mod marks;
 mod words;
 
 pub use escapes::text_of;
 pub use line::Words;
+pub use marks::{add_line, behind, has, is_one_of, numbers, status_wanted, word_of};
 use std::alloc::{AllocError, Global};
 use std::io;
 pub use words::{array_of, bytes_of, cut, hex_of, number, small, tag_of};
