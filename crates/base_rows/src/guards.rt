@@ -1,7 +1,6 @@
-//! Guards of bytes, by the fast forms, the plain ones and in parts.
+//! Guards of bytes, whole and in parts.
 
 use crate::names::none;
-use pi_guard::plain::{crc16_by_bits, ip_sum_by_words};
 use pi_guard::{GuardKind, GuardRun, crc16, ip_sum};
 use std::alloc::{AllocError, Global};
 use test_table::{bytes_of, cut, hex_of, small};
@@ -25,10 +24,8 @@ pub(crate) fn answer(alloc: Global, words: &str) -> Result<String, AllocError> {
     let bytes = bytes_of(alloc, text)?;
     let guard = match (kind, way) {
         ("crc", "fast") => crc16(&bytes),
-        ("crc", "plain") => crc16_by_bits(&bytes),
         ("crc", lengths) => in_parts(GuardKind::Crc, lengths, &bytes),
         ("ip", "fast") => ip_sum(&bytes),
-        ("ip", "plain") => ip_sum_by_words(&bytes),
         ("ip", lengths) => in_parts(GuardKind::Ip, lengths, &bytes),
         _ => return none(alloc),
     };

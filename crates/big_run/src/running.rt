@@ -3,6 +3,7 @@
 ghost use Rattle.std.specs.Prelude.{◌≡◌, ◌≤◌, [], ◌∷◌, IfOk, Some};
 ghost use Rattle.pi_guard.specs.Guards.{crc};
 ghost use Rattle.report_text.specs.Report.{report};
+ghost use Rattle.script_text.specs.Generator.{big};
 ghost use Rattle.target_answer.specs.Image.{formatted};
 ghost use Rattle.big_run.specs.Plain.{big_unit};
 ghost use Rattle.big_run.specs.Ran.{RanBig};
@@ -15,7 +16,7 @@ use pi_tuple::PiType;
 use rig_api::Rig;
 use run_command::{Finished, print_run, run_script};
 use script_laws::a_big_script_keeps_the_rules;
-use script_text::big_script;
+use script_text::{Script, big_script};
 use std::alloc::{AllocError, Global};
 use target_answer::UnitSpec;
 
@@ -66,17 +67,23 @@ fn sum_of(alloc: Global, n: u32, run: &Finished) -> Result<u16, AllocError>
     }
 }
 
-/// Runs the script of `n` ops, at most 1,024, that the numbers from this seed on make, over two units
-/// of type 1 with 4,096 blocks each, which are formatted first. All of it is in memory.
-pub fn run_big(alloc: Global, n: u32, seed: u32) -> Result<BigRun, AllocError>
-    requires { n ≤ 1024 }
+/// Runs the script that was made of `n` and a seed over the formatted image of the two units.
+fn run_over(
+    alloc: Global,
+    n: u32,
+    seed: u32,
+    script: Script,
+    rig: &mut ImageRig<CalmStore>,
+) -> Result<BigRun, AllocError>
+    requires few { n ≤ 1024 }
+    requires script { script ≡ big n seed }
+    requires image { (⟦<ImageRig<CalmStore> as Rig>⟧.state rig.old).image ≡ Some (formatted (big_unit ∷ big_unit ∷ [])) }
+    requires log { (⟦<ImageRig<CalmStore> as Rig>⟧.state rig.old).log ≡ [] }
     ensures { IfOk result (λ b. RanBig n seed b) }
 {
-    let script = big_script(alloc, n, seed)?;
     a_big_script_keeps_the_rules(n, seed, &script);
     let counts = counts_of(script.ops.as_slice());
-    let mut rig = formatted(alloc)?;
-    let Ok(run) = run_script(alloc, "big", script, &mut rig) else {
+    let Ok(run) = run_script(alloc, "big", script, rig) else {
         return Err(AllocError);
     };
     let sum = sum_of(alloc, n, &run)?;
@@ -87,4 +94,15 @@ pub fn run_big(alloc: Global, n: u32, seed: u32) -> Result<BigRun, AllocError>
         exchanges: rig.records() - rig.devices(),
         sum,
     })
+}
+
+/// Runs the script of `n` ops, at most 1,024, that the numbers from this seed on make, over two units
+/// of type 1 with 4,096 blocks each, which are formatted first. All of it is in memory.
+pub fn run_big(alloc: Global, n: u32, seed: u32) -> Result<BigRun, AllocError>
+    requires { n ≤ 1024 }
+    ensures { IfOk result (λ b. RanBig n seed b) }
+{
+    let script = big_script(alloc, n, seed)?;
+    let mut rig = formatted(alloc)?;
+    run_over(alloc, n, seed, script, &mut rig)
 }

@@ -74,10 +74,3 @@ part_of (Err x) w o p a b c h e = subst (λ t. AppendedSome (sweep_text w) a t) 
 -- it didn't
 pub fails : (r : Result Counts Halt) (w : Sweep) (o p q : ℕ) (a b c : Option (List ℕ)) → IsWritten r w o p a b → Rose p q → c ≡ b → SweepEnds (Err (unswept.Halted halt.Sink)) w o q a c
 fails r w o p q a b c h k e = (h.free, rise o p q h.count k, part_of r w o p a b c h e)
-
--- the script that is swept is the one that was handed in
-pub ended_by : (result : Result Bool Unswept) (r : Result Counts Halt) (w v : Sweep) (o p q : ℕ) (a b c : Option (List ℕ)) → w ≡ v → result ≡ unseen_in r → IsWritten r w o p a b → q ≡ p → c ≡ b → SweepEnds result v o q a c
-ended_by result r w v o p q a b c s e h k same = subst (λ (x : Sweep). SweepEnds result x o q a c) s (subst (λ (x : Result Bool Unswept). SweepEnds x w o q a c) (sym e) (ends r w o p q a b c h k same))
-
-pub failed_by : (r : Result Counts Halt) (w v : Sweep) (o p q : ℕ) (a b c : Option (List ℕ)) → w ≡ v → IsWritten r w o p a b → Rose p q → c ≡ b → SweepEnds (Err (unswept.Halted halt.Sink)) v o q a c
-failed_by r w v o p q a b c s h k same = subst (λ (x : Sweep). SweepEnds (Err (unswept.Halted halt.Sink)) x o q a c) s (fails r w o p q a b c h k same)

@@ -293,6 +293,22 @@ fn has_unseen(ended: Result<Counts, Halt>) -> Result<bool, Unswept>
     }
 }
 
+/// Sweeps a script that was run as it is. The sink passes on all that it holds.
+fn sweep_ground<O: Sink>(alloc: Global, base: &Ground<'_>, out: &mut O) -> Result<bool, Unswept>
+    requires base { IsGround base.now }
+    ensures swept { SweepEnds result (swept_in base.now) (O.faults out.old) (O.faults out.new) (O.taken out.old) (O.taken out.new) }
+    ensures count { O.faults out.old ≤ O.faults out.new }
+{
+    let Ok(sites) = sites_of(alloc, base.script.ops.as_slice()) else {
+        return Err(Unswept::Stopped(Refusal::Memory));
+    };
+    let ended = write_sweep(alloc, base, &sites, out);
+    match out.flush() {
+        Ok(()) => has_unseen(ended),
+        Err(Failed) => Err(Unswept::Halted(Halt::Sink)),
+    }
+}
+
 /// Runs the script over these units, freshly formatted in memory, once as it is and then once for each byte of a frame
 /// at each crossing of each block of its reads and writes, with this byte, which isn't 0, as the bits that are flipped
 /// there; writes what each of these flips comes to, and says whether some are seen by nobody. The sink passes on all
@@ -318,12 +334,5 @@ pub fn sweep_script<O: Sink>(
         Ok(base) => base,
         Err(refusal) => return Err(Unswept::Stopped(refusal)),
     };
-    let Ok(sites) = sites_of(alloc, script.ops.as_slice()) else {
-        return Err(Unswept::Stopped(Refusal::Memory));
-    };
-    let ended = write_sweep(alloc, &base, &sites, out);
-    match out.flush() {
-        Ok(()) => has_unseen(ended),
-        Err(Failed) => Err(Unswept::Halted(Halt::Sink)),
-    }
+    sweep_ground(alloc, &base, out)
 }

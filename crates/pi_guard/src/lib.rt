@@ -5,7 +5,6 @@
 mod byte_tables;
 mod halves;
 mod narrow;
-pub mod plain;
 mod slicing;
 mod vectors;
 mod wide;
