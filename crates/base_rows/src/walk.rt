@@ -144,8 +144,28 @@ pub(crate) fn walk(
     Ok(format!(in alloc; "{alike} {same}")?)
 }
 
-/// Makes a file, reads its first bytes, cuts it to half its bytes behind the store's back, and says whether reads go well:
-/// inside the piece that was read ahead, behind it, and where nothing is any more.
+/// Whether the hundred bytes from this one on are read.
+fn is_read(store: &mut FileStore, at: u64) -> &'static str
+    requires { at + 100 ≤ store.old.len }
+    ensures { store.new.len ≡ store.old.len }
+{
+    yes_or_no(store.read_at(at, &mut [0; 100]).is_ok())
+}
+
+/// Cuts an opened file to half its bytes behind the store's back, and says whether reads go well: before the cut, and
+/// behind it inside the piece that was read ahead, behind that piece, and where nothing is any more.
+fn cut_short(rt: &HostRuntime, store: &mut FileStore, path: &str, half: &[u8]) -> io::Result<String>
+    requires { store.old.len ≡ 700000 }
+{
+    let first = is_read(store, 0);
+    fs::write(rt, path, half)?;
+    let inside = is_read(store, 200_000);
+    let behind = is_read(store, 349_000);
+    let nowhere = is_read(store, 400_000);
+    Ok(format!(in rt.alloc(); "{first} {inside} {behind} {nowhere}")?)
+}
+
+/// Makes a file, reads its first bytes, cuts it to half its bytes, and says which reads go well.
 pub(crate) fn shrunk(rt: HostRuntime, store: &mut FileStore, path: &str) -> io::Result<String> {
     let alloc = rt.alloc();
     let bytes = bytes_of_file(alloc)?;
@@ -153,12 +173,6 @@ pub(crate) fn shrunk(rt: HostRuntime, store: &mut FileStore, path: &str) -> io::
     if !opens(alloc, store, path)? {
         return Ok(String::from_str(alloc, "failed")?);
     }
-    let mut room = [0; 100];
-    let first = yes_or_no(store.read_at(0, &mut room).is_ok());
     let (half, _) = bytes.split_at(bytes.len() / 2);
-    fs::write(&rt, path, half)?;
-    let inside = yes_or_no(store.read_at(200_000, &mut room).is_ok());
-    let behind = yes_or_no(store.read_at(349_000, &mut room).is_ok());
-    let nowhere = yes_or_no(store.read_at(400_000, &mut room).is_ok());
-    Ok(format!(in alloc; "{first} {inside} {behind} {nowhere}")?)
+    cut_short(&rt, store, path, half)
 }

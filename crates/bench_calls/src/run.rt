@@ -148,6 +148,21 @@ fn started(
     Ok(stack)
 }
 
+/// How many commands were sent once all ops have ended, or none where they don't. Nothing is run where the words say so.
+fn commands<R: Rig>(stack: &mut Stack, words: Words, rig: &mut R) -> Option<u32>
+    requires { StandsOver stack.old (R.state rig.old) }
+{
+    if words == Words::Unrun {
+        return Some(0);
+    }
+    run_words(stack, words, rig);
+    if stack.finished() {
+        Some(rig.records())
+    } else {
+        None
+    }
+}
+
 /// Lets a stack run over the plain rig. Answers how many commands were sent, or none where it didn't end.
 fn sent(alloc: Global, mut stack: Stack, words: Words) -> Result<Option<u32>, AllocError>
     requires stack { IsStack stack }
@@ -157,15 +172,7 @@ fn sent(alloc: Global, mut stack: Stack, words: Words) -> Result<Option<u32>, Al
     let mut rig = PlainRig::new(alloc);
     let blocks = stack.blocks();
     rig.reserve(alloc, blocks, blocks)?;
-    if words == Words::Unrun {
-        return Ok(Some(0));
-    }
-    run_words(&mut stack, words, &mut rig);
-    if stack.finished() {
-        Ok(Some(rig.records()))
-    } else {
-        Ok(None)
-    }
+    Ok(commands(&mut stack, words, &mut rig))
 }
 
 /// How many commands were sent once all ops have ended, or none where the text isn't run.

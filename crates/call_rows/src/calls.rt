@@ -43,6 +43,23 @@ fn sink_in(alloc: Global, lines: &[String]) -> Result<MemSink, AllocError> {
     MemSink::new(alloc, room, numbers(alloc, lines, "sink-fails")?)
 }
 
+/// The source of a row, which fails as it says.
+fn input_in(alloc: Global, lines: &[String]) -> Result<MemSource, AllocError> {
+    let fails = numbers(alloc, lines, "source-fails")?;
+    Ok(MemSource::new(source_in(alloc, lines)?, fails))
+}
+
+/// What a call came to that ended with this status: what the sink took, and what the rig has on record.
+fn came<R: Rig>(alloc: Global, status: u8, sink: &MemSink, rig: &R) -> Result<Came, AllocError> {
+    let text = Vec::from_slice(alloc, sink.bytes())?;
+    let records = records_of(alloc, rig)?;
+    Ok(Came {
+        status,
+        text,
+        records,
+    })
+}
+
 /// Calls the top call with the words and the source of a row over a rig. The image of the row has this name.
 pub(crate) fn came_over<R: Rig>(
     alloc: Global,
@@ -51,13 +68,8 @@ pub(crate) fn came_over<R: Rig>(
     rig: &mut R,
 ) -> Result<Came, AllocError> {
     let words = words_in(alloc, lines, name)?;
-    let fails = numbers(alloc, lines, "source-fails")?;
-    let mut source = MemSource::new(source_in(alloc, lines)?, fails);
+    let mut source = input_in(alloc, lines)?;
     let mut sink = sink_in(alloc, lines)?;
     let status = exit(alloc, &words, &mut source, rig, &mut sink);
-    Ok(Came {
-        status,
-        text: Vec::from_slice(alloc, sink.bytes())?,
-        records: records_of(alloc, rig)?,
-    })
+    came(alloc, status, &sink, rig)
 }

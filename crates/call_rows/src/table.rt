@@ -78,24 +78,29 @@ impl Left {
         Ok(())
     }
 
+    /// A rig over the image that answers as a row says in its place.
+    fn scripted(
+        &self,
+        alloc: Global,
+        lines: &[String],
+    ) -> Result<ScriptedRig<ImageRig<MemStore>>, AllocError> {
+        let answers = answers_in(alloc, lines)?;
+        let rig = rig_over(alloc, lines, self.image.clone()?)?;
+        Ok(ScriptedRig::new(alloc, rig, answers))
+    }
+
     /// Makes a row's call over a rig that answers in place of the image.
     fn call_answered(
-        &mut self,
+        &self,
         alloc: Global,
         lines: &[String],
         others: &mut Vec<u8>,
     ) -> Result<(), AllocError> {
-        let rig = rig_over(alloc, lines, self.image.clone()?)?;
-        let mut rig = ScriptedRig::new(alloc, rig, answers_in(alloc, lines)?);
+        let mut rig = self.scripted(alloc, lines)?;
         let came = came_over(alloc, lines, "a", &mut rig)?;
         add_call(alloc, others, lines, &came, &self.text)?;
-        add_image(
-            alloc,
-            others,
-            lines,
-            &self.image,
-            rig.inner().store().bytes(),
-        )
+        let left = rig.inner().store().bytes();
+        add_image(alloc, others, lines, &self.image, left)
     }
 
     /// Makes a row's call from the image's bytes to bytes.

@@ -47,13 +47,19 @@ fn exit<S: Source, R: Rig, A: Store, B: Store, O: Sink>(
     run(alloc, words, input, rig, first, second, out).number()
 }
 
-/// The source, the stores and the sink of a call, each of which fails where a row says so.
+/// The rig and the stores of a call, each of which fails where a row says so.
 #[derive(Drop)]
-struct Outside {
-    input: MemSource,
+struct Stores {
     rig: ImageRig<MemStore>,
     first: MemStore,
     second: MemStore,
+}
+
+/// The source, the stores and the sink of a call. Source and sink fail too where a row says so.
+#[derive(Drop)]
+struct Outside {
+    input: MemSource,
+    stores: Stores,
     sink: MemSink,
 }
 
@@ -81,14 +87,27 @@ fn sink_in(alloc: Global, lines: &[String]) -> Result<MemSink, AllocError> {
     MemSink::new(alloc, room, numbers(alloc, lines, "sink-fails")?)
 }
 
+/// The rig and the stores over these images.
+fn stores_of(alloc: Global, lines: &[String], images: &Images) -> Result<Stores, AllocError> {
+    let held = store_of(alloc, lines, &images.first, "rig-fails")?;
+    let first = store_of(alloc, lines, &images.first, "store-fails")?;
+    let second = store_of(alloc, lines, &images.second, "second-fails")?;
+    Ok(Stores {
+        rig: ImageRig::new(alloc, held),
+        first,
+        second,
+    })
+}
+
 /// What a row's call is made over.
 fn outside_of(alloc: Global, lines: &[String], images: &Images) -> Result<Outside, AllocError> {
+    let input = input_in(alloc, lines)?;
+    let sink = sink_in(alloc, lines)?;
+    let stores = stores_of(alloc, lines, images)?;
     Ok(Outside {
-        input: input_in(alloc, lines)?,
-        rig: ImageRig::new(alloc, store_of(alloc, lines, &images.first, "rig-fails")?),
-        first: store_of(alloc, lines, &images.first, "store-fails")?,
-        second: store_of(alloc, lines, &images.second, "second-fails")?,
-        sink: sink_in(alloc, lines)?,
+        input,
+        stores,
+        sink,
     })
 }
 
@@ -99,9 +118,9 @@ impl Outside {
             alloc,
             words,
             &mut self.input,
-            &mut self.rig,
-            &mut self.first,
-            &mut self.second,
+            &mut self.stores.rig,
+            &mut self.stores.first,
+            &mut self.stores.second,
             &mut self.sink,
         )
     }
@@ -116,10 +135,28 @@ impl Outside {
         let first = image_after(alloc, lines, &images.first, "then")?;
         let rig = image_after(alloc, lines, &images.first, "rig")?;
         Ok(
-            self.first.bytes() == first.as_slice()
-                && self.rig.store().bytes() == rig.as_slice()
-                && self.second.bytes() == images.second.as_slice(),
+            self.stores.first.bytes() == first.as_slice()
+                && self.stores.rig.store().bytes() == rig.as_slice()
+                && self.stores.second.bytes() == images.second.as_slice(),
         )
+    }
+
+    /// Makes the call of a row over these images.
+    fn came(
+        &mut self,
+        alloc: Global,
+        lines: &[String],
+        images: &Images,
+        words: &[String],
+    ) -> Result<Came, AllocError> {
+        let status = self.status(alloc, words);
+        let is_left = self.is_left(alloc, lines, images)?;
+        let text = Vec::from_slice(alloc, self.sink.bytes())?;
+        Ok(Came {
+            status,
+            text,
+            is_left,
+        })
     }
 }
 
@@ -132,10 +169,5 @@ pub(crate) fn came_over(
     let words = words_in(alloc, lines)?;
     let images = images_in(alloc, lines, table)?;
     let mut outside = outside_of(alloc, lines, &images)?;
-    let status = outside.status(alloc, &words);
-    Ok(Came {
-        status,
-        text: Vec::from_slice(alloc, outside.sink.bytes())?,
-        is_left: outside.is_left(alloc, lines, &images)?,
-    })
+    outside.came(alloc, lines, &images, &words)
 }

@@ -17,8 +17,8 @@ room-of a b n k r e p h =
     let z = h.moved in
     rw e (record { records = omega (arith, x, p); labels = omega (arith, y, p); moved = omega (arith, z, w) })
 
-pub run_words-requires : goal.run_words-requires
-run_words-requires c = record {
+pub commands-requires : goal.commands-requires
+commands-requires c = record {
   stack = c.requires.stack;
   reaches = c.requires.reaches (standing_of c.reserve.new.self.devices) (ap (λ (s : Standing). s.devices) (ap (λ (s : RigState). s.standing) c.reserve.ensures.keeps) ∙ c.new-rig.ensures);
   spare = c.requires.spare (standing_of c.reserve.new.self.devices) (room_in c.reserve.new.self.log)
