@@ -1,14 +1,9 @@
 //! A part of a request.
 
-ghost use Rattle.std.specs.Prelude.{◌≡◌, ◌+◌, ◌*◌, ◌-◌, ◌<◌, ◌≤◌, ◌^◌, ◌++◌, ◌↔◌, IsNone, IfSome, length, take, drop};
-ghost use Rattle.page_pool.specs.Cuts.{cut};
-ghost use Rattle.page_pool.specs.Places.{total};
-ghost use Rattle.bio_core.specs.Bios.{HasTuplesFor, bio_of, block_size, blocks_of, data_segs, part_of, tuple_segs};
+ghost use Rattle.std.specs.Prelude.{◌≡◌, ◌+◌, ◌-◌, ◌<◌, ◌≤◌, ◌^◌, ◌++◌, ◌↔◌, IsNone, IfSome, take, drop};
+ghost use Rattle.bio_core.specs.Bios.{HasTuplesFor, bio_of, blocks_of, part_of};
 
 use crate::{Dir, Io};
-use integrity_payload::Payload;
-use page_pool::SgList;
-use pi_tuple::TUPLE;
 
 /// Blocks `k` to `k + count - 1` of one request, at consecutive addresses of one device. A bio names blocks and
 /// holds no data.
@@ -47,8 +42,8 @@ impl Bio {
             dev,
             lba,
             dir: io.dir,
-            segs: count_data_segs(io, k, count),
-            pi_segs: count_tuple_segs(&io.pi, io.count, k, count),
+            segs: io.data_segs(k, count),
+            pi_segs: io.tuple_segs(k, count),
         }
     }
 
@@ -67,8 +62,8 @@ impl Bio {
             k: self.k + at,
             count: n,
             lba: self.lba + at as u64,
-            segs: count_data_segs(io, self.k + at, n),
-            pi_segs: count_tuple_segs(&io.pi, io.count, self.k + at, n),
+            segs: io.data_segs(self.k + at, n),
+            pi_segs: io.tuple_segs(self.k + at, n),
             ..*self
         }
     }
@@ -102,37 +97,4 @@ impl Bio {
         }
         Some(self.part(io, n, self.count - n))
     }
-}
-
-// The segments that hold data of the blocks k to k + n - 1.
-fn count_data_segs(io: &Io, k: u32, n: u32) -> u32
-    requires some { 1 ≤ n }
-    requires within { k + n ≤ io.now.count }
-    ensures { result ≡ data_segs io.now k n }
-{
-    // The body's bytes are known to be few once it was looked at.
-    let _segs = io.body.as_slice();
-    let size = io.block_size();
-    io.body.segs_in(k * size, n * size)
-}
-
-// The segments that hold tuples of the blocks k to k + n - 1.
-fn count_tuple_segs(pi: &Option<Payload>, count: u32, k: u32, n: u32) -> u32
-    requires within { k + n ≤ count }
-    requires tuples { HasTuplesFor pi.now count }
-    ensures { result ≡ tuple_segs pi.now k n }
-{
-    match pi {
-        Some(pi) => segs_of_tuples(&pi.tuples, k, n),
-        None => 0,
-    }
-}
-
-fn segs_of_tuples(tuples: &SgList, k: u32, n: u32) -> u32
-    requires { TUPLE * (k + n) ≤ total tuples.now }
-    ensures { result ≡ length (cut tuples.now (TUPLE * k) (TUPLE * n)) }
-{
-    // The list's bytes are known to be few once it was looked at.
-    let _segs = tuples.as_slice();
-    tuples.segs_in(TUPLE as u32 * k, TUPLE as u32 * n)
 }

@@ -1,10 +1,8 @@
 -- The requests of a run over a volume, as a plan of its steps.
-use Rattle.std.specs.Prelude.{◌≡◌, ℕ, ◌+◌, ◌*◌, ◌<◌, ◌≤◌, ◌^◌, Bool, true, false, List, [], ◌∷◌, map, get_or, Some, None}
-use Rattle.page_pool.specs.Places.{total}
-use Rattle.integrity_payload.specs.declared.payload.Payload.{Payload}
+use Rattle.std.specs.Prelude.{◌≡◌, ℕ, ◌+◌, ◌<◌, ◌^◌, Bool, true, false, List, [], ◌∷◌, map, get_or, None}
 use Rattle.bio_core.specs.declared.request.Dir.TheVariants.{Read}
 use Rattle.bio_core.specs.declared.request.Io.{Io}
-use Rattle.bio_core.specs.Bios.{data_segs, tuple_segs}
+use Rattle.bio_core.specs.Bios.{HasTuplesFor, data_segs, tuple_segs}
 use Rattle.range_gate.specs.declared.footprint.Footprint.{Footprint}
 use Rattle.range_gate.specs.Prints.{Kept, chosen, clash}
 use Rattle.merge_queue.specs.declared.limits.Limits.{Limits}
@@ -15,7 +13,6 @@ use Rattle.stack_ops.specs.declared.op.Op.TheVariants.{Wait}
 use Rattle.stack_ops.specs.Footprints.{footprint}
 use Rattle.stack_view.specs.Plan.{Plan, Place, Request}
 use Rattle.stack_steps.specs.Fine.{Fine}
-use Rattle.pi_tuple.specs.declared.TheConstants.{TUPLE}
 
 -- a request of no blocks
 abbrev pub no_io : Io
@@ -69,9 +66,9 @@ AreInside ios table = (i k : ℕ) → k < (io_at ios i).count → (io_at ios i).
 abbrev pub HaveNumbers : List Io → Type 0
 HaveNumbers ios = (i : ℕ) → (io_at ios i).first + (io_at ios i).count < 2 ^ 64
 
--- each has eight bytes of tuples for each block, where it has tuples
+-- each has as many tuples as blocks, where it has tuples
 abbrev pub HaveTuples : List Io → Type 0
-HaveTuples ios = (i : ℕ) (pi : Payload) → (io_at ios i).pi ≡ Some pi → TUPLE * (io_at ios i).count ≤ total pi.tuples
+HaveTuples ios = (i : ℕ) → HasTuplesFor (io_at ios i).pi (io_at ios i).count
 
 pub record IsSheet (ops : List Op) (shifted : List Bool) (ios : List Io) (table : Table) (limits : Limits) (devices : ℕ) : Type 0 where
   pub fine : Fine (plan_of ops shifted ios table limits devices)

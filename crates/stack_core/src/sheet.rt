@@ -1,17 +1,13 @@
 //! The requests of a run over a volume, as the steps are told of them.
 
-ghost use Rattle.std.specs.Prelude.{◌≡◌, ◌<◌, ◌≤◌, ◌+◌, ◌*◌, ◌^◌, ℕ, length};
-ghost use Rattle.page_pool.specs.Places.{total};
-ghost use Rattle.page_pool.specs.Cuts.{cut};
-ghost use Rattle.bio_core.specs.Bios.{block_size, data_segs};
+ghost use Rattle.std.specs.Prelude.{◌≡◌, ◌<◌, ◌≤◌, ◌+◌, ◌^◌, ℕ, length};
+ghost use Rattle.bio_core.specs.Bios.{block_size};
 ghost use Rattle.volume_table.specs.Places.{place_in, volume_len};
 ghost use Rattle.run_follows.specs.Sheets.{HaveNumbers, IsSheet, io_at, op_in, plan_of};
 ghost use Rattle.pi_tuple.specs.declared.TheConstants.{LARGEST_BLOCK};
 
-use bio_core::{Dir, Io};
+use bio_core::Io;
 use merge_queue::Limits;
-use page_pool::SgList;
-use pi_tuple::TUPLE;
 use stack_ops::{Op, OpList};
 use stack_steps::{Requests, Site};
 use volume_table::VolumeTable;
@@ -45,12 +41,8 @@ impl Requests for Sheet {
         self.limits
     }
 
-    fn count(&self, op: u32) -> u32 {
-        self.ios[op as usize].count
-    }
-
-    fn dir(&self, op: u32) -> Dir {
-        self.ios[op as usize].dir
+    fn io(&self, op: u32) -> &Io {
+        &self.ios[op as usize]
     }
 
     fn site(&self, op: u32, k: u32) -> Site {
@@ -60,17 +52,6 @@ impl Requests for Sheet {
             dev,
             lba,
             run: self.table.run_from(v),
-        }
-    }
-
-    fn segs(&self, op: u32, k: u32, n: u32) -> u32 {
-        data_segs_of(&self.ios[op as usize], k, n)
-    }
-
-    fn pi_segs(&self, op: u32, k: u32, n: u32) -> u32 {
-        match &self.ios[op as usize].pi {
-            Some(pi) => tuple_segs_of(&pi.tuples, k, n),
-            None => 0,
         }
     }
 
@@ -87,7 +68,7 @@ impl Sheet {
     }
 
     /// The request of an op.
-    pub(crate) fn io(&self, op: usize) -> &Io
+    pub(crate) fn request(&self, op: usize) -> &Io
         requires { op < length self.now.ios.items }
         ensures { result.now ≡ io_at self.now.ios.items op }
     {
@@ -115,25 +96,6 @@ impl Sheet {
     {
         &self.ops.as_slice()[op]
     }
-}
-
-fn data_segs_of(io: &Io, k: u32, n: u32) -> u32
-    requires some { 1 ≤ n }
-    requires within { k + n ≤ io.now.count }
-    ensures { result ≡ data_segs io.now k n }
-{
-    // The body's bytes are known to be few once it was looked at.
-    let _segs = io.body.as_slice();
-    let size = io.block_size();
-    io.body.segs_in(k * size, n * size)
-}
-
-fn tuple_segs_of(tuples: &SgList, k: u32, n: u32) -> u32
-    requires { TUPLE * (k + n) ≤ total tuples.now }
-    ensures { result ≡ length (cut tuples.now (TUPLE * k) (TUPLE * n)) }
-{
-    let _segs = tuples.as_slice();
-    tuples.segs_in(TUPLE as u32 * k, TUPLE as u32 * n)
 }
 
 /// One more than the greatest device on which a block of a request lies.

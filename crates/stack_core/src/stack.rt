@@ -140,7 +140,7 @@ impl Stack {
     {
         let op = self.machine.end(&self.sheet, q) as usize;
         let room = take_room(&mut self.rooms, op);
-        let fates = self.kept.of(op, self.sheet.io(op).count);
+        let fates = self.kept.of(op, self.sheet.request(op).count);
         set_reply(&mut self.replies, op, reply_of(fates, room));
     }
 
@@ -180,10 +180,10 @@ impl Stack {
         ensures kept { self.new.kept ≡ self.old.kept }
     {
         let op = self.machine.admit(&self.sheet, q) as usize;
-        if self.sheet.io(op).count > 0 {
+        if self.sheet.request(op).count > 0 {
             make_tuples(
                 &mut self.pool,
-                self.sheet.io(op),
+                self.sheet.request(op),
                 self.adapter.kind,
                 self.host,
             );
@@ -212,7 +212,7 @@ impl Stack {
         let bio = self.machine.cut(&self.sheet, q, size);
         map_piece(
             &mut self.pool,
-            self.sheet.io(bio.op as usize - 1),
+            self.sheet.request(bio.op as usize - 1),
             self.host,
             &bio,
         );

@@ -17,6 +17,8 @@ use Rattle.merge_queue.proofs.Joins.{pairs-more}
 use Rattle.merge_queue.proofs.Linking.{length-numbers}
 use Rattle.stack_view.proofs.Enabled.{none-enabled, stuck}
 use Rattle.stack_view.proofs.Capacity.{few-unsettled}
+use Rattle.stack_steps.specs.declared.machine.Machine.{Machine}
+use Rattle.stack_steps.specs.Does.{Works}
 use Rattle.stack_steps.specs.declared.state.OpState.{OpState}
 use Rattle.stack_steps.specs.declared.choice.Choice.{Choice}
 use Rattle.stack_steps.specs.declared.choice.Choice.TheVariants.{Join, Send}
@@ -155,6 +157,10 @@ number-few p gate ops live qs flight steps v f s =
 
 pub counts-at : (p : Plan) (gate gate' : Gated) (ops ops' : List OpState) (live live' : List ℕ) (qs qs' : List Queued) (flight : Flights) (steps : ℕ) (v : View) → Fine p → Shows p gate ops live qs flight steps v.queues v → gate' ≡ gate → ops' ≡ ops → live' ≡ live → qs' ≡ qs → CountsFit p gate' ops' live' qs'
 counts-at p gate gate' ops ops' live live' qs qs' flight steps v f s z a b c = rw (z, a, b, c) (counts-fit p gate ops live qs flight steps v f s)
+
+-- the same of the lists of a machine that shows a view
+pub fits-at : (p : Plan) (s : Machine) (ops : List OpState) (live : List ℕ) (qs : List Queued) → Fine p → Works p s → ops ≡ s.ops.items → live ≡ s.live.items → qs ≡ s.queues.items → CountsFit p s.gate ops live qs
+fits-at p s ops live qs f w a b e = counts-at p s.gate s.gate s.ops.items ops s.live.items live s.queues.items qs s.flight s.steps w.0 f w.1.shows refl a b e
 
 pub count-at : (p : Plan) (gate gate' : Gated) (ops ops' : List OpState) (live live' : List ℕ) (qs qs' : List Queued) (flight : Flights) (steps : ℕ) (v : View) (n : ℕ) → Shows p gate ops live qs flight steps v.queues v → gate' ≡ gate → ops' ≡ ops → live' ≡ live → qs' ≡ qs →
     n ≡ length (choices p gate' ops' live' qs' flight.commands) → n ≡ length (enabled p v)

@@ -70,7 +70,7 @@ fn can_do<P: Requests>(
         // (what rules most ops out is looked at first)
         OpStep::Ending => state.left == 0 && is_admitted(gate, op),
         OpStep::Admission => gate.may_admit(op + 1),
-        OpStep::Cutting => state.cut < plan.count(op) && is_admitted(gate, op),
+        OpStep::Cutting => state.cut < plan.io(op).count && is_admitted(gate, op),
     }
 }
 

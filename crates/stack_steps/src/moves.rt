@@ -48,7 +48,7 @@ pub fn enter_op<P: Requests>(plan: &P, gate: &mut Gate, live: &mut Live, q: usiz
 {
     let op = live.at(q);
     gate.admit(op + 1);
-    if plan.count(op) == 0 {
+    if plan.io(op).count == 0 {
         end_op(gate, live, q);
     }
 }

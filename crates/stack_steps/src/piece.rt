@@ -10,11 +10,13 @@ use merge_queue::Limits;
 
 fn fits_in<P: Requests>(plan: &P, lim: &Limits, op: u32, k: u32, n: u32) -> bool
     requires limits { lim.now ≡ (P.plan plan.now).limits }
+    requires op { op < length (P.plan plan.now).requests }
     requires some { 1 ≤ n }
     requires within { k + n ≤ (request_at (P.plan plan.now) op).count }
     ensures { result ≡ fits (P.plan plan.now) op k n }
 {
-    plan.segs(op, k, n) <= lim.max_segs && plan.pi_segs(op, k, n) <= lim.max_pi_segs
+    let io = plan.io(op);
+    io.data_segs(k, n) <= lim.max_segs && io.tuple_segs(k, n) <= lim.max_pi_segs
 }
 
 fn smaller(run: u64, most: u32) -> u32
@@ -30,7 +32,7 @@ fn longest_piece<P: Requests>(plan: &P, lim: &Limits, op: u32, k: u32) -> u32
     requires more { k < (request_at (P.plan plan.now) op).count }
     ensures { result ≡ longest (P.plan plan.now) op k }
 {
-    let left = plan.count(op) - k;
+    let left = plan.io(op).count - k;
     let site = plan.site(op, k);
     left.min(smaller(site.run, lim.max_blocks))
 }
@@ -72,14 +74,5 @@ pub fn next_piece<P: Requests>(plan: &P, op: u32, k: u32, cut: u32) -> Bio
     let most = greatest_of(plan, op, k);
     let n = cut_down(cut, most);
     let site = plan.site(op, k);
-    Bio {
-        op: op + 1,
-        k,
-        count: n,
-        dev: site.dev,
-        lba: site.lba,
-        dir: plan.dir(op),
-        segs: plan.segs(op, k, n),
-        pi_segs: plan.pi_segs(op, k, n),
-    }
+    Bio::of(plan.io(op), op + 1, k, n, site.dev, site.lba)
 }

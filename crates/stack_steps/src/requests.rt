@@ -1,10 +1,11 @@
 //! What the steps are told of the requests.
 
 ghost use Rattle.std.specs.Prelude.{◌≡◌, ◌<◌, ◌≤◌, ◌+◌, ◌^◌, ℕ, length};
+ghost use Rattle.bio_core.specs.Bios.{HasTuplesFor, data_segs, tuple_segs};
 ghost use Rattle.stack_view.specs.Plan.{Plan, Place, request_at};
 ghost use Rattle.stack_steps.specs.Fine.{Fine};
 
-use bio_core::Dir;
+use bio_core::Io;
 use merge_queue::Limits;
 
 /// Where a block lies.
@@ -35,15 +36,14 @@ pub trait Requests {
     fn limits(&self) -> Limits
         ensures { result ≡ (plan self.now).limits };
 
-    /// How many blocks an op has.
-    fn count(&self, op: u32) -> u32
+    /// The request that an op is. A payload of it has as many tuples as it has blocks.
+    fn io(&self, op: u32) -> &Io
         requires { op < length (plan self.now).requests }
-        ensures { result ≡ (request_at (plan self.now) op).count };
-
-    /// Which way its data goes.
-    fn dir(&self, op: u32) -> Dir
-        requires { op < length (plan self.now).requests }
-        ensures { result ≡ (request_at (plan self.now) op).dir };
+        ensures dir { result.now.dir ≡ (request_at (plan self.now) op).dir }
+        ensures count { result.now.count ≡ (request_at (plan self.now) op).count }
+        ensures tuples { HasTuplesFor result.now.pi result.now.count }
+        ensures segs { (k n : ℕ) → data_segs result.now k n ≡ (plan self.now).segs op k n }
+        ensures pi_segs { (k n : ℕ) → tuple_segs result.now.pi k n ≡ (plan self.now).pi_segs op k n };
 
     /// Where block `k` of an op lies.
     fn site(&self, op: u32, k: u32) -> Site
@@ -51,18 +51,6 @@ pub trait Requests {
         ensures dev { result.dev ≡ ((plan self.now).place ((request_at (plan self.now) op).first + k)).dev }
         ensures lba { result.lba ≡ ((plan self.now).place ((request_at (plan self.now) op).first + k)).lba }
         ensures run { result.run ≡ (plan self.now).run_from ((request_at (plan self.now) op).first + k) };
-
-    /// How many segments hold a byte of the data of `n` blocks of an op, from block `k` on.
-    fn segs(&self, op: u32, k: u32, n: u32) -> u32
-        requires some { 1 ≤ n }
-        requires within { k + n ≤ (request_at (plan self.now) op).count }
-        ensures { result ≡ (plan self.now).segs op k n };
-
-    /// How many segments hold a byte of their tuples.
-    fn pi_segs(&self, op: u32, k: u32, n: u32) -> u32
-        requires some { 1 ≤ n }
-        requires within { k + n ≤ (request_at (plan self.now) op).count }
-        ensures { result ≡ (plan self.now).pi_segs op k n };
 
     ghost fine: { (s : Self) → Fine (plan s) };
 }

@@ -1,6 +1,6 @@
 //! What goes back of a command.
 
-ghost use Rattle.std.specs.Prelude.{◌≡◌, ◌<◌, ◌≤◌, ◌+◌, ◌^◌, not, ◌∷◌, ◌++◌, length, drop};
+ghost use Rattle.std.specs.Prelude.{◌≡◌, ◌<◌, ◌≤◌, ◌+◌, ◌^◌, ◌↔◌, not, ◌∷◌, ◌++◌, IsNone, IfSome, length, drop};
 ghost use Rattle.std.specs.List.{All};
 ghost use Rattle.std.specs.Vec.{vec_capacity};
 ghost use Rattle.stack_view.specs.Blocks.{place_of, is_settled};
@@ -21,37 +21,29 @@ pub fn place_of_op(number: u32) -> u32
     if number == 0 { 0 } else { number - 1 }
 }
 
-/// Some blocks of a bio.
-fn part_of<P: Requests>(plan: &P, b: &Bio, at: u32, n: u32) -> Bio
+/// The first n blocks of a bio.
+fn front_of<P: Requests>(plan: &P, b: &Bio, n: u32) -> Bio
     requires some { 1 ≤ n }
-    requires there { at + n ≤ b.now.count }
+    requires there { n ≤ b.now.count }
     requires divides { Divides (P.plan plan.now) b.now }
-    ensures { result ≡ part (P.plan plan.now) b.now at n }
+    ensures { result ≡ part (P.plan plan.now) b.now 0 n }
 {
-    let op = place_of_op(b.op);
-    let k = b.k + at;
-    Bio {
-        op: b.op,
-        k,
-        count: n,
-        dev: b.dev,
-        lba: b.lba + at as u64,
-        dir: b.dir,
-        segs: plan.segs(op, k, n),
-        pi_segs: plan.pi_segs(op, k, n),
-    }
+    b.part(plan.io(place_of_op(b.op)), 0, n)
 }
 
-/// What is behind a place of a bio.
-fn last_of<P: Requests>(plan: &P, b: &Bio, skip: u32) -> Bio
-    requires there { skip < b.now.count }
+/// What is left of a bio behind its first blocks. `None` where that is no block.
+fn rest_of<P: Requests>(plan: &P, b: &Bio, skip: u32) -> Option<Bio>
     requires divides { Divides (P.plan plan.now) b.now }
-    ensures { result ≡ last_part (P.plan plan.now) skip b.now }
+    ensures none { IsNone result ↔ (b.now.count ≤ skip) }
+    ensures rest { IfSome result (λ rest. rest ≡ last_part (P.plan plan.now) skip b.now) }
 {
-    if skip == 0 {
-        return *b;
+    if b.count <= skip {
+        return None;
     }
-    part_of(plan, b, skip, b.count - skip)
+    if skip == 0 {
+        return Some(*b);
+    }
+    b.complete(plan.io(place_of_op(b.op)), skip)
 }
 
 /// Adds the first n blocks of these bios.
@@ -68,28 +60,26 @@ fn front_into<P: Requests>(plan: &P, n: u32, bios: &[Bio], into: &mut Vec<Bio>)
             left -= b.count;
         } else {
             if left > 0 {
-                into.push_reserved(part_of(plan, b, 0, left));
+                into.push_reserved(front_of(plan, b, left));
             }
             return;
         }
     }
 }
 
-/// Adds the first n blocks behind a place in the first of these bios.
-fn first_into<P: Requests>(plan: &P, skip: u32, n: u32, b: &Bio, more: &[Bio], into: &mut Vec<Bio>)
-    requires there { skip < b.now.count }
-    requires divides { Divides (P.plan plan.now) b.now }
+/// Adds the first n blocks of a bio and those behind it.
+fn first_into<P: Requests>(plan: &P, n: u32, first: Bio, more: &[Bio], into: &mut Vec<Bio>)
+    requires divides { Divides (P.plan plan.now) first }
     requires divide { All (Divides (P.plan plan.now)) more.now }
     requires room { length into.old.items + (1 + length more.now) ≤ vec_capacity into.old }
-    ensures items { into.new.items ≡ into.old.items ++ front (P.plan plan.now) n (behind (P.plan plan.now) skip (b.now ∷ more.now)) }
+    ensures items { into.new.items ≡ into.old.items ++ front (P.plan plan.now) n (first ∷ more.now) }
     ensures capacity { vec_capacity into.new ≡ vec_capacity into.old }
 {
-    let first = last_of(plan, b, skip);
     if first.count <= n {
         into.push_reserved(first);
         front_into(plan, n - first.count, more, into);
     } else if n > 0 {
-        into.push_reserved(part_of(plan, &first, 0, n));
+        into.push_reserved(front_of(plan, &first, n));
     }
 }
 
@@ -103,8 +93,8 @@ fn rest_into<P: Requests>(plan: &P, at: u32, n: u32, bios: &[Bio], into: &mut Ve
     let mut skip = at;
     for i in 0..bios.len() {
         let b = bios[i];
-        if skip < b.count {
-            first_into(plan, skip, n, &b, &bios[i + 1..], into);
+        if let Some(first) = rest_of(plan, &b, skip) {
+            first_into(plan, n, first, &bios[i + 1..], into);
             return;
         }
         skip -= b.count;

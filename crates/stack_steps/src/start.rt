@@ -27,7 +27,7 @@ fn new_ops<P: Requests>(alloc: Global, plan: &P) -> Result<Vec<OpState>, AllocEr
     for i in 0..n {
         ops.push_reserved(OpState {
             cut: 0,
-            left: plan.count(i),
+            left: plan.io(i).count,
         });
     }
     Ok(ops)
@@ -49,7 +49,7 @@ fn count_blocks<P: Requests>(plan: &P) -> u32
 {
     let mut count = 0u32;
     for i in 0..plan.ops() {
-        count += plan.count(i);
+        count += plan.io(i).count;
     }
     count
 }

@@ -1,6 +1,7 @@
 -- The pieces that a request is cut into.
 use Rattle.std.specs.Prelude.{ℕ, zero, suc, ◌+◌, ◌-◌, ◌%◌, min, Bool, ◌&&◌, nat_le, if◌then◌else◌}
 use Rattle.bio_core.specs.declared.bio.Bio.{Bio}
+use Rattle.bio_core.specs.Bios.{bio_with, part_with}
 use Rattle.stack_view.specs.Blocks.{place_of}
 use Rattle.stack_view.specs.Plan.{Plan, request_at}
 
@@ -25,24 +26,11 @@ abbrev pub cut_to : ℕ → ℕ → ℕ
 cut_to zero n = n
 cut_to (suc c) n = 1 + c % n
 
+-- the piece of n blocks of op i, from block k on
 abbrev pub bio_of : Plan → ℕ → ℕ → ℕ → Bio
-bio_of p i k n = record {
-  op = suc i;
-  k = k;
-  count = n;
-  dev = (p.place ((request_at p i).first + k)).dev;
-  lba = (p.place ((request_at p i).first + k)).lba;
-  dir = (request_at p i).dir;
-  segs = p.segs i k n;
-  pi_segs = p.pi_segs i k n;
-}
+bio_of p i k n =
+    bio_with (p.segs i) (p.pi_segs i) (request_at p i).dir (suc i) k n (p.place ((request_at p i).first + k)).dev (p.place ((request_at p i).first + k)).lba
 
 -- n blocks of a bio, from its block at on
 abbrev pub part : Plan → Bio → ℕ → ℕ → Bio
-part p b at n = record b {
-  k = b.k + at;
-  count = n;
-  lba = b.lba + at;
-  segs = p.segs (place_of b.op) (b.k + at) n;
-  pi_segs = p.pi_segs (place_of b.op) (b.k + at) n;
-}
+part p b at n = part_with (p.segs (place_of b.op)) (p.pi_segs (place_of b.op)) b at n

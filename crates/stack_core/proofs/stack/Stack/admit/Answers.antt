@@ -37,12 +37,12 @@ io-requires-then-io-gt0 g c =
 pub make_tuples-requires-clause-whole : goal.make_tuples-requires-clause-whole
 make_tuples-requires-clause-whole g c =
     let s = c.args.self.now.sheet in
-    rw c.io-then-io-gt0.ensures (c.requires.stands.stack.whole c.admit-op.result (op-enters s.ops s.shifted.items s.ios.items s.table s.limits s.devices c.args.self.now.machine c.args.q c.admit-op.result s.right.fine c.requires.ready c.admit-op.ensures.op))
+    rw c.request-then-request-gt0.ensures (c.requires.stands.stack.whole c.admit-op.result (op-enters s.ops s.shifted.items s.ios.items s.table s.limits s.devices c.args.self.now.machine c.args.q c.admit-op.result s.right.fine c.requires.ready c.admit-op.ensures.op))
 
 pub make_tuples-requires-clause-some : goal.make_tuples-requires-clause-some
 make_tuples-requires-clause-some g c =
-    let e = c.io.ensures in
-    let f = c.io-then-io-gt0.ensures in
+    let e = c.request.ensures in
+    let f = c.request-then-request-gt0.ensures in
     rw f (rw e at c.if-io-gt0.true)
 
 pub take_room-room-requires : goal.take_room-room-requires
@@ -99,8 +99,8 @@ returns-clause-stack g c =
 pub returns-then-io-gt0-clause-walks : goal.returns-then-io-gt0-clause-walks
 returns-then-io-gt0-clause-walks g c = λ ch.
     (let s = c.args.self.now in
-    let some = subst (λ (io : Io). 0 < io.count) c.io.ensures c.if-io-gt0.true in
-    let made = subst (λ (io : Io). WriteMade io.dir io.pi s.adapter.kind s.host io.body s.pool c.make_tuples.new.pool) c.io-then-io-gt0.ensures c.make_tuples.ensures.made in
+    let some = subst (λ (io : Io). 0 < io.count) c.request.ensures c.if-io-gt0.true in
+    let made = subst (λ (io : Io). WriteMade io.dir io.pi s.adapter.kind s.host io.body s.pool c.make_tuples.new.pool) c.request-then-request-gt0.ensures c.make_tuples.ensures.made in
     record {
       op = Wait;
       reply = Silent;
@@ -116,7 +116,7 @@ returns-clause-walks g c = λ ch.
     (let s = c.args.self.now in
     let i = c.admit-op.result in
     let d = data_of s in
-    let none = ap (λ (io : Io). io.count) (sym c.io.ensures) in
+    let none = ap (λ (io : Io). io.count) (sym c.request.ensures) in
     let empty : (io_at s.sheet.ios.items i).count ≡ 0 = omega (arith, none, c.if-io-gt0.false) in
     let done = subst (λ op. OpDone op s.adapter.kind c.take_room-room.result s.pool c.do_op-done.new.pool c.do_op-done.result) c.op.ensures c.do_op-done.ensures.done in
     let done' = subst (λ room. OpDone (op_in s.sheet.ops i) s.adapter.kind room s.pool c.do_op-done.new.pool c.do_op-done.result) c.take_room-room.ensures.room done in

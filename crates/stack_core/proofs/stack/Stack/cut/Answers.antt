@@ -23,12 +23,12 @@ map_piece-requires-clause-whole c =
     let k = piece-is s.ops s.shifted.items s.ios.items s.table s.limits s.devices c.args.self.now.machine c.args.q c.args.size c.cut-bio.result s.right.fine c.requires.ready c.cut-bio.ensures.piece in
     let n = k.numbered in
     let t = k.there in
-    rw c.io.ensures (c.requires.stack.whole (c.cut-bio.result.op - 1) (omega arith))
+    rw c.request.ensures (c.requires.stack.whole (c.cut-bio.result.op - 1) (omega arith))
 
 pub map_piece-requires-clause-within : goal.map_piece-requires-clause-within
 map_piece-requires-clause-within c =
     let s = c.args.self.now.sheet in
-    rw c.io.ensures (piece-is s.ops s.shifted.items s.ios.items s.table s.limits s.devices c.args.self.now.machine c.args.q c.args.size c.cut-bio.result s.right.fine c.requires.ready c.cut-bio.ensures.piece).within
+    rw c.request.ensures (piece-is s.ops s.shifted.items s.ios.items s.table s.limits s.devices c.args.self.now.machine c.args.q c.args.size c.cut-bio.result s.right.fine c.requires.ready c.cut-bio.ensures.piece).within
 
 pub map_piece-requires-clause-ends : goal.map_piece-requires-clause-ends
 map_piece-requires-clause-ends c =
@@ -55,7 +55,7 @@ returns-clause-stays c = record { sheet = refl; adapter = refl; host = refl }
 pub returns-clause-walks : goal.returns-clause-walks
 returns-clause-walks c = λ ch course over n opening es left o w.
     (let s = c.args.self.now in
-    let mapped = subst (λ (io : Io). WriteMapped io.dir io.pi s.host c.cut-bio.result.k c.cut-bio.result.count c.cut-bio.result.lba s.pool c.map_piece.new.pool) c.io.ensures c.map_piece.ensures.mapped in
+    let mapped = subst (λ (io : Io). WriteMapped io.dir io.pi s.host c.cut-bio.result.k c.cut-bio.result.count c.cut-bio.result.lba s.pool c.map_piece.new.pool) c.request.ensures c.map_piece.ensures.mapped in
     walk_cuts over n opening es left s c.requires.stack o w _ c.args.q c.args.size c.cut-bio.result c.map_piece.new.pool (record { sheet = refl; adapter = refl; host = refl }) ch c.cut-bio.ensures.step c.cut-bio.ensures.piece mapped refl)
 
 pub returns-clause-settles : goal.returns-clause-settles

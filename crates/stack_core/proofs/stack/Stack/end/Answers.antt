@@ -40,7 +40,7 @@ pub of-fates-requires-clause-within : goal.of-fates-requires-clause-within
 of-fates-requires-clause-within c =
     let s = c.args.self.now.sheet in
     let l = op-ends s.ops s.shifted.items s.ios.items s.table s.limits s.devices c.args.self.now.machine c.args.q c.end-op.result s.right.fine c.requires.ready c.end-op.ensures.op in
-    rw (c.io.ensures) (c.requires.stack.kept.within c.end-op.result l)
+    rw (c.request.ensures) (c.requires.stack.kept.within c.end-op.result l)
 
 pub set_reply-requires : goal.set_reply-requires
 set_reply-requires c =
@@ -71,7 +71,7 @@ returns-clause-walks c = λ ch course over n opening es left o w.
     (let s = c.args.self.now in
     let i = c.end-op.result in
     let d = data_of s in
-    let fates = c.of-fates.ensures.value ∙ ap (λ (io : Io). take io.count (drop (get_or s.kept.starts.items i 0) s.kept.held.items)) c.io.ensures in
+    let fates = c.of-fates.ensures.value ∙ ap (λ (io : Io). take io.count (drop (get_or s.kept.starts.items i 0) s.kept.held.items)) c.request.ensures in
     let reply = c.reply_of.ensures ∙ (ap (λ fs. reply_of fs c.take_room-room.result) fates ∙ ap (reply_of (take (io_at s.sheet.ios.items i).count (drop (get_or s.kept.starts.items i 0) s.kept.held.items))) c.take_room-room.ensures.room) in
     let replies = c.set_reply.ensures ∙ ap (set s.replies.items i) reply in
     walk_ends over n opening es left s c.requires.stack o w _ c.args.q i (record { sheet = refl; adapter = refl; host = refl }) ch (c.end-op.ensures.step 0) c.end-op.ensures.op

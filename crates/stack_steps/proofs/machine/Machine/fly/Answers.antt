@@ -1,18 +1,29 @@
-use Rattle.std.proofs.Common.{refl, ◌+◌}
+-- What is asked of the commands in flight before one is added.
+use Rattle.std.proofs.Common.{ℕ, List, refl, set, ◌+◌}
+use Rattle.bio_core.specs.declared.bio.Bio.{Bio}
+use Rattle.bio_core.specs.declared.fate.Fate.{Fate}
 use Rattle.merge_queue.specs.Groups.{without}
-use Rattle.std.proofs.Common.{set}
+use Rattle.stack_view.specs.Plan.{Plan}
 use Rattle.stack_view.specs.View.{queue_at}
-use Rattle.stack_steps.proofs.Keep.{flight-room, shows-send}
+use Rattle.stack_steps.specs.declared.machine.Machine.{Machine}
+use Rattle.stack_steps.specs.Does.{Sending}
+use Rattle.stack_steps.proofs.Keep.{Room, flight-room, shows-send}
 use Rattle.stack_steps.proofs.machine.Machine.fly.Goals as goal
 
+-- there is room for the group
+room-at : (p : Plan) (s : Machine) (d : ℕ) (group : List Bio) (fates : List Fate) → Sending p s d group fates → Room p s.flight group fates
+room-at p s d group fates r =
+    flight-room p s.gate s.ops.items s.live.items s.queues.items s.flight s.steps (set r.view.queues d (without r.place (queue_at r.view d))) r.view d r.place group fates
+    r.taken.holds.shows r.taken.can r.group_is r.settles
+
 pub push-requires-clause-commands : goal.push-requires-clause-commands
-push-requires-clause-commands g c = (flight-room (g.P.Requests.plan c.args._plan.now) c.args.self.now.gate c.args.self.now.ops.items c.args.self.now.live.items c.args.self.now.queues.items c.args.self.now.flight c.args.self.now.steps (set c.requires.view.queues c.args.d (without c.requires.place (queue_at c.requires.view c.args.d))) c.requires.view c.args.d c.requires.place c.args.group.now c.args.fates.now c.requires.taken.holds.shows c.requires.taken.can c.requires.group_is c.requires.settles).commands
+push-requires-clause-commands g c = (room-at _ _ _ _ _ c.requires).commands
 
 pub push-requires-clause-bios : goal.push-requires-clause-bios
-push-requires-clause-bios g c = (flight-room (g.P.Requests.plan c.args._plan.now) c.args.self.now.gate c.args.self.now.ops.items c.args.self.now.live.items c.args.self.now.queues.items c.args.self.now.flight c.args.self.now.steps (set c.requires.view.queues c.args.d (without c.requires.place (queue_at c.requires.view c.args.d))) c.requires.view c.args.d c.requires.place c.args.group.now c.args.fates.now c.requires.taken.holds.shows c.requires.taken.can c.requires.group_is c.requires.settles).bios
+push-requires-clause-bios g c = (room-at _ _ _ _ _ c.requires).bios
 
 pub push-requires-clause-fates : goal.push-requires-clause-fates
-push-requires-clause-fates g c = (flight-room (g.P.Requests.plan c.args._plan.now) c.args.self.now.gate c.args.self.now.ops.items c.args.self.now.live.items c.args.self.now.queues.items c.args.self.now.flight c.args.self.now.steps (set c.requires.view.queues c.args.d (without c.requires.place (queue_at c.requires.view c.args.d))) c.requires.view c.args.d c.requires.place c.args.group.now c.args.fates.now c.requires.taken.holds.shows c.requires.taken.can c.requires.group_is c.requires.settles).fates
+push-requires-clause-fates g c = (room-at _ _ _ _ _ c.requires).fates
 
 pub returns : goal.returns
 returns g c = λ v i cut t e a. record {
