@@ -19,12 +19,14 @@ use Rattle.fault_schedule.specs.declared.fault.FaultLine.{FaultLine}
 use Rattle.fault_schedule.proofs.Xored.{length-xored}
 use Rattle.ref_remap.specs.Remapped.{remapped_bytes}
 use Rattle.bio_core.specs.declared.fate.Why.{Why}
+use Rattle.bio_core.specs.declared.request.Dir.TheVariants.{Read, Write}
 use Rattle.target_answer.specs.Passing.{then_crossed, unless, with_own_tuple}
 use Rattle.block_path.specs.declared.route.Route.{Route}
 use Rattle.block_path.specs.Moves.{Fills}
 use Rattle.block_path.specs.Routes.{converted, host_size, host_type, is_crc, passes_tuples, wire_size, with_guard}
-use Rattle.block_path.specs.WayIn.{adapter_finds_in, at_host, from_device, from_wire, mapped_back, received, received_by}
-use Rattle.block_path.specs.WayOut.{adapter_finds_out, mapped_out, sent, sent_by, to_wire}
+use Rattle.block_path.specs.Operations.{handed_on, operation}
+use Rattle.block_path.specs.WayIn.{adapter_finds_in, at_host, from_device, from_wire, mapped_back, received}
+use Rattle.block_path.specs.WayOut.{adapter_finds_out, mapped_out, sent, to_wire}
 
 pub altered_length : (faults : List FaultLine) (at : Crossing) (label : Label) (frame : List ℕ) → length (altered faults at label frame) ≡ length frame
 altered_length faults at label frame = length-xored (named faults at label) 0 frame
@@ -63,7 +65,7 @@ is_protected false none h = absurd (cc)
 
 sent_length : (r : Route) (frame : List ℕ) → length frame ≡ host_size r → length (sent r frame) ≡ wire_size r
 sent_length r frame = by r.mode.dix (passes_tuples r) refl where
-  by : (d p : Bool) → passes_tuples r ≡ p → length frame ≡ (if d then r.size + 8 else r.size) → length (sent_by r d p frame) ≡ (if p then r.size + 8 else r.size)
+  by : (d p : Bool) → passes_tuples r ≡ p → length frame ≡ (if d then r.size + 8 else r.size) → length (handed_on (operation d p Write) r frame) ≡ (if p then r.size + 8 else r.size)
   by true true h l = converted_length r Crc frame l
   by true false h l = front_length r.size frame l
   by false true h l = made_length r.ty r.lba r.size frame (is_protected r.mode.dif (is_zero r.ty) h) l
@@ -71,7 +73,7 @@ sent_length r frame = by r.mode.dix (passes_tuples r) refl where
 
 received_length : (r : Route) (frame : List ℕ) → length frame ≡ wire_size r → length (received r frame) ≡ host_size r
 received_length r frame = by r.mode.dix (passes_tuples r) where
-  by : (d p : Bool) → length frame ≡ (if p then r.size + 8 else r.size) → length (received_by r d p frame) ≡ (if d then r.size + 8 else r.size)
+  by : (d p : Bool) → length frame ≡ (if p then r.size + 8 else r.size) → length (handed_on (operation d p Read) r frame) ≡ (if d then r.size + 8 else r.size)
   by true true l = converted_length r Ip frame l
   by true false l = eight_more frame _ r.size l refl
   by false true l = front_length r.size frame l

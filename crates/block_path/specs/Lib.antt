@@ -1,6 +1,7 @@
 pub mod Acts
 pub mod Blocks
 pub mod Moves
+pub mod Operations
 pub mod Routes
 pub mod Senses
 pub mod Serial

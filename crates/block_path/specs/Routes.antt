@@ -18,6 +18,7 @@ use Rattle.bio_core.specs.declared.fate.Why.TheVariants.{Target}
 use Rattle.target_answer.specs.Frames.{data_of, tuple_of}
 use Rattle.target_answer.specs.Passing.{from_medium, to_medium}
 use Rattle.target_answer.specs.declared.passage.Passage.{Passage}
+use Rattle.block_path.specs.declared.mode.Mode.{Mode}
 use Rattle.block_path.specs.declared.route.Route.{Route}
 use Rattle.pi_tuple.specs.declared.TheConstants.{TUPLE}
 
@@ -30,13 +31,21 @@ host_type One = One
 host_type Two = Two
 host_type Three = Three
 
--- tuples travel between adapter and target
+-- tuples of units of this type travel between adapter and target
+abbrev pub passes : Mode → PiType → Bool
+passes m ty = m.dif && not (is_zero ty)
+
+-- the protect field of commands to such units
+abbrev pub field_for : Mode → PiType → ℕ
+field_for m ty = if passes m ty then m.protect else 0
+
+-- the block's tuple travels there
 abbrev pub passes_tuples : Route → Bool
-passes_tuples r = r.mode.dif && not (is_zero r.ty)
+passes_tuples r = passes r.mode r.ty
 
 -- the protect field of the block's command
 abbrev pub field : Route → ℕ
-field r = if passes_tuples r then r.mode.protect else 0
+field r = field_for r.mode r.ty
 
 -- the bytes of the frame between host and adapter
 abbrev pub host_size : Route → ℕ

@@ -1,8 +1,7 @@
-use Rattle.std.specs.Prelude.{ℕ, Bool, true, false, if◌then◌else◌, List, ◌++◌, drop, Option, Some, None, Result, Ok, Err}
-use Rattle.pi_guard.specs.Guards.{crc, guard_of}
-use Rattle.pi_guard.specs.declared.GuardKind.TheVariants.{Ip}
+use Rattle.std.specs.Prelude.{ℕ, if◌then◌else◌, List, ◌++◌, drop, Option, Some, None, Result, Ok, Err}
+use Rattle.pi_guard.specs.Guards.{crc}
 use Rattle.pi_tuple.specs.Tuples.{ref_tag}
-use Rattle.pi_tuple.specs.Finds.{finding, own_tag}
+use Rattle.pi_tuple.specs.Finds.{finding}
 use Rattle.pi_tuple.specs.declared.checks.Check.{Check}
 use Rattle.fault_schedule.specs.declared.fault.Crossing.TheVariants.{AdapterToHost}
 use Rattle.fault_schedule.specs.declared.fault.FaultLine.{FaultLine}
@@ -10,12 +9,14 @@ use Rattle.integrity_payload.specs.Payloads.{all_asked}
 use Rattle.integrity_payload.specs.declared.payload.Owner.{Owner}
 use Rattle.integrity_payload.specs.declared.payload.Owner.TheVariants.{Block as OfBlock, App as OfApp}
 use Rattle.ref_remap.specs.Remapped.{remapped_bytes}
+use Rattle.bio_core.specs.declared.request.Dir.TheVariants.{Read}
 use Rattle.bio_core.specs.declared.fate.Why.{Why}
 use Rattle.bio_core.specs.declared.fate.Why.TheVariants.{Adapter, Block, App}
-use Rattle.target_answer.specs.Frames.{data_of, frame_of, tuple_of}
+use Rattle.target_answer.specs.Frames.{data_of, tuple_of}
 use Rattle.target_answer.specs.Passing.{then_crossed, unless}
 use Rattle.block_path.specs.declared.route.Route.{Route}
-use Rattle.block_path.specs.Routes.{Device, converted, host_finding, host_type, passes_tuples}
+use Rattle.block_path.specs.Operations.{handed_on, operation_of}
+use Rattle.block_path.specs.Routes.{Device, host_finding, host_type, passes_tuples}
 
 -- The way in of one block of a read.
 
@@ -24,19 +25,9 @@ abbrev pub adapter_finds_in : Route → List ℕ → Option Check
 adapter_finds_in r frame =
     if passes_tuples r then finding r.ty (all_asked r.mode.app r.mode.mask) (ref_tag r.lba) (crc (data_of r.size frame)) (tuple_of r.size frame) else None
 
--- the data with a tuple for the host
-abbrev pub with_host_tuple : Route → List ℕ → List ℕ
-with_host_tuple r bytes = frame_of bytes (record { guard = guard_of r.mode.kind bytes; app = 0; rtag = own_tag (host_type r.ty) r.lba })
-
--- what it hands on, by whether the host has tuples, and whether the wire has: it passes the tuple, inserts one, strips it, or hands on the data
-abbrev pub received_by : Route → (dix passes : Bool) → List ℕ → List ℕ
-received_by r true true frame = converted r Ip frame
-received_by r true false frame = with_host_tuple r frame
-received_by r false true frame = data_of r.size frame
-received_by r false false frame = frame
-
+-- what it hands on: it passes the tuple, inserts one, strips it, or hands on the data
 abbrev pub received : Route → List ℕ → List ℕ
-received r frame = received_by r r.mode.dix (passes_tuples r) frame
+received r frame = handed_on (operation_of r Read) r frame
 
 -- from the wire to the host: checked, handed on, altered
 unfoldable pub from_wire : List FaultLine → Route → List ℕ → Result (List ℕ) Check
@@ -68,6 +59,7 @@ from_device faults r (Err why) = Stops why
 abbrev pub comes_in : List FaultLine → Device → Route → List ℕ → WayIn
 comes_in faults device r stored = from_device faults r (device.sends r stored)
 
+-- whose finding it is: that of the block layer or of the application, whose tuple it was
 abbrev pub owner_says : Owner → Check → Why
 owner_says OfBlock check = Block check
 owner_says OfApp check = App check

@@ -1,16 +1,17 @@
-use Rattle.std.specs.Prelude.{ℕ, Bool, true, false, if◌then◌else◌, List, ◌++◌, drop, Option, Some, None, Result, Ok, Err}
-use Rattle.pi_guard.specs.declared.GuardKind.TheVariants.{Crc}
+use Rattle.std.specs.Prelude.{ℕ, if◌then◌else◌, List, ◌++◌, drop, Option, Some, None, Result, Ok, Err}
 use Rattle.pi_tuple.specs.declared.checks.Check.{Check}
 use Rattle.fault_schedule.specs.Altered.{altered}
 use Rattle.fault_schedule.specs.declared.fault.Crossing.TheVariants.{HostToAdapter}
 use Rattle.fault_schedule.specs.declared.fault.FaultLine.{FaultLine}
 use Rattle.ref_remap.specs.Remapped.{remapped_bytes}
+use Rattle.bio_core.specs.declared.request.Dir.TheVariants.{Write}
 use Rattle.bio_core.specs.declared.fate.Why.{Why}
 use Rattle.bio_core.specs.declared.fate.Why.TheVariants.{Adapter}
 use Rattle.target_answer.specs.Frames.{data_of}
-use Rattle.target_answer.specs.Passing.{unless, with_own_tuple}
+use Rattle.target_answer.specs.Passing.{unless}
 use Rattle.block_path.specs.declared.route.Route.{Route}
-use Rattle.block_path.specs.Routes.{Device, converted, host_finding, host_type, passes_tuples}
+use Rattle.block_path.specs.Operations.{handed_on, operation_of}
+use Rattle.block_path.specs.Routes.{Device, host_finding, host_type}
 
 -- The way out of one block of a write.
 
@@ -22,15 +23,9 @@ mapped_out r frame = if r.mode.dix then data_of r.size frame ++ remapped_bytes (
 abbrev pub adapter_finds_out : Route → List ℕ → Option Check
 adapter_finds_out r frame = if r.mode.dix then host_finding r r.lba frame else None
 
--- what it sends, by whether the host has tuples, and whether the wire has: it passes the tuple, strips it, inserts one, or sends the data
-abbrev pub sent_by : Route → (dix passes : Bool) → List ℕ → List ℕ
-sent_by r true true frame = converted r Crc frame
-sent_by r true false frame = data_of r.size frame
-sent_by r false true frame = with_own_tuple r.ty r.lba frame
-sent_by r false false frame = frame
-
+-- what it sends: it passes the tuple, strips it, inserts one, or sends the data
 abbrev pub sent : Route → List ℕ → List ℕ
-sent r frame = sent_by r r.mode.dix (passes_tuples r) frame
+sent r frame = handed_on (operation_of r Write) r frame
 
 -- of a frame that came from the host
 abbrev pub checked_out : Route → List ℕ → Result (List ℕ) Check

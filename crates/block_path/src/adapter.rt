@@ -8,15 +8,18 @@ ghost use Rattle.pi_guard.specs.Guards.{guard_of};
 ghost use Rattle.pi_tuple.specs.Tuples.{tuple_bytes};
 ghost use Rattle.fault_schedule.specs.Altered.{altered};
 ghost use Rattle.integrity_payload.specs.Payloads.{all_asked};
-ghost use Rattle.target_answer.specs.Frames.{data_of, tuple_of};
+ghost use Rattle.pi_tuple.specs.Finds.{own_tag};
+ghost use Rattle.target_answer.specs.Frames.{data_of, frame_of, tuple_of};
 ghost use Rattle.target_answer.specs.Passing.{unless};
 ghost use Rattle.block_path.specs.Routes.{converted, field, host_finding, host_size, host_type, passes_tuples, wire_size, with_guard};
-ghost use Rattle.block_path.specs.WayIn.{adapter_finds_in, from_wire, received};
-ghost use Rattle.block_path.specs.WayOut.{adapter_finds_out, sent, to_wire};
+ghost use Rattle.block_path.specs.Operations.{IsHandedOn};
+ghost use Rattle.block_path.specs.WayIn.{adapter_finds_in, from_wire};
+ghost use Rattle.block_path.specs.WayOut.{adapter_finds_out, to_wire};
 
-use crate::Route;
+use crate::{Operation, Route, operation_for};
+use bio_core::Dir;
 use fault_schedule::{Crossing, Tamper};
-use pi_guard::{GuardKind, crc16, ip_sum};
+use pi_guard::{GuardKind, crc16};
 use pi_tuple::{Check, Checks, PiType, TUPLE, Tuple, finds, make, own_tag, ref_tag};
 
 /// The type of the tuples that a host has in memory for a unit of this type: the unit's, and type 1 where the unit
@@ -25,15 +28,6 @@ pub fn host_type(ty: PiType) -> PiType
     ensures { result ≡ host_type ty }
 {
     if ty == PiType::Zero { PiType::One } else { ty }
-}
-
-fn guard(kind: GuardKind, bytes: &[u8]) -> u16
-    ensures { result ≡ guard_of kind bytes.now }
-{
-    match kind {
-        GuardKind::Crc => crc16(bytes),
-        GuardKind::Ip => ip_sum(bytes),
-    }
 }
 
 /// The tuple behind so many bytes of data.
@@ -65,18 +59,14 @@ impl Route {
     pub fn passes_tuples(&self) -> bool
         ensures { result ≡ passes_tuples self.now }
     {
-        self.mode.dif && self.ty != PiType::Zero
+        self.mode.passes_tuples(self.ty)
     }
 
     /// The protect field of the command that carries the block: that of the mode, and 0 where no tuples travel.
     pub fn field(&self) -> u8
         ensures { result ≡ field self.now }
     {
-        if self.passes_tuples() {
-            self.mode.protect
-        } else {
-            0
-        }
+        self.mode.field(self.ty)
     }
 
     fn checks(&self) -> Checks
@@ -91,7 +81,7 @@ impl Route {
     }
 
     /// What is found in a frame in the host's form whose reference tag is to be that of this address or block.
-    pub(crate) fn host_finding(&self, address: u64, frame: &[u8]) -> Option<Check>
+    pub fn host_finding(&self, address: u64, frame: &[u8]) -> Option<Check>
         requires { length frame.now ≡ self.now.size + TUPLE }
         ensures { result ≡ host_finding self.now address frame.now }
     {
@@ -100,7 +90,7 @@ impl Route {
             host_type(self.ty),
             self.checks(),
             ref_tag(address),
-            guard(self.mode.kind, &frame[..size]),
+            self.mode.kind.guard(&frame[..size]),
             tuple_behind(frame, size),
         )
     }
@@ -135,45 +125,42 @@ impl Route {
 }
 
 impl Route {
-    /// What the adapter sends of a frame that it has checked, in place.
-    fn send(&self, frame: &mut [u8])
+    /// Puts a tuple of the adapter's own behind the data: this guard of them, no application tag, and the block's
+    /// address as far as tuples of this type have it.
+    fn insert(&self, kind: GuardKind, ty: PiType, frame: &mut [u8])
         requires { length frame.old ≡ self.now.size + TUPLE }
-        ensures sent { take (wire_size self.now) frame.new ≡ sent self.now (take (host_size self.now) frame.old) }
-        ensures length { length frame.new ≡ length frame.old }
+        ensures { frame.new ≡ frame_of (data_of self.now.size frame.old) (record { guard = guard_of kind (data_of self.now.size frame.old); app = 0; rtag = own_tag ty self.now.lba }) }
     {
-        if !self.passes_tuples() {
-            return;
-        }
         let size = self.size as usize;
-        if !self.mode.dix {
-            let crc = crc16(&frame[..size]);
-            put_tuple(frame, size, make(crc, 0, own_tag(self.ty, self.lba)));
-        } else if self.mode.kind == GuardKind::Ip {
-            let guard = crc16(&frame[..size]);
+        let guard = kind.guard(&frame[..size]);
+        put_tuple(frame, size, make(guard, 0, own_tag(ty, self.lba)));
+    }
+
+    /// Where the host's guard is the checksum, replaces the guard by one of this kind.
+    fn convert(&self, kind: GuardKind, frame: &mut [u8])
+        requires { length frame.old ≡ self.now.size + TUPLE }
+        ensures { frame.new ≡ converted self.now kind frame.old }
+    {
+        if self.mode.kind == GuardKind::Ip {
+            let size = self.size as usize;
+            let guard = kind.guard(&frame[..size]);
             put_guard(frame, size, guard);
         }
     }
 
     /// What the adapter hands on of a frame that it has checked, in place.
-    fn receive(&self, frame: &mut [u8])
+    fn hand_on(&self, dir: Dir, frame: &mut [u8])
         requires { length frame.old ≡ self.now.size + TUPLE }
-        ensures received { take (host_size self.now) frame.new ≡ received self.now (take (wire_size self.now) frame.old) }
+        ensures handed { IsHandedOn self.now dir frame.old frame.new }
         ensures length { length frame.new ≡ length frame.old }
     {
-        if !self.mode.dix {
-            return;
-        }
-        let size = self.size as usize;
-        if !self.passes_tuples() {
-            let guard = guard(self.mode.kind, &frame[..size]);
-            put_tuple(
-                frame,
-                size,
-                make(guard, 0, own_tag(host_type(self.ty), self.lba)),
-            );
-        } else if self.mode.kind == GuardKind::Ip {
-            let sum = ip_sum(&frame[..size]);
-            put_guard(frame, size, sum);
+        match operation_for(self.mode.dix, self.passes_tuples(), dir) {
+            // What is stripped lies behind the bytes that go on.
+            Operation::Normal | Operation::ReadStrip | Operation::WriteStrip => {}
+            Operation::WriteInsert => self.insert(GuardKind::Crc, self.ty, frame),
+            Operation::ReadInsert => self.insert(self.mode.kind, host_type(self.ty), frame),
+            Operation::WritePass => self.convert(GuardKind::Crc, frame),
+            Operation::ReadPass => self.convert(GuardKind::Ip, frame),
         }
     }
 
@@ -206,7 +193,7 @@ impl Route {
         if let Some(check) = self.adapter_finds_out(frame) {
             return Some(check);
         }
-        self.send(frame);
+        self.hand_on(Dir::Write, frame);
         None
     }
 
@@ -224,7 +211,7 @@ impl Route {
         if let Some(check) = self.adapter_finds_in(frame) {
             return Some(check);
         }
-        self.receive(frame);
+        self.hand_on(Dir::Read, frame);
         self.cross(tamper, Crossing::AdapterToHost, frame);
         None
     }

@@ -1,13 +1,14 @@
 //! The ways of one block between the pages of a host and the medium: out through adapter and target, and in again,
-//! as definitions that the layers above share, with plain code for one block.
+//! as definitions that the layers above share, with the adapter's part of it in code.
 #![tactic(auto)]
 
 mod adapter;
 mod laws;
 mod mode;
+mod operation;
+mod owner;
 mod route;
 mod senses;
-mod ways;
 
 pub use adapter::host_type;
 pub use laws::{
@@ -16,5 +17,7 @@ pub use laws::{
     what_is_not_done_may_become_another_act, what_was_done_is_a_walk, what_was_done_is_final,
 };
 pub use mode::Mode;
+pub use operation::{Operation, operation_for};
+pub use owner::owner_says;
 pub use route::Route;
 pub use senses::why_by;

@@ -1,6 +1,10 @@
 //! How host, adapter and target share protection information.
 
+ghost use Rattle.std.specs.Prelude.{◌≡◌};
+ghost use Rattle.block_path.specs.Routes.{field_for, passes};
+
 use pi_guard::GuardKind;
+use pi_tuple::PiType;
 
 /// How the tuples of a run travel.
 ///
@@ -20,4 +24,24 @@ pub struct Mode {
     pub app: u16,
     /// The bits of the application tag that are checked; 0 checks none.
     pub mask: u16,
+}
+
+impl Mode {
+    /// Whether tuples of units of this type travel between adapter and target.
+    pub fn passes_tuples(self, ty: PiType) -> bool
+        ensures { result ≡ passes self ty }
+    {
+        self.dif && ty != PiType::Zero
+    }
+
+    /// The protect field of commands to units of this type: that of the mode, and 0 where no tuples travel.
+    pub fn field(self, ty: PiType) -> u8
+        ensures { result ≡ field_for self ty }
+    {
+        if self.passes_tuples(ty) {
+            self.protect
+        } else {
+            0
+        }
+    }
 }

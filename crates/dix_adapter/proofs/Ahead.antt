@@ -49,6 +49,18 @@ ahead pool (Some pi) count k w h l e =
       next = ap (λ y. Some (past 8 y)) x ∙ ap Some (past-past 8 (8 * k) pi.tuples ∙ ap (λ y. past y pi.tuples) z);
     }
 
+-- past a tuple, and past the data of a block
+pub next-tuple : (pi : Option Payload) (k : ℕ) (w : List Seg) → Some w ≡ tuples_ahead pi k → Some (past 8 w) ≡ tuples_ahead pi (k + 1)
+next-tuple None k w e = absurd (cc)
+next-tuple (Some pi) k w e =
+    let z : 8 * k + 8 ≡ 8 * (k + 1) = omega arith in
+    ap (λ o. Some (past 8 (or_none o))) e ∙ ap Some (past-past 8 (8 * k) pi.tuples ∙ ap (λ y. past y pi.tuples) z)
+
+pub next-data : (io : Io) (k size : ℕ) (w : List Seg) → size ≡ block_size io → w ≡ past (k * block_size io) io.body → past size w ≡ past ((k + 1) * block_size io) io.body
+next-data io k size w s e =
+    let z : k * block_size io + block_size io ≡ (k + 1) * block_size io = omega arith in
+    ap (λ n. past n w) s ∙ ap (past (block_size io)) e ∙ past-past (block_size io) (k * block_size io) io.body ∙ ap (λ y. past y io.body) z
+
 -- a walk before the data of a block
 pub record Body (pool : List (List ℕ)) (io : Io) (k : ℕ) (w : List Seg) : Type 0 where
   pub stands : AllStandIn (length pool) (range_of w 0 (block_size io))

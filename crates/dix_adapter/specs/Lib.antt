@@ -1,4 +1,3 @@
-pub mod Operations
 pub mod Room
 pub mod Groups
 pub mod Outcomes

@@ -248,21 +248,21 @@ fn deliver(
     io: &Io,
     k: u32,
     walks: &mut Walks<'_>,
-    frame: &mut [u8],
+    frame: &[u8],
 )
     requires walks { Walkable pool.old io.now }
     requires once { IsOnce io.now }
     requires before { IsBefore io.now k walks.old }
     requires within { k < io.now.count }
-    requires long { length frame.old ≡ block_size io.now + TUPLE }
-    ensures cells { flat pool.new ≡ land (data_cells io.now k ++ tuple_cells io.now.pi k) (unless found frame.old) (flat pool.old) }
+    requires long { length frame.now ≡ block_size io.now + TUPLE }
+    ensures cells { flat pool.new ≡ land (data_cells io.now k ++ tuple_cells io.now.pi k) (unless found frame.now) (flat pool.old) }
     ensures pages { length pool.new ≡ length pool.old }
     ensures whole { AreWhole pool.new }
     ensures before { IsBefore io.now (k + 1) walks.new }
-    ensures long { length frame.new ≡ length frame.old }
 {
+    let _pages = pool.pages();
     match found {
-        Some(_) => walks.skip(pool, io, k, frame),
+        Some(_) => walks.skip(),
         None => walks.write(pool, io, k, frame),
     }
 }

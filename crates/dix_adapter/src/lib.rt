@@ -4,15 +4,13 @@
 
 mod adapter;
 mod inward;
-mod operation;
 mod outcome;
 mod outward;
 mod scratch;
 mod walks;
 
 pub use adapter::Adapter;
-pub use block_path::Mode;
-pub use operation::{Operation, operation_for};
+pub use block_path::{Mode, Operation, operation_for};
 pub use scratch::Scratch;
 
 /// The most blocks of one command.

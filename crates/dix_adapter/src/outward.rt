@@ -32,7 +32,7 @@ use bio_core::{Bio, Fate, Io, Why};
 use cdb_codec::{Cdb, Dir2, choose};
 use fault_schedule::Label;
 use page_pool::PagePool;
-use pi_tuple::{Check, PiType, TUPLE};
+use pi_tuple::{Check, TUPLE};
 use rig_api::{Outcome, Rig};
 
 impl Adapter {
@@ -182,17 +182,11 @@ impl Adapter {
         requires { size + TUPLE < 2 ^ 32 }
         ensures { result ≡ (if self.now.dif && not (is_zero self.now.ty) then size + TUPLE else size) }
     {
-        if self.passes_tuples() {
+        if self.mode().passes_tuples(self.ty) {
             size + TUPLE
         } else {
             size
         }
-    }
-
-    fn passes_tuples(&self) -> bool
-        ensures { result ≡ (self.now.dif && not (is_zero self.now.ty)) }
-    {
-        self.dif && self.ty != PiType::Zero
     }
 
     /// The command for a group of so many blocks.
@@ -204,11 +198,7 @@ impl Adapter {
         ensures command { result ≡ command_for self.now dir (first_of req.now).lba count }
         ensures fits { Fits result }
     {
-        let protect = if self.passes_tuples() {
-            self.protect
-        } else {
-            0
-        };
+        let protect = self.mode().field(self.ty);
         choose(
             self.ty, dir, req[0].lba, count, protect, self.app, self.mask,
         )

@@ -1,8 +1,10 @@
 //! Along the bytes of a request's blocks.
 
-ghost use Rattle.std.specs.Prelude.{◌≡◌, ◌+◌, ◌*◌, ◌<◌, ◌≤◌, ◌++◌, List, ℕ, length, drop};
+ghost use Rattle.std.specs.Prelude.{◌≡◌, ◌+◌, ◌*◌, ◌<◌, ◌≤◌, ◌++◌, List, Option, ℕ, length, drop};
 ghost use Rattle.page_pool.specs.Cells.{flat, scatter};
 ghost use Rattle.page_pool.specs.Pages.{AreWhole, bytes_in};
+ghost use Rattle.integrity_payload.specs.declared.payload.Payload.{Payload as AnyPayload};
+ghost use Rattle.bio_core.specs.declared.request.Io.{Io as AnyIo};
 ghost use Rattle.bio_core.specs.Bios.{block_size};
 ghost use Rattle.dix_adapter.specs.Groups.{data_cells, tuple_cells};
 ghost use Rattle.dix_adapter.specs.Walking.{IsBefore, IsOnce, MayWalkFrom, TuplesOnce, Walkable, WalksTuples, tuple_or, tuples_ahead};
@@ -11,6 +13,7 @@ ghost use Rattle.pi_tuple.specs.declared.TheConstants.{TUPLE};
 use bio_core::Io;
 use integrity_payload::Payload;
 use page_pool::{PagePool, Walk};
+use pi_tuple::TUPLE;
 
 /// Stands before a block of a request: before its data, and before its tuple where the request has tuples.
 #[derive(Drop)]
@@ -62,17 +65,12 @@ impl<'a> Walks<'a> {
         read_tuple(pool, &io.pi, k, &mut self.tuples, tuple);
     }
 
-    /// Goes past the next block. What lies in its pages comes into the spare frame, where nobody looks at it.
-    pub(crate) fn skip(&mut self, pool: &PagePool, io: &Io, k: u32, spare: &mut [u8])
-        requires walks { Walkable pool.now io.now }
-        requires before { IsBefore io.now k self.old }
-        requires within { k < io.now.count }
-        requires long { length spare.old ≡ block_size io.now + TUPLE }
-        ensures whole { AreWhole pool.now }
-        ensures before { IsBefore io.now (k + 1) self.new }
-        ensures long { length spare.new ≡ length spare.old }
+    /// Goes past the next block.
+    pub(crate) fn skip(&mut self)
+        ensures { (io : AnyIo) (k : ℕ) → IsBefore io k self.old → IsBefore io (k + 1) self.new }
     {
-        self.read(pool, io, k, spare);
+        self.body.advance(self.size);
+        skip_tuple(&mut self.tuples);
     }
 
     /// Writes the frame of the next block: its data, and its tuple where it has one.
@@ -92,6 +90,15 @@ impl<'a> Walks<'a> {
         let _pages = pool.pages();
         pool.write_ahead(&mut self.body, data);
         write_tuple(pool, &io.pi, k, &mut self.tuples, tuple);
+    }
+}
+
+/// Goes past the next tuple, where there are any.
+fn skip_tuple(tuples: &mut Option<Walk<'_>>)
+    ensures { (pi : Option AnyPayload) (k : ℕ) → tuples.old ≡ tuples_ahead pi k → tuples.new ≡ tuples_ahead pi (k + 1) }
+{
+    if let Some(tuples) = tuples {
+        tuples.advance(TUPLE as u32);
     }
 }
 

@@ -12,7 +12,7 @@ use Rattle.integrity_payload.specs.declared.payload.Owner.{Owner}
 use Rattle.bio_core.specs.declared.fate.Why.{Why}
 use Rattle.bio_core.specs.declared.fate.Why.TheVariants as why
 use Rattle.target_answer.specs.Frames.{frame_of}
-use Rattle.block_path.specs.Routes.{host_type, target}
+use Rattle.block_path.specs.Routes.{host_type, passes, target}
 use Rattle.block_path.specs.WayIn.{Delivers, Spoils, Stops, WayIn, way_in}
 use Rattle.block_path.specs.WayOut.{Fails, Refuses, Stores, WayOut, way_out}
 use Rattle.block_path.specs.declared.mode.Mode.{Mode}
@@ -102,9 +102,6 @@ pub record ShowsIn (m : Setting) (at : Crossing) (off : ℕ) (bytes : List ℕ) 
   pub host_shows : is_host at ≡ true → guard_of m.mode.kind (flipped off bytes e.body) ≡ guard_of m.mode.kind e.body → ⊥
 
 -- ---- the finders
-
-abbrev pub passes : Mode → PiType → Bool
-passes mode ty = mode.dif && not (is_zero ty)
 
 -- Of a block from the medium the target checks the guard, but for protect field 011b, under which the adapter does; without a tuple nobody does.
 abbrev pub checks_stored : Mode → PiType → Option Seen

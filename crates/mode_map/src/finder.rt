@@ -46,7 +46,7 @@ fn only_if(holds: bool, seen: Seen) -> Option<Seen>
 fn finder(mode: &Mode, ty: PiType, at: Crossing) -> Option<Seen>
     ensures { result ≡ finder mode.now ty at }
 {
-    let passes = mode.dif && ty != PiType::Zero;
+    let passes = mode.passes_tuples(ty);
     match at {
         Crossing::HostToAdapter => only_if(mode.dix, Seen::Adapter),
         Crossing::AdapterToTarget => {

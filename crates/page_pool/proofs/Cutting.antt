@@ -57,6 +57,23 @@ upto-past_0 most (s ∷ ss) = elim (cases_lt 0 s.len) [
       ∙ (upto-past_0 most ss ∙ sym (upto-none most s ss (omega arith) ∙ ap (λ n. upto n ss) (let e : most - s.len ≡ most = omega arith in e)))
 ]
 
+-- of which nothing can be taken, nothing with bytes is ahead
+pub past-none : (most : ℕ) (ss : List Seg) → upto most ss ≡ [] → past most ss ≡ past 0 ss
+past-none most [] h = refl
+past-none most (s ∷ ss) h = elim (cases_lt 0 (min s.len most)) [
+  | inl l ↦ absurd (some (sym (upto-some most s ss l) ∙ h))
+  | inr l ↦ elim (cases_lt 0 s.len) [
+    | inl k ↦ ap (λ n. past n (s ∷ ss)) (let e : most ≡ 0 = omega arith in e)
+    | inr k ↦
+        let e : most - s.len ≡ most = omega arith in
+        past-over most s ss (omega arith) ∙ (ap (λ n. past n ss) e ∙ (past-none most ss (ap (λ n. upto n ss) (sym e) ∙ (sym (upto-none most s ss (omega arith)) ∙ h))
+        ∙ sym (past-over 0 s ss k ∙ ap (λ n. past n ss) (let z : 0 - s.len ≡ 0 = omega arith in z))))
+  ]
+]
+  where
+    some : {t : Seg} {ts : List Seg} → t ∷ ts ≡ [] → ⊥
+    some e = cc
+
 -- their places
 
 pub places-past : (at : ℕ) (ss : List Seg) → places_in (past at ss) ≡ drop at (places_in ss)

@@ -68,6 +68,16 @@ impl<'a> Walk<'a> {
             len,
         })
     }
+
+    /// Goes past the next bytes, so many of them or all that are ahead, without a look at any.
+    pub fn advance(&mut self, count: u32)
+        ensures { self.new ≡ past count self.old }
+    {
+        let mut left = count;
+        while let Some(s) = self.next_part(left) {
+            left -= s.len;
+        }
+    }
 }
 
 // The segments from the one that holds byte `at` on, and the byte's offset there.

@@ -1,13 +1,11 @@
 //! What is wanted of blocks, and the difference that is found in one.
 
 ghost use Rattle.std.specs.Prelude.{◌≡◌, ◌+◌, ◌^◌, ◌<◌, ◌≤◌, length, take, drop, IfSome};
-ghost use Rattle.pi_guard.specs.Guards.{guard_of};
 ghost use Rattle.pi_tuple.specs.Tuples.{tuple_in};
 ghost use Rattle.pi_blocks.specs.Blocks.{checks_of, compared, number_of, ref_of, told_of};
 ghost use Rattle.pi_tuple.specs.declared.TheConstants.{TUPLE};
 
 use crate::Layout;
-use pi_guard::{GuardKind, crc16, ip_sum};
 use pi_tuple::{Check, Checks, Tuple, finds, ref_tag};
 
 /// What is wanted of the tuples of blocks.
@@ -58,16 +56,6 @@ impl Want {
         ensures { result ≡ ref_of self i }
     {
         ref_tag(u64::from(self.first_ref) + i % 0x1_0000_0000)
-    }
-}
-
-/// The guard of this kind.
-pub(crate) fn guard_of_bytes(kind: GuardKind, bytes: &[u8]) -> u16
-    ensures { result ≡ guard_of kind bytes.now }
-{
-    match kind {
-        GuardKind::Crc => crc16(bytes),
-        GuardKind::Ip => ip_sum(bytes),
     }
 }
 

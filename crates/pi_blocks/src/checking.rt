@@ -4,7 +4,7 @@ ghost use Rattle.std.specs.Prelude.{◌≡◌, ◌+◌, ◌*◌, ◌/◌, ◌≤
 ghost use Rattle.pi_blocks.specs.Blocks.{Checked, in_line, looked};
 ghost use Rattle.pi_blocks.specs.Layouts.{AreBlocks, Refused, is_good, stride_of};
 
-use crate::block::{compare, guard_of_bytes, tuple_at};
+use crate::block::{compare, tuple_at};
 use crate::{Found, Layout, Refusal, Want};
 
 // What block i is found to differ in.
@@ -16,7 +16,7 @@ fn look(blocks: &[u8], layout: Layout, want: Want, i: usize) -> Option<Found>
 {
     let at = i * layout.stride();
     let tuple = at + layout.covered();
-    let guard = guard_of_bytes(layout.kind(), &blocks[at..tuple]);
+    let guard = layout.kind().guard(&blocks[at..tuple]);
     compare(layout, want, i as u64, guard, tuple_at(blocks, tuple))
 }
 

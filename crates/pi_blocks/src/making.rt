@@ -7,7 +7,6 @@ ghost use Rattle.pi_blocks.specs.Layouts.{AreBlocks, Refused, covered_of, is_goo
 ghost use Rattle.pi_blocks.specs.Made.{made_bytes, made_in_line, place_in_line};
 ghost use Rattle.pi_blocks.specs.Puts.{put_at};
 
-use crate::block::guard_of_bytes;
 use crate::{Layout, Refusal};
 use pi_tuple::{TUPLE, Tuple, own_tag};
 
@@ -29,7 +28,7 @@ fn make(blocks: &mut [u8], layout: Layout, i: usize, app: u16, first_ref: u32)
     let at = i * layout.stride();
     let end = at + layout.covered();
     let tuple = Tuple {
-        guard: guard_of_bytes(layout.kind(), &blocks[at..end]),
+        guard: layout.kind().guard(&blocks[at..end]),
         app,
         rtag: own_tag(layout.ty(), u64::from(first_ref) + i as u64),
     };

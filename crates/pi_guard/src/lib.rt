@@ -22,6 +22,18 @@ pub enum GuardKind {
     Ip,
 }
 
+impl GuardKind {
+    /// The guard of this kind of the bytes, of any number.
+    pub fn guard(self, bytes: &[u8]) -> u16
+        ensures { result ≡ guard_of self bytes.now }
+    {
+        match self {
+            GuardKind::Crc => crc16(bytes),
+            GuardKind::Ip => ip_sum(bytes),
+        }
+    }
+}
+
 /// A guard of bytes that come in parts.
 ///
 /// A run stands for a list of bytes: none when it is made, and after each part those and the part's.

@@ -12,6 +12,7 @@ mod stretches;
 mod table;
 mod units;
 mod ways;
+mod whole_way;
 
 use std::io;
 use table::Table;

@@ -5,6 +5,7 @@ ghost use Rattle.std.specs.Prelude.{◌≡◌};
 use crate::faults::faults_of;
 use crate::modes::mode_of;
 use crate::units::type_of;
+use crate::whole_way::{way_in, way_out};
 use bio_core::Why;
 use block_path::{Mode, Route};
 use fault_schedule::Label;
@@ -101,7 +102,7 @@ impl Way {
         let last = (words.small() % 256) as u8;
         let mut frame = frame(last, words.word());
         let tamper = faults_of(alloc, &mut words)?;
-        let why = route(self.ty, self.mode).way_out(&tamper, &mut frame);
+        let why = way_out(&route(self.ty, self.mode), &tamper, &mut frame);
         told(alloc, why, &frame)
     }
 
@@ -111,7 +112,7 @@ impl Way {
         let owner = owner_of(words.word());
         let mut frame = frame(0, words.word());
         let tamper = faults_of(alloc, &mut words)?;
-        let why = route(self.ty, self.mode).way_in(&tamper, owner, &mut frame);
+        let why = way_in(&route(self.ty, self.mode), &tamper, owner, &mut frame);
         told(alloc, why, &frame)
     }
 }

@@ -4,28 +4,22 @@ use Rattle.page_pool.specs.Pages.{AllLieIn}
 use Rattle.page_pool.specs.Places.{Apart, NoneTwice, places_in}
 use Rattle.pi_tuple.specs.declared.checks.Check.{Check}
 use Rattle.integrity_payload.specs.declared.payload.Owner.{Owner}
-use Rattle.integrity_payload.specs.declared.payload.Owner.TheVariants.{Block as OfBlock, App as OfApp}
 use Rattle.integrity_payload.specs.declared.payload.Payload.{Payload}
 use Rattle.integrity_payload.specs.Payloads.{IsPayload}
 use Rattle.bio_core.specs.declared.bio.Bio.{Bio}
 use Rattle.bio_core.specs.declared.fate.Fate.{Fate}
 use Rattle.bio_core.specs.declared.fate.Fate.TheVariants.{Good, Bad}
-use Rattle.bio_core.specs.declared.fate.Why.{Why}
-use Rattle.bio_core.specs.declared.fate.Why.TheVariants.{Block, App}
 use Rattle.bio_core.specs.declared.request.Dir.TheVariants.{Read}
 use Rattle.bio_core.specs.declared.request.Io.{Io}
+use Rattle.block_path.specs.WayIn.{owner_says}
 use Rattle.stack_view.specs.Runs.{blocks_of_requests}
 use Rattle.run_follows.specs.Sheets.{io_at, request_in}
 use Rattle.bio_core.specs.declared.TheConstants.{MOST_BLOCKS}
 
--- what the owner of its tuple says of a block at fault
-abbrev pub found_by : Owner → Check → Why
-found_by OfBlock check = Block check
-found_by OfApp check = App check
-
+-- what becomes of a block by what the owner of its tuple finds
 abbrev pub fate_by : Owner → Option Check → Fate
 fate_by owner None = Good
-fate_by owner (Some check) = Bad (found_by owner check)
+fate_by owner (Some check) = Bad (owner_says owner check)
 
 -- a request's tuples: they lie in the pool, apart from the data, and no byte of them is there twice
 pub record HasTuples (pool : List (List ℕ)) (io : Io) (pi : Payload) : Type 0 where

@@ -22,8 +22,10 @@ use Rattle.target_answer.specs.Frames.{data_of, frame_of, stored_size, tuple_of}
 use Rattle.target_answer.specs.Passing.{accepted, asked_of, found_in, from_medium, released, then_crossed, to_medium, unless, wanted_of, with_own_tuple}
 use Rattle.block_path.specs.declared.route.Route.{Route}
 use Rattle.block_path.specs.Routes.{Device, by_target, converted, host_type, is_crc, passage, passes_tuples, target, wire_lba}
-use Rattle.block_path.specs.WayIn.{Delivers, adapter_finds_in, at_host, delivered_unless, from_device, from_wire, mapped_back, owner_finds, received, received_by, verified, way_in}
-use Rattle.block_path.specs.WayOut.{Fails, Refuses, Stores, WayOut, adapter_finds_out, at_device, from_adapter, mapped_out, sent, sent_by, to_wire, way_out}
+use Rattle.bio_core.specs.declared.request.Dir.TheVariants.{Read, Write}
+use Rattle.block_path.specs.Operations.{handed_on, operation}
+use Rattle.block_path.specs.WayIn.{Delivers, adapter_finds_in, at_host, delivered_unless, from_device, from_wire, mapped_back, owner_finds, received, verified, way_in}
+use Rattle.block_path.specs.WayOut.{Fails, Refuses, Stores, WayOut, adapter_finds_out, at_device, from_adapter, mapped_out, sent, to_wire, way_out}
 use Rattle.block_path.proofs.PathLaws.{never_zero}
 use Rattle.whole_run.specs.Past.{Brought, brought_by}
 use Rattle.whole_run.specs.PlainMap.{all_pass}
@@ -211,7 +213,7 @@ module _ (m' : Setting) (b : Block) (protect : 0 < m'.mode.protect) where
           let z = not_zero dif ty p in
           let c = conversion m' Crc y long in
           let x = converted r Crc y in
-          let sent_is : sent r y ≡ x = ap (λ c. sent_by r true c y) p in
+          let sent_is : sent r y ≡ x = ap (λ c. handed_on (operation true c Write) r y) p in
           let in_frame = subst (λ t. Passes m' t (guard_of kind (data_of n f)) here (out_tuple ty f)) (host_same ty z) h in
           let of_y = subst (Passes m' ty (guard_of kind (data_of n y)) here) (sym (mapped_tuple n f l (host_type ty) b.virt here)) (subst (λ d. Passes m' ty (guard_of kind d) here (out_tuple ty f)) (sym (mapped_body n f l (host_type ty) b.virt here)) in_frame) in
           let good = converted_passes Crc ty (guard_of kind (data_of n y)) (crc (data_of n x)) here y x c of_y (as_crc kind (data_of n y) ∙ ap crc (sym c.body)) in
@@ -223,7 +225,7 @@ module _ (m' : Setting) (b : Block) (protect : 0 < m'.mode.protect) where
           })
       by false p h =
           let x = data_of n y in
-          let sent_is : sent r y ≡ x = ap (λ c. sent_by r true c y) p in
+          let sent_is : sent r y ≡ x = ap (λ c. handed_on (operation true c Write) r y) p in
           let short = length-take-le n y (omega (arith, long)) in
           subst (Goes own true dif ty e) (sym (ap (λ w. at_device w ((target []).stores r w)) sent_is ∙ stores_bare true dif ty x p))
           (made true dif ty x e short (loose p) (mapped_body n f l (host_type ty) b.virt here) (λ k. false≢true (sym p ∙ k)))
@@ -243,10 +245,10 @@ module _ (m' : Setting) (b : Block) (protect : 0 < m'.mode.protect) where
     by : (c : Bool) → (dif && not (is_zero ty)) ≡ c → Goes own false dif ty e (at_device (sent r f) ((target []).stores r (sent r f)))
     by true p =
         let x = with_own_tuple ty here f in
-        let sent_is : sent r f ≡ x = ap (λ c. sent_by r false c f) p in
+        let sent_is : sent r f ≡ x = ap (λ c. handed_on (operation false c Write) r f) p in
         subst (Goes own false dif ty e) (sym (ap (λ w. at_device w ((target []).stores r w)) sent_is ∙ stores_passing false dif ty x p kept.passing)) kept
     by false p =
-        let sent_is : sent r f ≡ f = ap (λ c. sent_by r false c f) p in
+        let sent_is : sent r f ≡ f = ap (λ c. handed_on (operation false c Write) r f) p in
         subst (Goes own false dif ty e) (sym (ap (λ w. at_device w ((target []).stores r w)) sent_is ∙ stores_bare false dif ty f p)) kept
 
   -- what a block of a read comes to: a frame of what was brought
@@ -342,7 +344,7 @@ module _ (m' : Setting) (b : Block) (protect : 0 < m'.mode.protect) where
         record {
           carried = x;
           frame = mapped_back r f;
-          way = comes true dif ty owner x x f (released_passing true dif ty x e p h) (adapter_none true dif ty x (λ _. h.passing z)) (ap (λ c. received_by r true c x) p) (owner_none dif ty f c.size host);
+          way = comes true dif ty owner x x f (released_passing true dif ty x e p h) (adapter_none true dif ty x (λ _. h.passing z)) (ap (λ c. handed_on (operation true c Read) r x) p) (owner_none dif ty f c.size host);
           size = mapped_length n f c.size (host_type ty) here b.virt;
           body = mapped_body n f c.size (host_type ty) here b.virt ∙ c.body ∙ h.body;
           app = λ k. ap (λ (t : Tuple). t.app) (mapped_tuple n f c.size (host_type ty) here b.virt) ∙ ap (λ (t : Tuple). t.app) c.tuple ∙ h.app k;
@@ -360,7 +362,7 @@ module _ (m' : Setting) (b : Block) (protect : 0 < m'.mode.protect) where
         record {
           carried = w;
           frame = mapped_back r f;
-          way = comes true dif ty owner x w f (released_bare true dif ty x e p h) (adapter_none true dif ty w (λ k. absurd (false≢true (sym p ∙ k)))) (ap (λ c. received_by r true c w) p) (owner_none dif ty f size good);
+          way = comes true dif ty owner x w f (released_bare true dif ty x e p h) (adapter_none true dif ty w (λ k. absurd (false≢true (sym p ∙ k)))) (ap (λ c. handed_on (operation true c Read) r w) p) (owner_none dif ty f size good);
           size = mapped_length n f size (host_type ty) here b.virt;
           body = mapped_body n f size (host_type ty) here b.virt ∙ front ∙ h.body;
           app = λ k. absurd (false≢true (sym p ∙ k));
@@ -382,7 +384,7 @@ module _ (m' : Setting) (b : Block) (protect : 0 < m'.mode.protect) where
         record {
           carried = x;
           frame = data_of n x;
-          way = comes false dif ty owner x x (data_of n x) (released_passing false dif ty x e p h) (adapter_none false dif ty x (λ _. h.passing z)) (ap (λ c. received_by r false c x) p) refl;
+          way = comes false dif ty owner x x (data_of n x) (released_passing false dif ty x e p h) (adapter_none false dif ty x (λ _. h.passing z)) (ap (λ c. handed_on (operation false c Read) r x) p) refl;
           size = front_size ty x h.size;
           body = take-take n n x (omega arith) ∙ h.body;
           app = λ k. absurd (false≢true k);
@@ -390,7 +392,7 @@ module _ (m' : Setting) (b : Block) (protect : 0 < m'.mode.protect) where
     by false p = record {
       carried = data_of n x;
       frame = data_of n x;
-      way = comes false dif ty owner x (data_of n x) (data_of n x) (released_bare false dif ty x e p h) (adapter_none false dif ty (data_of n x) (λ k. absurd (false≢true (sym p ∙ k)))) (ap (λ c. received_by r false c (data_of n x)) p) refl;
+      way = comes false dif ty owner x (data_of n x) (data_of n x) (released_bare false dif ty x e p h) (adapter_none false dif ty (data_of n x) (λ k. absurd (false≢true (sym p ∙ k)))) (ap (λ c. handed_on (operation false c Read) r (data_of n x)) p) refl;
       size = front_size ty x h.size;
       body = take-take n n x (omega arith) ∙ h.body;
       app = λ k. absurd (false≢true k);

@@ -17,7 +17,7 @@ use Rattle.pi_tuple.specs.declared.checks.PiType.{PiType}
 use Rattle.pi_tuple.specs.Finds.{finding, own_tag}
 use Rattle.pi_tuple.specs.Tuples.{ref_tag, tuple_bytes, tuple_in}
 use Rattle.integrity_payload.specs.declared.payload.Owner.{Owner}
-use Rattle.integrity_payload.specs.declared.payload.Owner.TheVariants.{Block as OfBlock, App as OfApp}
+use Rattle.integrity_payload.specs.declared.payload.Owner.TheVariants.{Block as OfBlock}
 use Rattle.integrity_payload.specs.declared.payload.Payload.{Payload}
 use Rattle.integrity_payload.specs.Payloads.{all_asked, block_of, tuple_of, tuple_places}
 use Rattle.ref_remap.specs.Remapped.{AreRemapped, all_remapped, remapped_bytes}
@@ -33,12 +33,12 @@ use Rattle.block_path.specs.Blocks.{ActAnswer}
 use Rattle.block_path.specs.Serial.{plain}
 use Rattle.block_path.proofs.InTurn.{made_in_turn, mapped_in_turn}
 use Rattle.block_path.specs.Routes.{host_finding, host_type}
-use Rattle.block_path.specs.WayIn.{Delivers, delivered_unless, mapped_back, owner_finds, owner_says}
+use Rattle.block_path.specs.WayIn.{Delivers, delivered_unless, mapped_back, owner_finds}
 use Rattle.block_path.specs.Moves.{first_why, in_turn, left_by, map_back, on_bytes, settled_by}
 use Rattle.block_path.specs.declared.route.Route.{Route}
 use Rattle.block_path.proofs.Sizes.{tuple_length}
 use Rattle.block_path.proofs.Cells.{distinct, gather_length, gather_past, scatter_past, scatter_twice}
-use Rattle.run_follows.specs.Settling.{fate_by, found_by}
+use Rattle.run_follows.specs.Settling.{fate_by}
 use Rattle.bio_core.specs.declared.request.Dir.TheVariants.{Write}
 use Rattle.stack_core.specs.Done.{MadeBy, WriteMade, WriteMapped}
 use Rattle.run_follows.specs.Settled.{Blanked, Judged, LeftBy, MappedBack, ReadSettled, TupleBlanked, said_by}
@@ -146,10 +146,6 @@ frames-stay old new io pi e w h = record {
   long = h.long;
 }
 
-says : (owner : Owner) (check : Check) → found_by owner check ≡ owner_says owner check
-says OfBlock check = refl
-says OfApp check = refl
-
 -- ---- a block of a read
 
 module _ (old : List (List ℕ)) (io : Io) (pi : Payload) (k : ℕ) (h : HasFrames old io pi) (there : k < io.count) (label : Label) (dev : ℕ) (ty : PiType) (mode : Mode) (lba : ℕ) (dix : mode.dix ≡ true) where
@@ -200,7 +196,7 @@ module _ (old : List (List ℕ)) (io : Io) (pi : Payload) (k : ℕ) (h : HasFram
       let b : Blanked io k mid new = subst (λ x. LeftBy x io k mid new) r l in
       let n = length-frame old io pi k h there in (
         blanked-cells mid io pi k f there new b ∙ ap (scatter to (replicate (block_size io + 8) 0)) m ∙ forget old io pi k h there mapped (long-tuple old io pi k h there (host_type ty) lba (io.first + k)) ∙ ap (λ z. scatter to (replicate z 0) (flat old)) (sym n),
-        ap why_of r ∙ ap (λ w. Some w) (says pi.owner check),
+        ap why_of r,
       )
 
   settled-good : (mid new : List (List ℕ)) (result : Fate) → AreRemapped old mid pi.tuples (host_type ty) k 1 lba (pi.seed + k) → result ≡ said_by pi mode (host_type ty) mid io k → LeftBy result io k mid new →

@@ -9,27 +9,18 @@ ghost use Rattle.ref_remap.specs.Remapped.{AreRemapped};
 ghost use Rattle.bio_core.specs.Bios.{block_size};
 ghost use Rattle.bio_core.specs.declared.request.Dir.TheVariants.{Read};
 ghost use Rattle.merge_queue.specs.Groups.{size};
-ghost use Rattle.run_follows.specs.Settling.{AreAllWhole, AreFates, HasTuples, IsOf, IsWhole, found_by};
+ghost use Rattle.run_follows.specs.Settling.{AreAllWhole, AreFates, HasTuples, IsOf, IsWhole};
 ghost use Rattle.run_follows.specs.Settled.{AllSettled, BioSettled, Blanked, Judged, LeftBy, MappedBack, OneSettled, ReadSettled, Settled, TupleBlanked, said_by};
 ghost use Rattle.stack_core.specs.Places.{HoldsFates, KeepsPlaces};
 
 use crate::kept::Fates;
-use bio_core::{Bio, Dir, Fate, Io, Why};
+use bio_core::{Bio, Dir, Fate, Io};
+use block_path::owner_says;
 use dix_adapter::Mode;
-use integrity_payload::{Owner, Payload};
+use integrity_payload::Payload;
 use page_pool::{PagePool, SgList};
-use pi_tuple::{Check, PiType, TUPLE};
+use pi_tuple::{PiType, TUPLE};
 use ref_remap::map_back;
-
-/// A block of a read whose tuple its owner found at fault.
-fn found_by(owner: Owner, check: Check) -> Why
-    ensures { result ≡ found_by owner check }
-{
-    match owner {
-        Owner::Block => Why::Block(check),
-        Owner::App => Why::App(check),
-    }
-}
 
 /// What the owner of its tuple says of a block that came.
 fn verified(pool: &PagePool, io: &Io, pi: &Payload, mode: Mode, ty: PiType, k: u32) -> Fate
@@ -39,7 +30,7 @@ fn verified(pool: &PagePool, io: &Io, pi: &Payload, mode: Mode, ty: PiType, k: u
     ensures { result ≡ said_by pi.now mode ty pool.now io.now k }
 {
     match pi.verify(pool, &io.body, mode.kind, ty, k, mode.app, mode.mask) {
-        Some(check) => Fate::Bad(found_by(pi.owner, check)),
+        Some(check) => Fate::Bad(owner_says(pi.owner, check)),
         None => Fate::Good,
     }
 }

@@ -1,7 +1,7 @@
 //! What the adapter does with tuples.
 
 ghost use Rattle.std.specs.Prelude.{◌≡◌};
-ghost use Rattle.dix_adapter.specs.Operations.{operation};
+ghost use Rattle.block_path.specs.Operations.{operation};
 
 use bio_core::Dir;
 
