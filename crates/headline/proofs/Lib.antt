@@ -2,3 +2,4 @@ mod FreshLegs
 mod GotMirrored
 mod Coming
 mod Headlined
+pub mod Before

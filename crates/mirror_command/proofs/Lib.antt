@@ -3,3 +3,4 @@ pub mod Completing
 pub mod Naming
 pub mod Staging
 pub mod Mirroring
+pub mod Before

@@ -7,3 +7,4 @@ pub mod PremiseRows
 pub mod Layers
 pub mod Walked
 pub mod Fallen
+pub mod Before
