@@ -2,4 +2,3 @@ mod FreshLegs
 mod GotMirrored
 mod Coming
 mod Headlined
-pub mod Before

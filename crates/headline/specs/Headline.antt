@@ -175,22 +175,3 @@ pub record Headline (way : Way) (image text : List ℕ) (status : Status) (repor
   -- of `mirror`, over such an image: one good leg for each block is enough
   pub fresh_mirrored : (script : Script) (units : List UnitSpec) → way ≡ Mirror → IsFresh units image → FitsMirror script image text → as_expected (mirror_over script image) 0 ≡ true
       → HasGoodLegs script image → IsMended script image report' image'
-
--- The same as it was told before.
-pub record HeadlineBefore (way : Way) (image text : List ℕ) (status : Status) (report' image' : List ℕ) : Type 0 where
-  pub walked : (script : Script) → way ≡ Run → head_fault (head_of image) ≡ None → Fits script image text
-      → IsWalked script image status report' image'
-  pub plain : (script : Script) → way ≡ Run → head_fault (head_of image) ≡ None → Fits script image text
-      → IsFaultless script image → IsPlain script image report' image'
-  pub found : (script : Script) → way ≡ Run → head_fault (head_of image) ≡ None → Fits script image text
-      → IsFormed script image → IsClean script image → IsFound script image report'
-  pub mirrored : (script : Script) → way ≡ Mirror → head_fault (head_of image) ≡ None → FitsMirror script image text
-      → IsMirrored script image status report' image'
-  pub mended : (script : Script) → way ≡ Mirror → head_fault (head_of image) ≡ None → FitsMirror script image text
-      → HasGoodLegs script image → AreEqualLegs script image → IsMended script image report' image'
-  pub fresh_plain : (script : Script) (units : List UnitSpec) → way ≡ Run → IsFresh units image → Fits script image text
-      → as_expected (setting_over script image) 0 ≡ true → IsStill script → IsPlain script image report' image'
-  pub fresh_found : (script : Script) (units : List UnitSpec) → way ≡ Run → IsFresh units image → Fits script image text
-      → as_expected (setting_over script image) 0 ≡ true → IsFormed script image → IsFound script image report'
-  pub fresh_mended : (script : Script) (units : List UnitSpec) → way ≡ Mirror → IsFresh units image → FitsMirror script image text
-      → as_expected (mirror_over script image) 0 ≡ true → HasGoodLegs script image → IsMended script image report' image'

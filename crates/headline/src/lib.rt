@@ -4,13 +4,11 @@
 
 mod bytes;
 mod formatted;
-mod laws;
 mod report_sink;
 mod schedule;
 mod way;
 
 pub use bytes::{Ran, run_on_bytes};
 pub use formatted::a_formatted_image_tells_its_units;
-pub use laws::the_headline_is_told_as_before;
 pub use schedule::no_schedule_has_a_part;
 pub use way::Way;

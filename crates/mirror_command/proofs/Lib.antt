@@ -3,4 +3,3 @@ pub mod Completing
 pub mod Naming
 pub mod Staging
 pub mod Mirroring
-pub mod Before

@@ -71,25 +71,6 @@ pub record HasMirrored (run : Mirrored) (s : Script) (name : List ℕ) (old new 
   -- Over known blocks, whatever store calls failed, each block that is listed was found bad by the check of a layer, or failed at the medium.
   pub failing : KnownBlocks told new → All NamesFaults run.mirror.replies.items
 
--- The same as it was told before.
-pub record HasMirroredBefore (run : Mirrored) (s : Script) (name : List ℕ) (old new : RigState) : Type 0 where
-  pub devices : List DeviceInfo
-  pub told : RigState
-  pub asked : WasAsked name devices old told
-  pub bound : IsBoundMirror s devices
-  pub begun : Mirror
-  pub starts : IsBegun s devices begun
-  pub ended : Finished s devices (stage_of begun [] told) run.mirror run.repair.repaired run.repair.lost new
-  pub tells : is_some new.image ≡ is_some told.image
-  pub holds : HoldsBlocks told new
-  pub faults : (us : List Stored) → told.units ≡ Some us → All NamesFaults run.mirror.replies.items
-  pub enough : (us : List Stored) → told.units ≡ Some us → NamesNoMedium (ended.stage.runs ++ ended.runs) run.mirror.replies.items → IsOneGoodRun s devices us
-      → (left : List Stored) × ((new.units ≡ Some left) × WasEnough s devices us left run.repair.lost)
-  pub formed : (us : List Stored) → told.units ≡ Some us → NamesNoMedium (ended.stage.runs ++ ended.runs) run.mirror.replies.items → IsFormedMirror s devices us
-      → (left : List Stored) × ((new.units ≡ Some left) × WasEnough s devices us left run.repair.lost)
-  pub still : (us : List Stored) → told.units ≡ Some us → NamesNoMedium (ended.stage.runs ++ ended.runs) run.mirror.replies.items → IsStillMirror s devices us
-      → (left : List Stored) × ((new.units ≡ Some left) × WasEnough s devices us left run.repair.lost)
-
 -- The source was read to its end, and its script was run on a mirror.
 pub record HasMirroredSource (run : Mirrored) (f : Facts) : Type 0 where
   pub script : Script

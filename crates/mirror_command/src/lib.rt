@@ -3,11 +3,9 @@
 #![tactic(auto)]
 
 mod binding;
-mod laws;
 mod mirrored;
 mod serving;
 mod text;
 
-pub use laws::a_mirror_is_told_as_before;
 pub use mirrored::{Mirrored, mirror_source, run_mirror};
 pub use text::print_mirrored;

@@ -7,4 +7,3 @@ pub mod PremiseRows
 pub mod Layers
 pub mod Walked
 pub mod Fallen
-pub mod Before

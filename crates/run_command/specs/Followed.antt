@@ -123,25 +123,3 @@ pub record Followed (script : Script) (table : Table) (devices : List DeviceInfo
   pub intact : (known : KnownBlocks old new) → NoMediumLine replies → OnIntactMedium script table devices old new known pool any_rig.goes.more replies
   -- over known blocks, whatever store calls failed
   pub failing : (known : KnownBlocks old new) → OnFailingMedium script table old new known pool any_rig.goes.more replies
-
--- The same as it was told before.
-pub record FollowedBefore (script : Script) (table : Table) (devices : List DeviceInfo) (old new : RigState) (pool : List (List ℕ)) (replies : List Reply) : Type 0 where
-  pub tells : is_some new.image ≡ is_some old.image
-  pub holds : HoldsBlocks old new
-  pub armed : new.armed ≡ script.faults
-  pub goes : GoesOn old new
-  pub backed : IsBackedBy script table devices goes.more replies
-  pub sends : SendsFor script table goes.more replies
-  pub medium : RoseBy (medium_lines replies) old.faults new.faults
-  pub plain : (us : List Stored) → old.units ≡ Some us → medium_lines replies ≡ 0 → IsPlainRun script table us
-      → (left : List Stored) × (new.units ≡ Some left) × HasPlain script table us left pool replies
-  pub shown : (us : List Stored) → old.units ≡ Some us → medium_lines replies ≡ 0 → IsDetectableRun script table devices us
-      → AllReadRightly (setting_told script table us) script.ops (opening_told script us) replies
-  pub formed : (us : List Stored) → old.units ≡ Some us → medium_lines replies ≡ 0 → IsFormedRun script table devices us
-      → AllReadRightly (setting_told script table us) script.ops (opening_told script us) replies
-  pub walked : (us : List Stored) → old.units ≡ Some us → medium_lines replies ≡ 0 → (left : List Stored) × (new.units ≡ Some left) × HasWalked script table us left pool goes.more replies
-  pub named : (us : List Stored) → old.units ≡ Some us → medium_lines replies ≡ 0 → All NamesLayers replies
-  pub fell : (us : List Stored) → old.units ≡ Some us → (left : List Stored) × (new.units ≡ Some left) × HasFallen script table us left pool goes.more replies
-  pub faults : (us : List Stored) → old.units ≡ Some us → All NamesFaults replies
-  pub fallen : (us : List Stored) → old.units ≡ Some us → IsQuietRun script table us → (left : List Stored) × (new.units ≡ Some left) × HasServed script table us left pool goes.more replies
-  pub answered : (us : List Stored) → old.units ≡ Some us → script.faults ≡ [] → list_any is_overwrite script.ops ≡ false → Calm old.faults new.faults → (left : List Stored) × (new.units ≡ Some left) × AreAnswersTo old.standing us goes.more left

@@ -3,13 +3,11 @@
 #![tactic(auto)]
 
 mod binding;
-mod laws;
 mod scripts;
 mod text;
 mod verdict;
 
 pub use binding::table_of;
-pub use laws::a_run_is_followed_as_before;
 pub use scripts::take_script;
 pub use text::{print_run, print_traced_run};
 pub use verdict::{Finished, is_any_bad, run_script, run_source};

@@ -3,7 +3,6 @@ pub mod Ready
 pub mod Reach
 pub mod Steps
 pub mod Going
-pub mod Before
 pub mod Begins
 pub mod Runs
 pub mod Following

@@ -141,21 +141,3 @@ pub record Ran (s : Script) (t : Table) (devices : List DeviceInfo) (words : Lis
   pub walked : (known : KnownBlocks old new) → NoMediumLine r.replies.items → HasWalked s t known.before known.after r.pool more r.replies.items
   -- Over known blocks, whatever lines name it, so they were but for what the store calls that failed left.
   pub fell : (known : KnownBlocks old new) → HasFallen s t known.before known.after r.pool more r.replies.items
-
--- The same as it was told before.
-pub record RanBefore (s : Script) (t : Table) (devices : List DeviceInfo) (words : List (ℕ × ℕ)) (before after : RigState) (r : Stack) : Type 0 where
-  pub stack : IsStack r
-  pub ops : r.sheet.ops ≡ s.ops
-  pub ios : r.sheet.ios.items ≡ requests_from s.mode.dix s.pages s.ops
-  pub mode : mode_of r.adapter ≡ s.mode
-  pub armed : r.adapter.tamper ≡ s.faults
-  pub ended : IsFinished r
-  pub standing : after.standing ≡ before.standing
-  pub faults : before.faults ≤ after.faults
-  pub more : List LogEntry
-  pub records : after.log ≡ before.log ++ more
-  pub backed : IsBackedBy s t devices more r.replies.items
-  pub sends : SendsFor (by_words s words) t more r.replies.items
-  pub medium : RoseBy (medium_lines r.replies.items) before.faults after.faults
-  pub told : (us : List Stored) → before.units ≡ Some us → medium_lines r.replies.items ≡ 0 → (left : List Stored) × ((after.units ≡ Some left) × HasWalked s t us left r.pool more r.replies.items)
-  pub fallen : (us : List Stored) → before.units ≡ Some us → (left : List Stored) × ((after.units ≡ Some left) × HasFallen s t us left r.pool more r.replies.items)

@@ -4,7 +4,6 @@ ghost use Rattle.std.specs.Prelude.{◌≡◌, ◌*◌, ◌+◌, ℕ, List, Some
 ghost use Rattle.fault_schedule.specs.declared.fault.FaultLine.{FaultLine};
 ghost use Rattle.target_answer.specs.Target.{Stored};
 ghost use Rattle.rig_api.specs.Log.{LogEntry};
-ghost use Rattle.rig_api.specs.State.{RigState};
 ghost use Rattle.rig_api.specs.Telling.{Standing};
 ghost use Rattle.rig_discovery.specs.Discovery.{info_of};
 ghost use Rattle.volume_table.specs.declared.device.DeviceInfo.{DeviceInfo as AnyDevice};
@@ -18,7 +17,7 @@ ghost use Rattle.stack_core.specs.declared.stack.Stack.{Stack as AnyStack};
 ghost use Rattle.stack_core.specs.Stacks.{IsFinished, IsStack};
 ghost use Rattle.stack_core.specs.Mediums.{medium_lines};
 ghost use Rattle.stack_core.specs.Walking.{Walks, WalksFalling};
-ghost use Rattle.script_stack.specs.Followed.{HasFallen, HasWalked, IsBackedBy, Ran, RanBefore, begun_of, failed_in, none_fails, setting_of, unit_of};
+ghost use Rattle.script_stack.specs.Followed.{HasFallen, HasWalked, IsBackedBy, begun_of, failed_in, none_fails, setting_of, unit_of};
 ghost use Rattle.page_pool.specs.declared.TheConstants.{PAGE};
 
 use script_ground::{
@@ -69,9 +68,3 @@ pub fn a_told_script_run_has_fallen()
     a_bound_script_takes_any_block_at_its_target();
     a_finished_stack_has_done_the_falling_walk();
 }
-
-/// A run that is told by known blocks is told as before.
-pub fn a_run_is_told_as_before()
-    ensures { (s : AnyScript) (t : Table) (devices : List AnyDevice) (words : List (ℕ × ℕ)) (old new : RigState) (r : AnyStack)
-        → Ran s t devices words old new r → RanBefore s t devices words old new r }
-{}

@@ -7,8 +7,7 @@ mod start;
 mod whole;
 
 pub use laws::{
-    a_run_is_told_as_before, a_script_run_is_backed, a_told_script_run_has_fallen,
-    a_told_script_run_has_walked,
+    a_script_run_is_backed, a_told_script_run_has_fallen, a_told_script_run_has_walked,
 };
 pub use run::run_all;
 pub use start::{Run, start_script};
