@@ -14,6 +14,7 @@ use Rattle.stack_core.specs.OnRecord.{ListsNone, bad_blocks}
 use Rattle.stack_core.proofs.NoMedium.{none_named}
 use Rattle.stack_view.specs.Runs.{sends_of}
 use Rattle.script_stack.specs.Sends.{IsPlanFor, entries_of}
+use Rattle.script_stack.proofs.Ended.{known_from}
 use Rattle.script_stack.proofs.SendsBy.{recorded_long}
 use Rattle.script_text.specs.Generator.{big}
 use Rattle.script_text.specs.declared.script.Script.{Script}
@@ -43,23 +44,23 @@ looks_count s dev (a ∷ answers) = ap suc (looks_count s (dev + 1) answers)
 pub devices_recorded : (run : Finished) (script : Script) (name : List ℕ) (old new : RigState) → HasRun run script name old new → new.standing.devices ≤ length new.log
 devices_recorded run script name old new r =
     let asked = r.asked.told in
-    let devices : new.standing.devices ≡ asked.between.standing.devices = ap (λ (s : Standing). s.devices) (r.followed.goes.standing ∙ asked.since.standing) in
+    let devices : new.standing.devices ≡ asked.between.standing.devices = ap (λ (s : Standing). s.devices) (r.followed.any_rig.goes.standing ∙ asked.since.standing) in
     let each = asked.found.each in
     let looked = looks_count asked.between.standing 0 asked.found.answers in
     let first = ap length asked.found.log ∙ length-append asked.between.log (looks asked.between.standing 0 asked.found.answers) in
-    let all = ap length r.followed.goes.records ∙ length-append r.told.log r.followed.goes.more in
+    let all = ap length r.followed.any_rig.goes.records ∙ length-append r.told.log r.followed.any_rig.goes.more in
     omega (arith, devices, each, looked, first, all)
 
 -- those behind discovery are the run's
-exchanged : (run : Finished) (script : Script) (name : List ℕ) (old new : RigState) (exchanges : ℕ) (r : HasRun run script name old new) → old.log ≡ [] → new.standing.devices + exchanges ≡ length new.log → exchanges ≡ length r.followed.goes.more
+exchanged : (run : Finished) (script : Script) (name : List ℕ) (old new : RigState) (exchanges : ℕ) (r : HasRun run script name old new) → old.log ≡ [] → new.standing.devices + exchanges ≡ length new.log → exchanges ≡ length r.followed.any_rig.goes.more
 exchanged run script name old new exchanges r none e =
     let asked = r.asked.told in
-    let devices : new.standing.devices ≡ asked.between.standing.devices = ap (λ (s : Standing). s.devices) (r.followed.goes.standing ∙ asked.since.standing) in
+    let devices : new.standing.devices ≡ asked.between.standing.devices = ap (λ (s : Standing). s.devices) (r.followed.any_rig.goes.standing ∙ asked.since.standing) in
     let each = asked.found.each in
     let looked = looks_count asked.between.standing 0 asked.found.answers in
     let opened : length asked.between.log ≡ 0 = ap length (asked.since.kept.log ∙ none) in
     let first = ap length asked.found.log ∙ length-append asked.between.log (looks asked.between.standing 0 asked.found.answers) in
-    let all = ap length r.followed.goes.records ∙ length-append r.told.log r.followed.goes.more in
+    let all = ap length r.followed.any_rig.goes.records ∙ length-append r.told.log r.followed.any_rig.goes.more in
     omega (arith, devices, each, looked, opened, first, all)
 
 -- ---- no block fails
@@ -116,8 +117,8 @@ replies_big n seed run old new image calm r =
     subst (λ t. Followed (big n seed) t r.devices r.told new run.stack.pool run.stack.replies.items) (table_is n seed run old new image r) r.followed in
     let units = told_two (codes "big") r.devices old r.told image r.asked in
     let plain = plain_two n seed (codes "big") r.devices r.table old r.told image r.asked r.made in
-    let none = none_named (medium_lines run.stack.replies.items) r.told.faults new.faults followed.medium (since_told run (big n seed) (codes "big") old new r calm) in
-    (followed.plain big_units units none plain).2.replies_are
+    let none = none_named (medium_lines run.stack.replies.items) r.told.faults new.faults followed.any_rig.medium (since_told run (big n seed) (codes "big") old new r calm) in
+    ((followed.intact (known_from r.told new followed.any_rig.tells_blocks big_units units) none).plain plain).replies_are
 
 pub ran_big : (n seed : ℕ) (b : BigRun) (old new : RigState) (run : Finished) (script : Script) → script ≡ big n seed → old.image ≡ Some (formatted two) → old.log ≡ [] → Calm old.faults new.faults →
     HasRun run script (codes "big") old new → b.counts ≡ counts_with no_ops script.ops → b.bad ≡ min (all_bad run.stack.replies.items) (2 ^ 64 - 1) → b.has_bad ≡ has_bad run.stack.replies.items →
@@ -127,7 +128,7 @@ ran_big n seed b old new run script e image log calm ran counts bad has exchange
     let own = exchanged run (big n seed) (codes "big") old new b.exchanges made log exchanges in
     let replies = replies_big n seed run old new image calm made in
     let quiet : AreQuiet run.stack.replies.items = subst AreQuiet (sym replies) (quiet_two n seed) in
-    let sends = made.followed.sends in
+    let sends = made.followed.any_rig.sends in
     record {
       old = old;
       new = new;
@@ -148,7 +149,7 @@ ran_big n seed b old new run script e image log calm ran counts bad has exchange
       plan = sends.plan;
       is_plan = subst (λ t. IsPlanFor (big n seed) t sends.plan) (table_is n seed run old new image made) sends.is_plan;
       few = (let a = sends.few in omega (arith, own, a));
-      sends_are = own ∙ recorded_long (sends_of sends.plan (entries_of (big n seed).schedule)) made.followed.goes.more (sends.sent (lists_none run.stack.replies.items quiet));
+      sends_are = own ∙ recorded_long (sends_of sends.plan (entries_of (big n seed).schedule)) made.followed.any_rig.goes.more (sends.sent (lists_none run.stack.replies.items quiet));
     }
 
 pub rest_of : (devices records : ℕ) → devices ≤ records → devices + (records - devices) ≡ records

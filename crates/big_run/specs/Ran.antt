@@ -15,7 +15,8 @@ use Rattle.big_run.specs.Plain.{big_replies, big_table, big_unit}
 use Rattle.big_run.specs.declared.running.BigRun.{BigRun}
 use Rattle.rig_api.specs.State.{RigState}
 
--- The script of n ops from a seed was run over the formatted image of the two units, by a rig that tells it and without a fault; and what is said of the run is so. No block fails, and the replies are those of the plain map; so counts, sum and exchanges are known by the two numbers.
+-- The script of n ops from a seed was run over the formatted image of the two units, by a rig that tells it and without a fault; and what is said of the run is so.
+-- No block fails, and the replies are those of the plain map; so counts, sum and exchanges are known by the two numbers.
 pub record RanBig (n seed : ℕ) (b : BigRun) : Type 0 where
   pub old : RigState
   pub new : RigState

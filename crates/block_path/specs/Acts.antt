@@ -5,7 +5,8 @@ use Rattle.range_gate.specs.Cells.{Cells, cells_clash}
 
 -- Acts on cells: what an act reads, computes and writes, and when two conflict.
 
--- Four kinds of cells: the bytes of all pages one after another; the stored blocks of all devices one after another; for each of these places the frames that writes carried there, the oldest first; and for blocks of requests in flight what was found when they were carried.
+-- Four kinds of cells: the bytes of all pages one after another; the stored blocks of all devices one after another; for each of these places the frames that writes carried there, the oldest first;
+-- and for blocks of requests in flight what was found when they were carried.
 pub record State : Type 0 where
   pub bytes : List ℕ
   pub blocks : List (List ℕ)

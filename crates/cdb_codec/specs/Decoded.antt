@@ -80,6 +80,7 @@ abbrev pub if_written : Result Cdb CdbFault → List ℕ → Result Cdb CdbFault
 if_written (Ok c) b = if is_written c b then Ok c else Err Field
 if_written (Err e) b = Err e
 
--- what bytes are read as: the command that is written as these, else the first fault: that there are no bytes, the operation code, the number of bytes, the service action, and last a field with a value that isn't served or a bit outside the fields
+-- what bytes are read as: the command that is written as these, else the first fault: that there are no bytes, the operation code, the number of bytes,
+-- the service action, and last a field with a value that isn't served or a bit outside the fields
 abbrev pub decoded : List ℕ → Result Cdb CdbFault
 decoded b = if_written (told b) b

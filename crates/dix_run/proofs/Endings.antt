@@ -50,8 +50,8 @@ records_since run script name old new r =
     let told = r.asked.told in
     let asks : List LogEntry = looks told.between.standing 0 told.found.answers in
     let asked : r.told.log ≡ old.log ++ asks = told.found.log ∙ ap (λ v. v ++ asks) told.since.kept.log in
-    let more : new.log ≡ old.log ++ (asks ++ r.followed.goes.more) = r.followed.goes.records ∙ ap (λ v. v ++ r.followed.goes.more) asked ∙ append_assoc old.log asks r.followed.goes.more in
-    let rest : drop run.first new.log ≡ asks ++ r.followed.goes.more = ap (λ k. drop k new.log) r.first ∙ ap (drop (length old.log)) more ∙ drop-append_seam old.log (asks ++ r.followed.goes.more) in
+    let more : new.log ≡ old.log ++ (asks ++ r.followed.any_rig.goes.more) = r.followed.any_rig.goes.records ∙ ap (λ v. v ++ r.followed.any_rig.goes.more) asked ∙ append_assoc old.log asks r.followed.any_rig.goes.more in
+    let rest : drop run.first new.log ≡ asks ++ r.followed.any_rig.goes.more = ap (λ k. drop k new.log) r.first ∙ ap (drop (length old.log)) more ∙ drop-append_seam old.log (asks ++ r.followed.any_rig.goes.more) in
     more ∙ ap (λ v. old.log ++ v) (sym rest)
 
 pub traced : (f : Facts) (run : Finished) (old new : Option (List ℕ)) (o n : ℕ) (result : Status) → HasRunSource run (call_of f) →

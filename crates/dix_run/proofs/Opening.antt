@@ -58,7 +58,7 @@ not_run_opens f refusal.Words c = absurd c
 not_run_opens f (refusal.Stopped s) c = refused_opens f s c
 
 run_opens : (f : Facts) (run : Finished) → HasRunSource run (call_of f) → OpensOnce f
-run_opens f run r = opened_on (image_in f.words) f.rig r.ran.asked.told.between r.ran.told f.rig_after r.ran.asked.told.since r.ran.followed.goes.standing
+run_opens f run r = opened_on (image_in f.words) f.rig r.ran.asked.told.between r.ran.told f.rig_after r.ran.asked.told.since r.ran.followed.any_rig.goes.standing
 
 -- a script on a mirror that stopped, maybe in its middle
 midway_opens : (s : Script) (name : List ℕ) (old new : RigState) → StoppedShort name old new ⊎ StoppedMidway s name old new → OpenedOnce name old.standing new.standing

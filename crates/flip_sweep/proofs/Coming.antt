@@ -84,7 +84,7 @@ came script image image' name run old new right long t r =
     (subst (λ (x : List DeviceInfo). Followed script r.table x r.told new run.stack.pool run.stack.replies.items) ds r.followed) in
     let units = units_asked name r.devices old r.told image t.image_is r.asked in
     let w = got_walked script (volume_over script image) (devices_of image) r.told new run.stack.pool run.stack.replies.items (own_units image) followed units t.calm in
-    let a : IsAfter image image' w.0 = stays image image' name r.devices old r.told new t right r.asked r.followed.goes.standing w.0 w.1 in
+    let a : IsAfter image image' w.0 = stays image image' name r.devices old r.told new t right r.asked r.followed.any_rig.goes.standing w.0 w.1 in
     record {
       replies = w.2.replies_are;
       pages = w.2.pages;

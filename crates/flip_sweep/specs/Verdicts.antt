@@ -120,7 +120,8 @@ first_spoilt dev _ _ = None
 
 -- ---- the verdict
 
--- What a run over these units comes to, beside the run as it is: the first block that its report lists and the other doesn't list so; else the first stored block that it leaves at fault and the other doesn't; else the same; else what nobody sees.
+-- What a run over these units comes to, beside the run as it is: the first block that its report lists and the other doesn't list so;
+-- else the first stored block that it leaves at fault and the other doesn't; else the same; else what nobody sees.
 abbrev pub verdict_of : List UnitSpec → (was now : CameTo) → Verdict
 verdict_of us was now =
     unwrap_or (first_found 1 was.replies now.replies)

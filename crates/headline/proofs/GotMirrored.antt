@@ -7,7 +7,7 @@ use Rattle.mirror_volume.specs.Enough.{WasEnough}
 use Rattle.mirror_volume.specs.Premises.{IsOneGoodRun}
 use Rattle.mirror_command.specs.Stages.{HasServed}
 use Rattle.mirror_command.specs.Verdict.{HasMirrored}
-use Rattle.mirror_command.proofs.Mirroring.{calm-names-none}
+use Rattle.mirror_command.proofs.Mirroring.{calm-names-none, known-told}
 use Rattle.mirror_command.specs.declared.mirrored.Mirrored.{Mirrored}
 use Rattle.rig_api.specs.State.{RigState}
 
@@ -20,4 +20,6 @@ got_served run script name old new us m e none = m.ended.told us e (calm-names-n
 
 pub got_enough : (run : Mirrored) (script : Script) (name : List ℕ) (old new : RigState) (us : List Stored) (m : HasMirrored run script name old new) → m.told.units ≡ Some us → new.faults ≡ 0 → IsOneGoodRun script m.devices us
     → (left : List Stored) × ((new.units ≡ Some left) × WasEnough script m.devices us left run.repair.lost)
-got_enough run script name old new us m e none p = m.enough us e (calm-names-none run script name old new m (calm m.told.faults new.faults none)) p
+got_enough run script name old new us m e none p =
+    let known = known-told run script name old new m us e in
+    (known.after, (known.ended, (m.intact known (calm-names-none run script name old new m (calm m.told.faults new.faults none))).enough p))

@@ -86,7 +86,7 @@ ran_over script image text image' f name run called right r =
       made = subst (λ (x : Table). MadeFor x (devices_of image) script.block) t (subst (λ (x : List DeviceInfo). MadeFor r.table x script.block) ds r.made.made);
       followed = subst (λ (x : Table). Followed script x (devices_of image) r.told f.rig_after run.stack.pool run.stack.replies.items) t
           (subst (λ (x : List DeviceInfo). Followed script r.table x r.told f.rig_after run.stack.pool run.stack.replies.items) ds r.followed);
-      after = told_after Run image text image' f name r.devices r.told called right r.asked r.followed.goes.standing;
+      after = told_after Run image text image' f name r.devices r.told called right r.asked r.followed.any_rig.goes.standing;
     }
 
 -- ---- a run
@@ -230,24 +230,28 @@ fresh_legs script image image' units run o fresh app p =
 pub headlined : (way : Way) (image text image' text' : List ℕ) (f : Facts) (o n : ℕ) (result : Status) → IsCalled way image text image' f → (result ≡ status.Memory → ⊥) → (result ≡ status.WriteFault → ⊥) → Carries f (Some []) (Some text') o n result →
     Headline way image text result text' image'
 headlined way image text image' text' f o n result called memory sink carries = record {
-  walked = λ script is right fits. let c = run_at script is right fits in walked script image image' text' c.run result right (over_at script is right fits c) c.status_is c.text_is;
-  plain = λ script is right fits p. let c = run_at script is right fits in plain script image image' text' c.run right called.bytes (over_at script is right fits c) c.text_is p;
-  found = λ script is right fits p clean. let c = run_at script is right fits in found script image image' text' c.run called.bytes (over_at script is right fits c) c.text_is p clean;
-  mirrored = λ script is right fits. let c = mirror_at script is right fits in mirrored script image image' text' c.run result right (mirror_over_at script is right fits c) c.status_is c.text_is;
-  mended = λ script is right fits p legs.
+  ran = λ script is right fits.
+      let c = run_at script is right fits in
+      let over = over_at script is right fits c in
+      record {
+        walked = walked script image image' text' c.run result right over c.status_is c.text_is;
+        plain = plain script image image' text' c.run right called.bytes over c.text_is;
+        found = found script image image' text' c.run called.bytes over c.text_is;
+      };
+  mirrored = λ script is right fits.
       let c = mirror_at script is right fits in
       let over = mirror_over_at script is right fits c in
-      mended script image image' text' c.run result called.bytes over (mirrored script image image' text' c.run result right over c.status_is c.text_is) p legs;
-  fresh_plain = λ script units is fresh fits app p.
+      let done = mirrored script image image' text' c.run result right over c.status_is c.text_is in
+      record { walked = done; mended = mended script image image' text' c.run result called.bytes over done };
+  fresh_ran = λ script units is fresh fits app.
       let right = fresh_head units fresh in
       let c = run_at script is right fits in
       let over = over_at script is right fits c in
-      plain script image image' text' c.run right called.bytes over c.text_is (faultless script image image' units c.run over fresh app p);
-  fresh_found = λ script units is fresh fits app p.
-      let right = fresh_head units fresh in
-      let c = run_at script is right fits in
-      found script image image' text' c.run called.bytes (over_at script is right fits c) c.text_is p (is_clean script image units fresh (ap is_zero p.ty) app);
-  fresh_mended = λ script units is fresh fits app p.
+      record {
+        plain = λ p. plain script image image' text' c.run right called.bytes over c.text_is (faultless script image image' units c.run over fresh app p);
+        found = λ p. found script image image' text' c.run called.bytes over c.text_is p (is_clean script image units fresh (ap is_zero p.ty) app);
+      };
+  fresh_mirrored = λ script units is fresh fits app p.
       let right = fresh_head units fresh in
       let c = mirror_at script is right fits in
       let over = mirror_over_at script is right fits c in

@@ -116,7 +116,8 @@ pub record IsWalked (script : Script) (image : List ℕ) (status : Status) (text
   pub report_is : text ≡ report (replied script image)
   pub image_is : image' ≡ image_with image (left_by script image).blocks
 
--- The report is that of the script's ops done one after another on a plain map of virtual blocks, which knows no adapter, no target and no address. The image has its old header, and behind it the blocks of that map, under their tuples and at their physical addresses.
+-- The report is that of the script's ops done one after another on a plain map of virtual blocks, which knows no adapter, no target and no address.
+-- The image has its old header, and behind it the blocks of that map, under their tuples and at their physical addresses.
 pub record IsPlain (script : Script) (image text image' : List ℕ) : Type 0 where
   pub report_is : text ≡ report (plain_replies (setting_over script image) script.ops (map_over script image))
   pub image_is : image' ≡ image_with image (under (setting_over script image) 0 (plain_map (setting_over script image) script.ops (map_over script image)).map (blocks_in image))
@@ -140,21 +141,38 @@ pub record IsMended (script : Script) (image text image' : List ℕ) : Type 0 wh
 
 -- ---- the headline
 
--- What a call leaves that was handed this image and this text, of which came this status, this report and this image. (1) Whatever the schedule, it is as if the ops were done one after another; without faults, as if on a plain map of virtual blocks. (2) In type 1, with tuples passed all the way and faults of the form, each block of a read is the last accepted write's, or it is listed with the first layer that checks behind the fault. (3) On a mirror one good leg for each block is enough. (4) Over an image that `format` left nothing is asked of its blocks.
+-- What `run` leaves of an image with a right head, by a script that fits it.
+pub record RunLeaves (script : Script) (image : List ℕ) (status : Status) (report' image' : List ℕ) : Type 0 where
+  -- Whatever the schedule, it is as if the ops were done one after another at the target.
+  pub walked : IsWalked script image status report' image'
+  -- Without faults and escapes, over clean blocks, it is as if they were done on a plain map of virtual blocks.
+  pub plain : IsFaultless script image → IsPlain script image report' image'
+  -- In type 1, tuples passed all the way, over clean blocks and with faults whose form shows them:
+  -- each block of each read is the last accepted write's, or it is listed with the first layer that checks behind the fault.
+  pub found : IsFormed script image → IsClean script image → IsFound script image report'
+
+-- What `mirror` leaves of it.
+pub record MirrorLeaves (script : Script) (image : List ℕ) (status : Status) (report' image' : List ℕ) : Type 0 where
+  -- It is as if the ops were done one after another on both legs, and the repair behind them.
+  pub walked : IsMirrored script image status report' image'
+  -- In type 1 under protect field 001b, over clean and equal legs, one good leg for each block is enough.
+  pub mended : HasGoodLegs script image → AreEqualLegs script image → IsMended script image report' image'
+
+-- What they leave of an image that `format` left, where the expected application tag is 0: nothing is asked of its blocks.
+pub record FreshRunLeaves (script : Script) (image report' image' : List ℕ) : Type 0 where
+  -- without faults and escapes
+  pub plain : IsStill script → IsPlain script image report' image'
+  -- in type 1, tuples passed all the way, with faults whose form shows them
+  pub found : IsFormed script image → IsFound script image report'
+
+-- What a call leaves that was handed this image and this text, of which came this status, this report and this image.
 pub record Headline (way : Way) (image text : List ℕ) (status : Status) (report' image' : List ℕ) : Type 0 where
-  pub walked : (script : Script) → way ≡ Run → head_fault (head_of image) ≡ None → Fits script image text
-      → IsWalked script image status report' image'
-  pub plain : (script : Script) → way ≡ Run → head_fault (head_of image) ≡ None → Fits script image text
-      → IsFaultless script image → IsPlain script image report' image'
-  pub found : (script : Script) → way ≡ Run → head_fault (head_of image) ≡ None → Fits script image text
-      → IsFormed script image → IsClean script image → IsFound script image report'
-  pub mirrored : (script : Script) → way ≡ Mirror → head_fault (head_of image) ≡ None → FitsMirror script image text
-      → IsMirrored script image status report' image'
-  pub mended : (script : Script) → way ≡ Mirror → head_fault (head_of image) ≡ None → FitsMirror script image text
-      → HasGoodLegs script image → AreEqualLegs script image → IsMended script image report' image'
-  pub fresh_plain : (script : Script) (units : List UnitSpec) → way ≡ Run → IsFresh units image → Fits script image text
-      → as_expected (setting_over script image) 0 ≡ true → IsStill script → IsPlain script image report' image'
-  pub fresh_found : (script : Script) (units : List UnitSpec) → way ≡ Run → IsFresh units image → Fits script image text
-      → as_expected (setting_over script image) 0 ≡ true → IsFormed script image → IsFound script image report'
-  pub fresh_mended : (script : Script) (units : List UnitSpec) → way ≡ Mirror → IsFresh units image → FitsMirror script image text
-      → as_expected (mirror_over script image) 0 ≡ true → HasGoodLegs script image → IsMended script image report' image'
+  -- of `run`, over an image with a right head
+  pub ran : (script : Script) → way ≡ Run → head_fault (head_of image) ≡ None → Fits script image text → RunLeaves script image status report' image'
+  -- of `mirror`, over such an image
+  pub mirrored : (script : Script) → way ≡ Mirror → head_fault (head_of image) ≡ None → FitsMirror script image text → MirrorLeaves script image status report' image'
+  -- of `run`, over an image that `format` left
+  pub fresh_ran : (script : Script) (units : List UnitSpec) → way ≡ Run → IsFresh units image → Fits script image text → as_expected (setting_over script image) 0 ≡ true → FreshRunLeaves script image report' image'
+  -- of `mirror`, over such an image: one good leg for each block is enough
+  pub fresh_mirrored : (script : Script) (units : List UnitSpec) → way ≡ Mirror → IsFresh units image → FitsMirror script image text → as_expected (mirror_over script image) 0 ≡ true
+      → HasGoodLegs script image → IsMended script image report' image'

@@ -37,7 +37,8 @@ CauseUnformatted refusal.RigFault name old new = Rose old.faults new.faults × O
 CauseUnformatted refusal.Memory name old new = OpenedOnce name old.standing new.standing × (new.log ≡ old.log) × (new.armed ≡ old.armed)
 CauseUnformatted _ name old new = ⊥
 
--- The image of this name was opened once more. Where its head, which is right, was of version 1, it has the equal head of version 2, and n is the number of its units; else it is as it was, and n is 0. Every stored block is as before, so are the armed faults, and there is no further record.
+-- The image of this name was opened once more. Where its head, which is right, was of version 1, it has the equal head of version 2, and n is the number of its units; else it is as it was, and n is 0.
+-- Every stored block is as before, so are the armed faults, and there is no further record.
 pub record WasMigrated (name : List ℕ) (n : ℕ) (old new : RigState) : Type 0 where
   pub opened : Opened name old.standing new.standing
   pub judged : head_fault new.standing.head ≡ None
@@ -90,7 +91,8 @@ CauseUntold refusal.RigFault name old new = Rose old.faults new.faults × Opened
 CauseUntold refusal.Memory name old new = HasKept old new × OpenedOnce name old.standing new.standing
 CauseUntold _ name old new = ⊥
 
--- The image was opened, its devices told what they are, and then every stored block was looked at. What was found is what the records say; where the blocks are told and the count of faults didn't rise, it is exactly the blocks at fault. The armed faults are as before.
+-- The image was opened, its devices told what they are, and then every stored block was looked at.
+-- What was found is what the records say; where the blocks are told and the count of faults didn't rise, it is exactly the blocks at fault. The armed faults are as before.
 pub record WasScrubbed (name : List ℕ) (devices : List DeviceInfo) (found : List Found) (old new : RigState) : Type 0 where
   pub told : RigState
   pub discovered : WasTold name devices old told

@@ -5,9 +5,10 @@ use Rattle.volume_table.specs.Tables.{Table}
 use Rattle.volume_table.specs.declared.device.DeviceInfo.{DeviceInfo}
 use Rattle.stack_ops.specs.declared.reply.Reply.{Reply}
 use Rattle.script_text.specs.declared.script.Script.{Script}
-use Rattle.script_stack.specs.Followed.{HasWalked}
-use Rattle.run_command.specs.Premises.{IsFormedRun, IsPlainRun, opening_told, setting_told}
-use Rattle.run_command.specs.Verdict.{AllReadRightly, Followed, HasPlain}
+use Rattle.script_stack.specs.Followed.{HasWalked, KnownBlocks}
+use Rattle.script_stack.proofs.Ended.{known_from}
+use Rattle.run_command.specs.Premises.{IsFormedRun, IsPlainRun}
+use Rattle.run_command.specs.Followed.{Followed, HasPlain, RunReadsRightly}
 use Rattle.stack_core.specs.Mediums.{RoseBy, medium_lines}
 use Rattle.rig_api.specs.State.{RigState}
 
@@ -16,14 +17,23 @@ unnamed : (n old new : ℕ) → RoseBy n old new → new ≡ 0 → n ≡ 0
 unnamed n old new (inl p) e = omega (arith, p, e)
 unnamed n old new (inr p) e = absurd (omega (arith, p, e))
 
+-- a rig that told these blocks tells some afterwards
+abbrev at : (script : Script) (table : Table) (devices : List DeviceInfo) (old new : RigState) (pool : List (List ℕ)) (replies : List Reply) (us : List Stored) → Followed script table devices old new pool replies → old.units ≡ Some us → KnownBlocks old new
+at script table devices old new pool replies us f e = known_from old new f.any_rig.tells_blocks us e
+
 pub got_walked : (script : Script) (table : Table) (devices : List DeviceInfo) (old new : RigState) (pool : List (List ℕ)) (replies : List Reply) (us : List Stored) (f : Followed script table devices old new pool replies) → old.units ≡ Some us → new.faults ≡ 0
-    → (left : List Stored) × (new.units ≡ Some left) × HasWalked script table us left pool f.goes.more replies
-got_walked script table devices old new pool replies us f e none = f.walked us e (unnamed (medium_lines replies) old.faults new.faults f.medium none)
+    → (left : List Stored) × (new.units ≡ Some left) × HasWalked script table us left pool f.any_rig.goes.more replies
+got_walked script table devices old new pool replies us f e none =
+    let known = at script table devices old new pool replies us f e in
+    (known.after, known.ended, (f.intact known (unnamed (medium_lines replies) old.faults new.faults f.any_rig.medium none)).walked)
 
 pub got_plain : (script : Script) (table : Table) (devices : List DeviceInfo) (old new : RigState) (pool : List (List ℕ)) (replies : List Reply) (us : List Stored) → Followed script table devices old new pool replies → old.units ≡ Some us → new.faults ≡ 0 → IsPlainRun script table us
     → (left : List Stored) × (new.units ≡ Some left) × HasPlain script table us left pool replies
-got_plain script table devices old new pool replies us f e none p = f.plain us e (unnamed (medium_lines replies) old.faults new.faults f.medium none) p
+got_plain script table devices old new pool replies us f e none p =
+    let known = at script table devices old new pool replies us f e in
+    (known.after, known.ended, (f.intact known (unnamed (medium_lines replies) old.faults new.faults f.any_rig.medium none)).plain p)
 
 pub got_formed : (script : Script) (table : Table) (devices : List DeviceInfo) (old new : RigState) (pool : List (List ℕ)) (replies : List Reply) (us : List Stored) → Followed script table devices old new pool replies → old.units ≡ Some us → new.faults ≡ 0 → IsFormedRun script table devices us
-    → AllReadRightly (setting_told script table us) script.ops (opening_told script us) replies
-got_formed script table devices old new pool replies us f e none p = f.formed us e (unnamed (medium_lines replies) old.faults new.faults f.medium none) p
+    → RunReadsRightly script table us replies
+got_formed script table devices old new pool replies us f e none p =
+    (f.intact (at script table devices old new pool replies us f e) (unnamed (medium_lines replies) old.faults new.faults f.any_rig.medium none)).formed p

@@ -22,6 +22,9 @@ use Rattle.rig_api.specs.Telling.{Standing, answer_of, at_front, no_spec, spec_a
 use Rattle.answered_record.specs.Answered.{Answers, AreAnswersTo, FramesBy, FramesUnder, IsAnswerTo, answer_with, room_of}
 use Rattle.answered_record.proofs.Going.{answers_join}
 use Rattle.script_laws.proofs.Keeping.{read_keeps}
+use Rattle.script_stack.proofs.Ended.{known_from}
+use Rattle.stack_core.specs.Mediums.{medium_lines}
+use Rattle.stack_core.proofs.NoMedium.{none_named}
 use Rattle.script_text.specs.declared.script.Script.{Script}
 use Rattle.source_text.specs.Reading.{most_bytes}
 use Rattle.run_command.specs.Verdict.{Facts, HasRun}
@@ -107,7 +110,7 @@ module _ (run : Finished) (f : Facts) (image : List ℕ) (told_is : f.rig.image 
   between = h.asked.told.between
 
   same_told : s ≡ h.told.standing
-  same_told = h.followed.goes.standing
+  same_told = h.followed.any_rig.goes.standing
 
   same_between : s ≡ between.standing
   same_between = same_told ∙ h.asked.told.since.standing
@@ -132,26 +135,29 @@ module _ (run : Finished) (f : Facts) (image : List ℕ) (told_is : f.rig.image 
   no_lines : script.faults ≡ []
   no_lines = no_faults script.lines script.faults script.ops (read_keeps held.text script held.reads).lined held.plays
 
-  steps_answer : (left : List Stored) × (f.rig_after.units ≡ Some left) × AreAnswersTo h.told.standing looks_answer.left h.followed.goes.more left
-  steps_answer = h.followed.answered looks_answer.left looks_answer.units no_lines (played_whole script.lines script.faults script.ops no_lines (read_keeps held.text script held.reads).lined held.plays) calm_told
+  steps_answer : (left : List Stored) × (f.rig_after.units ≡ Some left) × AreAnswersTo h.told.standing looks_answer.left h.followed.any_rig.goes.more left
+  steps_answer =
+      let known = known_from h.told f.rig_after h.followed.any_rig.tells_blocks looks_answer.left looks_answer.units in
+      let none = none_named (medium_lines run.stack.replies.items) h.told.faults f.rig_after.faults h.followed.any_rig.medium calm_told in
+      (known.after, known.ended, (h.followed.intact known none).answered no_lines (played_whole script.lines script.faults script.ops no_lines (read_keeps held.text script held.reads).lined held.plays) calm_told)
 
   abbrev left : List Stored
   left = steps_answer.0
 
-  records_are : records ≡ looks_answer.records ++ h.followed.goes.more
+  records_are : records ≡ looks_answer.records ++ h.followed.any_rig.goes.more
   records_are =
       let first = looks_answer.records in
-      let more = h.followed.goes.more in
+      let more = h.followed.any_rig.goes.more in
       let log : f.rig_after.log ≡ f.rig.log ++ (first ++ more) =
-      h.followed.goes.records ∙ ap (λ l. l ++ more) (looks_answer.log ∙ ap (λ l. l ++ first) h.asked.told.since.kept.log) ∙ append_assoc f.rig.log first more in
+      h.followed.any_rig.goes.records ∙ ap (λ l. l ++ more) (looks_answer.log ∙ ap (λ l. l ++ first) h.asked.told.since.kept.log) ∙ append_assoc f.rig.log first more in
       ap (λ n. drop n f.rig_after.log) h.first ∙ ap (drop (length f.rig.log)) log ∙ drop-append_seam f.rig.log (first ++ more)
 
   answered : AreAnswersTo s us records left
   answered =
       subst (λ es. AreAnswersTo s us es left) (sym records_are)
-      (answers_join s us looks_answer.left left looks_answer.records h.followed.goes.more
+      (answers_join s us looks_answer.left left looks_answer.records h.followed.any_rig.goes.more
       (subst (λ st. AreAnswersTo st us looks_answer.records looks_answer.left) (sym same_between) looks_answer.answered)
-      (subst (λ st. AreAnswersTo st looks_answer.left h.followed.goes.more left) (sym same_told) steps_answer.2))
+      (subst (λ st. AreAnswersTo st looks_answer.left h.followed.any_rig.goes.more left) (sym same_told) steps_answer.2))
 
   again : (list_text lines (answers_over s us lines) ≡ vectors_text records) × (units_over s us lines ≡ left)
   again = same_again s us left records (all_answered s script.block us left records answered (vectors_pass run f image told_is calm (script, held, h)))

@@ -48,6 +48,7 @@ use Rattle.script_laws.proofs.Keeping.{read_keeps}
 use Rattle.script_ground.proofs.Calm.{all-fit, calm-of}
 use Rattle.script_ground.proofs.OverUnits.{IsBoundOver, over}
 use Rattle.script_stack.specs.Followed.{HasFallen, failed_in, opening_of, setting_of, unit_of}
+use Rattle.script_stack.proofs.Ended.{known_from}
 use Rattle.script_stack.proofs.Following.{told-stored}
 use Rattle.rig_api.specs.State.{RigState}
 use Rattle.run_command.specs.Verdict.{HasRun}
@@ -227,19 +228,19 @@ module _ (run : Finished) (script : Script) (name text image : List ℕ) (old ne
   none_listed c =
       let a = h.asked.told.since.kept.count in
       let b = h.asked.told.since.count in
-      ⊎_elim (λ (x : h.told.faults + medium_lines run.stack.replies.items ≤ new.faults). omega (arith, a, b, c.0, x)) (λ (y : 2 ^ 64 ≤ new.faults + 1). absurd (omega (arith, c.1, y))) h.followed.medium
+      ⊎_elim (λ (x : h.told.faults + medium_lines run.stack.replies.items ≤ new.faults). omega (arith, a, b, c.0, x)) (λ (y : 2 ^ 64 ≤ new.faults + 1). absurd (omega (arith, c.1, y))) h.followed.any_rig.medium
 
-  cut_none : unplayed script ≡ None → Calm old.faults new.faults → Each (IsNotCut script.block) h.followed.goes.more
+  cut_none : unplayed script ≡ None → Calm old.faults new.faults → Each (IsNotCut script.block) h.followed.any_rig.goes.more
   cut_none plays c =
       let k = read_keeps text script reads in
       let faults = no_faults script.lines script.faults script.ops k.lined plays in
       let overwrites = played_whole script.lines script.faults script.ops faults k.lined plays in
-      let log = h.followed.goes.more in
+      let log = h.followed.any_rig.goes.more in
       let replies = run.stack.replies.items in
-      let f = h.followed.fell us units_are in
+      let known = known_from h.told new h.followed.any_rig.tells_blocks us units_are in
       let units : map unit_of h.devices ≡ shapes_of us = ap (map unit_of) devices_are ∙ units_back us in
-      let backed = subst (λ (xs : List UnitSpec). let m = setting_of script h.table xs (failed_in replies) in IsBacked m script.ops (opening_of script xs []) (recorded m log) replies) units (h.followed.backed []) in
-      uncut script h.table us f.0 run.stack.pool log replies bound faults overwrites f.2 backed (none_listed c) h.followed.sends.formed
+      let backed = subst (λ (xs : List UnitSpec). let m = setting_of script h.table xs (failed_in replies) in IsBacked m script.ops (opening_of script xs []) (recorded m log) replies) units (h.followed.any_rig.backed []) in
+      uncut script h.table us known.after run.stack.pool log replies bound faults overwrites (h.followed.failing known).fell backed (none_listed c) h.followed.any_rig.sends.formed
 
 pub run_passes : RunPasses
 run_passes run script name text image old new reads plays told_is c h = cut_none run script name text image old new reads told_is h plays c
@@ -254,9 +255,9 @@ pub vectors_pass : VectorsPass
 vectors_pass run f image told_is c (script, held, h) =
     let found = h.asked.told.found in
     let first = looks h.asked.told.between.standing 0 found.answers in
-    let more = h.followed.goes.more in
+    let more = h.followed.any_rig.goes.more in
     let log : f.rig_after.log ≡ f.rig.log ++ (first ++ more) =
-    h.followed.goes.records ∙ ap (λ l. l ++ more) (found.log ∙ ap (λ l. l ++ first) h.asked.told.since.kept.log) ∙ append_assoc f.rig.log first more in
+    h.followed.any_rig.goes.records ∙ ap (λ l. l ++ more) (found.log ∙ ap (λ l. l ++ first) h.asked.told.since.kept.log) ∙ append_assoc f.rig.log first more in
     let rest : drop run.first f.rig_after.log ≡ first ++ more = ap (λ n. drop n f.rig_after.log) h.first ∙ ap (drop (length f.rig.log)) log ∙ drop-append_seam f.rig.log (first ++ more) in
     subst (Each (IsNotCut script.block)) (sym rest)
     (each_both (IsNotCut script.block) first more (looks_uncut script.block h.asked.told.between.standing 0 found.answers) (run_passes run script f.name held.text image f.rig f.rig_after held.reads held.plays told_is c h))

@@ -54,7 +54,8 @@ abbrev pub AreAnswered : Standing → List Stored → List LogEntry → (left : 
 AreAnswered s us [] left = left ≡ us
 AreAnswered s us (e ∷ es) left = (a : IsAnswered s us e) × AreAnswered s (with_blocks us e.what.dev (answer_for s us a.labels e).blocks) es left
 
--- What a rig that tells its blocks puts on record of one exchange, without faults and where no store call failed, is so: with room for just what the command reads, and where all that was sent was moved. Whatever stood in the buffer, and where blocks have their sizes.
+-- What a rig that tells its blocks puts on record of one exchange, without faults and where no store call failed, is so: with room for just what the command reads, and where all that was sent was moved.
+-- Whatever stood in the buffer, and where blocks have their sizes.
 abbrev pub ExchangeAnswers : Type 0
 ExchangeAnswers = (old new : RigState) (dev : ℕ) (cdb : List ℕ) (labels : List Label) (out before came : List ℕ) (o : Outcome) (us : List Stored) → Exchanged old new dev cdb labels out before came o → old.units ≡ Some us → old.armed ≡ [] → Calm old.faults new.faults →
     All (λ block. length {A = ℕ} block ≡ stored_size (unit_at us dev).ty (unit_at us dev).size) (unit_at us dev).blocks → (spec_at old.standing dev).size ≡ (unit_at us dev).size → length before ≡ room_of (spec_at old.standing dev).size cdb →
@@ -112,7 +113,8 @@ abbrev pub SameAgain : Type 0
 SameAgain = (s : Standing) (us left : List Stored) (es : List LogEntry) → AreAnswered s us es left →
     let lines = lines_of 2 es in (list_text lines (answers_over s us lines) ≡ vectors_text es) × (units_over s us lines ≡ left)
 
--- So it is of the records of a script that was run, whose vectors are written, over an image that is told and where no store call failed: their vectors, done as a list over the units of that image, are the same text, and leave the units that the run left.
+-- So it is of the records of a script that was run, whose vectors are written, over an image that is told and where no store call failed:
+-- their vectors, done as a list over the units of that image, are the same text, and leave the units that the run left.
 abbrev pub RunAgain : Type 0
 RunAgain = (run : Finished) (f : Facts) (image : List ℕ) → f.rig.image ≡ Some image → Calm f.rig.faults f.rig_after.faults → HasPlayed (played.Ran run) f →
     let s = f.rig_after.standing in let us = units_in (specs_of s) image in let records = drop run.first f.rig_after.log in let lines = lines_of 2 records in
@@ -125,7 +127,8 @@ ListAgain = (run : Finished) (f : Facts) (image : List ℕ) → f.rig.image ≡ 
     (name : List ℕ) (old new : RigState) → old.image ≡ Some image → Calm old.faults new.faults → (a : HasAnswered name lines old new) →
     (list_text lines a.done.entries ≡ vectors_text records) × (new.units ≡ f.rig_after.units)
 
--- So it is of two calls of which the second takes the text that the first wrote, and does it over a rig whose image is as the first one's was: it writes the same text, and the rig tells the same units. The records have the widths of a list's lines.
+-- So it is of two calls of which the second takes the text that the first wrote, and does it over a rig whose image is as the first one's was: it writes the same text, and the rig tells the same units.
+-- The records have the widths of a list's lines.
 abbrev pub TextAgain : Type 0
 TextAgain = (run : Finished) (f : Facts) (image : List ℕ) → f.rig.image ≡ Some image → Calm f.rig.faults f.rig_after.faults → HasPlayed (played.Ran run) f →
     let records = drop run.first f.rig_after.log in Each IsWritten records →

@@ -86,7 +86,7 @@ IsNotCut size e = IfOk (decoded e.what.cdb) (λ cdb. AreDone size (request_of cd
 -- In a run of a script without `fault`, `shift` and `overwrite` lines, over an image that is told and without a store call that failed, no write ends early.
 abbrev pub RunPasses : Type 0
 RunPasses = (run : Finished) (script : Script) (name text image : List ℕ) (old new : RigState) → script_in text ≡ Ok script → unplayed script ≡ None → old.image ≡ Some image → Calm old.faults new.faults → (h : HasRun run script name old new) →
-    Each (IsNotCut script.block) h.followed.goes.more
+    Each (IsNotCut script.block) h.followed.any_rig.goes.more
 
 -- So it is of all records whose vectors are written.
 abbrev pub VectorsPass : Type 0

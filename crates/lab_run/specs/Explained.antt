@@ -53,7 +53,8 @@ pub record HasExplained (w : Outcome) (f : Facts) : Type 0 where
   pub untouched : f.first_after ≡ f.first
   pub came : HasToldRun w f ⊎ (HasToldFault w f ⊎ HasToldStop w f)
 
--- A call that explains a run touches no store. A script of the language that is told, over an image that is told and right, over whose devices script and volume have no fault, gives 0 or 1, or want of memory, if neither source, rig nor sink fails.
+-- A call that explains a run touches no store.
+-- A script of the language that is told, over an image that is told and right, over whose devices script and volume have no fault, gives 0 or 1, or want of memory, if neither source, rig nor sink fails.
 pub record ExplainsRun (f : Facts) (o n : ℕ) (result : Status) : Type 0 where
   pub untouched : f.first_after ≡ f.first
   pub right : (text image : List ℕ) (script : Script) → f.left ≡ Some text → script_in text ≡ Ok script → f.rig.image ≡ Some image → head_fault (head_of image) ≡ None → table_fault script.entries (devices_of image) script.block ≡ None →

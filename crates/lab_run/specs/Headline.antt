@@ -267,7 +267,8 @@ StoreRose c f = Rose f.first.faults f.first_after.faults ⊎ ((uses_second c ≡
 abbrev pub AreCalm : Option Command → Facts → Type 0
 AreCalm c f = Calm f.first.faults f.first_after.faults × (uses_second c ≡ true → Calm f.second.faults f.second_after.faults)
 
--- Each status but 6 has its cause: 2 comes exactly where the words are no command; 4 only where an image is at fault, and 3 only where the dump or the script is, and where an image or a dump that is told is so it comes, or want of memory, if no count rose; 5, 7 and 8 only where the count of faults of a store or a rig that the command uses, of the source, of the sink, rose.
+-- Each status but 6 has its cause: 2 comes exactly where the words are no command; 4 only where an image is at fault, and 3 only where the dump or the script is, and where an image or a dump that is told is so it comes,
+-- or want of memory, if no count rose; 5, 7 and 8 only where the count of faults of a store or a rig that the command uses, of the source, of the sink, rose.
 pub record Causes (f : Facts) (o n : ℕ) (result : Status) : Type 0 where
   pub words : result ≡ status.Words → command_in f.words ≡ None
   pub no_words : command_in f.words ≡ None → (result ≡ status.Words) ⊎ (result ≡ status.WriteFault)
@@ -294,7 +295,8 @@ pub record AreComparable (one other : PlaceWord) (image : List ℕ) (beside : Op
   pub size : AreOneSize places
   pub many : places.at.count ≡ places.to.count
 
--- The image that is told, and the dump, have all that the command asks of them: a right head and, where the words have a place, that place; what the layout asks for; for `diff` another image that is told and a place that can be compared; and for `import` a dump of the place's length, of a source that doesn't fail.
+-- The image that is told, and the dump, have all that the command asks of them: a right head and, where the words have a place, that place; what the layout asks for;
+-- for `diff` another image that is told and a place that can be compared; and for `import` a dump of the place's length, of a source that doesn't fail.
 abbrev pub IsRight : Option Command → Facts → List ℕ → Type 0
 IsRight None f image = ⊥
 IsRight (Some Help) f image = Unit {0}
@@ -314,7 +316,8 @@ abbrev pub IsComplete : Facts → ℕ → ℕ → Status → Type 0
 IsComplete f o n result =
     (image : List ℕ) → f.first.bytes ≡ Some image → IsRight (command_in f.words) f image → AreCalm (command_in f.words) f → Calm o n → IsDone result ⊎ (result ≡ status.Memory)
 
--- What a call carries, whatever its source, rig, stores and sink are: its verdict with the cause and its text, what was done, why it ended otherwise, what is as before, that nothing that is right is refused, that a script is judged right, what `vectors` answers to texts that are told, that a right script that is run is explained, and what `sweep` answers to a text that is told.
+-- What a call carries, whatever its source, rig, stores and sink are: its verdict with the cause and its text, what was done, why it ended otherwise, what is as before, that nothing that is right is refused,
+-- that a script is judged right, what `vectors` answers to texts that are told, that a right script that is run is explained, and what `sweep` answers to a text that is told.
 pub record Carries (f : Facts) (taken taken' : Option (List ℕ)) (o n : ℕ) (result : Status) : Type 0 where
   pub ended : Ended f taken taken' o n result
   pub done : IsDone result → DoneBy (command_in f.words) f taken taken' result

@@ -72,7 +72,9 @@ abbrev pub halt_status : Halt → Status
 halt_status halt.Memory = status.Memory
 halt_status halt.Sink = status.WriteFault
 
--- A call that sweeps touches no image. A text that is told and has a fault, or is a script that has a `fault`, `shift` or `overwrite` line, gives 3, or want of memory, if neither source nor sink fails; a script that has none, and over the formatted units neither a fault nor one of its volume, gives 0 or 1, or want of memory.
+-- A call that sweeps touches no image.
+-- A text that is told and has a fault, or is a script that has a `fault`, `shift` or `overwrite` line, gives 3, or want of memory, if neither source nor sink fails;
+-- a script that has none, and over the formatted units neither a fault nor one of its volume, gives 0 or 1, or want of memory.
 pub record SweepsTexts (units : List UnitSpec) (f : Facts) (o n : ℕ) (result : Status) : Type 0 where
   pub untouched : f.first_after ≡ f.first
   pub wrong : (text : List ℕ) (bad : ScriptFault) → f.left ≡ Some text → script_in text ≡ Err bad → Calm f.reads f.reads_after → Calm o n → (result ≡ status.Input) ⊎ (result ≡ status.Memory)

@@ -57,7 +57,8 @@ AreCalmAll f o n = Calm f.reads f.reads_after × Calm f.rig.faults f.rig_after.f
 abbrev pub IsDoneOrShort : Status → Type 0
 IsDoneOrShort result = (result ≡ status.Whole) ⊎ ((result ≡ status.SomeBad) ⊎ (result ≡ status.Memory))
 
--- What a call of `vectors` answers to texts and images that are told, if neither source nor rig nor sink fails: a text at fault gives 3; another one over an image whose head has a fault 4; a right list, a line of which its image can't do, 3, and else 0 or 1, and so does a right script that runs over its image; each of them 6 where memory lacks.
+-- What a call of `vectors` answers to texts and images that are told, if neither source nor rig nor sink fails: a text at fault gives 3; another one over an image whose head has a fault 4;
+-- a right list, a line of which its image can't do, 3, and else 0 or 1, and so does a right script that runs over its image; each of them 6 where memory lacks.
 pub record PlaysTexts (f : Facts) (o n : ℕ) (result : Status) : Type 0 where
   pub wrong : (text : List ℕ) (bad : ScriptFault) → f.left ≡ Some text → text_fault text ≡ Some bad → AreCalmAll f o n → (result ≡ status.Input) ⊎ (result ≡ status.Memory)
   pub head : (text image : List ℕ) (x : RigFault) → f.left ≡ Some text → text_fault text ≡ None → f.rig.image ≡ Some image → head_fault (head_of image) ≡ Some x → AreCalmAll f o n → (result ≡ status.Image) ⊎ (result ≡ status.Memory)

@@ -461,7 +461,8 @@ pub record ReadsSecond (f : Facts) : Type 0 where
 abbrev pub KeepsSecond : Facts → Type 0
 KeepsSecond f = (f.second_after ≡ f.second) ⊎ ReadsSecond f
 
--- Each object that the command doesn't use is as before: but for `vectors` and `explain IMAGE` the rig, but for `diff` the second store and, but for `import` and what takes a script, the source. So is each byte that a store tells; after an `import`, each block outside of its place. Each image is opened at most once, by its name.
+-- Each object that the command doesn't use is as before: but for `vectors` and `explain IMAGE` the rig, but for `diff` the second store and, but for `import` and what takes a script, the source.
+-- So is each byte that a store tells; after an `import`, each block outside of its place. Each image is opened at most once, by its name.
 pub record Keeps (f : Facts) : Type 0 where
   pub source : KeepsSource (command_in f.words) f
   pub rig : KeepsRig (command_in f.words) f

@@ -3,6 +3,7 @@ use Rattle.std.proofs.Common.{ℕ, ◌≡◌, ◌+◌, ◌≤◌, List, [], ◌�
 use Rattle.target_answer.specs.Target.{Stored}
 use Rattle.script_text.specs.declared.script.Script.{Script}
 use Rattle.script_stack.specs.Followed.{Ran}
+use Rattle.script_stack.proofs.Ended.{known_from}
 use Rattle.stack_core.specs.Mediums.{RoseBy, medium_lines}
 use Rattle.stack_core.specs.declared.stack.Stack.{Stack}
 use Rattle.volume_table.specs.declared.device.DeviceInfo.{DeviceInfo}
@@ -87,8 +88,8 @@ ran-one s t devices words before after r h = record {
   records = h.records ∙ ap (λ es. before.log ++ es) (sym (append-nil h.more));
   backed = (h.backed, (h.sends, tt));
   medium = rose-one (medium_lines r.replies.items) before.faults after.faults h.medium;
-  told = λ us e none. (let x = h.told us e (none-one (medium_lines r.replies.items) none) in (x.0, (x.1.0, (x.0, (x.1.1, refl)))));
-  fallen = λ us e. (let x = h.fallen us e in (x.0, (x.1.0, (x.0, (x.1.1, refl)))));
+  told = λ us e none. (let known = known_from before after h.tells_blocks us e in (known.after, (known.ended, (known.after, (h.walked known (none-one (medium_lines r.replies.items) none), refl)))));
+  fallen = λ us e. (let known = known_from before after h.tells_blocks us e in (known.after, (known.ended, (known.after, (h.fell known, refl)))));
 }
 
 -- nothing was run

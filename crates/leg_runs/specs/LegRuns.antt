@@ -76,7 +76,8 @@ pub record NamesNoMedium (runs : List LegRun) (replies : List Reply) : Type 0 wh
   pub legs : all_mediums runs ≡ 0
   pub report : medium_lines replies ≡ 0
 
--- These were run over a rig, one after another: their records stand there in order, and back their replies, whose lines that name the medium are at most as many as the count of faults rose. Where the rig tells its blocks, and no line of theirs names the medium, each was done at the target; and whatever lines name it, so it was but for what the store calls that failed left.
+-- These were run over a rig, one after another: their records stand there in order, and back their replies, whose lines that name the medium are at most as many as the count of faults rose.
+-- Where the rig tells its blocks, and no line of theirs names the medium, each was done at the target; and whatever lines name it, so it was but for what the store calls that failed left.
 pub record RanLegs (t : Table) (devices : List DeviceInfo) (runs : List LegRun) (before after : RigState) : Type 0 where
   pub standing : after.standing ≡ before.standing
   pub faults : before.faults ≤ after.faults

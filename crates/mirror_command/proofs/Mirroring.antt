@@ -9,7 +9,8 @@ use Rattle.target_answer.specs.Target.{Stored}
 use Rattle.script_stack.proofs.Octets.{blocks_octets}
 use Rattle.volume_table.specs.declared.device.DeviceInfo.{DeviceInfo}
 use Rattle.script_text.specs.declared.script.Script.{Script}
-use Rattle.script_stack.specs.Followed.{SizesAre}
+use Rattle.script_stack.specs.Followed.{KnownBlocks, SizesAre}
+use Rattle.script_stack.proofs.Ended.{known_from, one_left, still_told}
 use Rattle.script_stack.proofs.Following.{sizes-found, told-shapes, told-stored}
 use Rattle.run_command.proofs.Devices.{has_device, image_holds, known_infos}
 use Rattle.run_command.specs.Verdict.{HoldsBlocks, WasAsked}
@@ -91,23 +92,20 @@ module _ (law : EnoughLaw) (by_form : FormedLaw) (unfaulted : StillLaw) (s : Scr
   -- by one of the laws, what it asks being `P`
   by-law : (P : List Stored → Type 0) → ((us left : List Stored) (marks : List Marks) (repaired lost : ℕ) → IsOver s devices us → HoldsBytes us → P us → IsRepairedAs s devices us (length s.ops) marks repaired lost left → WasEnough s devices us left lost)
       → (run : Mirrored) → (ended : Finished s devices (stage_of begun [] told) run.mirror run.repair.repaired run.repair.lost new)
-      → (us : List Stored) → told.units ≡ Some us → NamesNoMedium (ended.stage.runs ++ ended.runs) run.mirror.replies.items → P us → (left : List Stored) × ((new.units ≡ Some left) × WasEnough s devices us left run.repair.lost)
-  by-law P says run ended us e none p =
-      let x = ended.told us e none in (
-        x.0,
-        (
-          x.1.0,
-          says us x.0 run.mirror.state.marks.items run.repair.repaired run.repair.lost (over-told s name devices old told begun us up e) (bytes-told s name devices old told begun us up e) p
-              (as-repaired s devices us x.0 run.mirror.state.pool run.mirror.replies.items run.mirror.state.marks.items run.repair.repaired run.repair.lost x.1.1),
-        ),
-      )
+      → (known : KnownBlocks told new) → NamesNoMedium (ended.stage.runs ++ ended.runs) run.mirror.replies.items → P known.before → WasEnough s devices known.before known.after run.repair.lost
+  by-law P says run ended known none p =
+      let us = known.before in
+      let x = ended.told us known.began none in
+      subst (λ (left : List Stored). WasEnough s devices us left run.repair.lost) (one_left x.0 known.after (sym x.1.0 ∙ known.ended))
+      (says us x.0 run.mirror.state.marks.items run.repair.repaired run.repair.lost (over-told s name devices old told begun us up known.began) (bytes-told s name devices old told begun us up known.began) p
+      (as-repaired s devices us x.0 run.mirror.state.pool run.mirror.replies.items run.mirror.state.marks.items run.repair.repaired run.repair.lost x.1.1))
 
   enough : (run : Mirrored) → (ended : Finished s devices (stage_of begun [] told) run.mirror run.repair.repaired run.repair.lost new)
-      → (us : List Stored) → told.units ≡ Some us → NamesNoMedium (ended.stage.runs ++ ended.runs) run.mirror.replies.items → IsOneGoodRun s devices us → (left : List Stored) × ((new.units ≡ Some left) × WasEnough s devices us left run.repair.lost)
+      → (known : KnownBlocks told new) → NamesNoMedium (ended.stage.runs ++ ended.runs) run.mirror.replies.items → IsOneGoodRun s devices known.before → WasEnough s devices known.before known.after run.repair.lost
   enough = by-law (IsOneGoodRun s devices) (law s devices)
 
   still : (run : Mirrored) → (ended : Finished s devices (stage_of begun [] told) run.mirror run.repair.repaired run.repair.lost new)
-      → (us : List Stored) → told.units ≡ Some us → NamesNoMedium (ended.stage.runs ++ ended.runs) run.mirror.replies.items → IsStillMirror s devices us → (left : List Stored) × ((new.units ≡ Some left) × WasEnough s devices us left run.repair.lost)
+      → (known : KnownBlocks told new) → NamesNoMedium (ended.stage.runs ++ ended.runs) run.mirror.replies.items → IsStillMirror s devices known.before → WasEnough s devices known.before known.after run.repair.lost
   still = by-law (IsStillMirror s devices) (unfaulted s devices)
 
   pub mirrored : (run : Mirrored) → Finished s devices (stage_of begun [] told) run.mirror run.repair.repaired run.repair.lost new → HasMirrored run s name old new
@@ -120,11 +118,14 @@ module _ (law : EnoughLaw) (by_form : FormedLaw) (unfaulted : StillLaw) (s : Scr
     starts = up.starts;
     ended = ended;
     tells = tells;
+    tells_blocks = still_told told.image new.image told.standing new.standing told.units new.units up.laid laid tells;
     holds = holds ended.stretches.standing;
-    faults = ended.faults;
-    enough = enough run ended;
-    formed = λ us e none p. enough run ended us e none (by_form s devices us (over-told s name devices old told begun us up e) (bytes-told s name devices old told begun us up e) p);
-    still = still run ended;
+    intact = λ known none. record {
+      enough = enough run ended known none;
+      formed = λ p. enough run ended known none (by_form s devices known.before (over-told s name devices old told begun known.before up known.began) (bytes-told s name devices old told begun known.before up known.began) p);
+      still = still run ended known none;
+    };
+    failing = λ known. ended.faults known.before known.began;
   }
 
   pub midway : Broke s devices (stage_of begun [] told) new → StoppedMidway s name old new
@@ -145,3 +146,7 @@ pub calm-names-none : (run : Mirrored) (s : Script) (name : List ℕ) (old new :
     → NamesNoMedium (m.ended.stage.runs ++ m.ended.runs) run.mirror.replies.items
 calm-names-none run s name old new m calm =
     calm-unnamed (m.ended.stage.runs ++ m.ended.runs) run.mirror.replies.items m.told.faults new.faults m.ended.stretches.medium m.ended.lines calm
+
+-- A rig that told these blocks tells some afterwards.
+abbrev pub known-told : (run : Mirrored) (s : Script) (name : List ℕ) (old new : RigState) (m : HasMirrored run s name old new) (us : List Stored) → m.told.units ≡ Some us → KnownBlocks m.told new
+known-told run s name old new m us e = known_from m.told new m.tells_blocks us e

@@ -54,7 +54,8 @@ abbrev pub Stood : Script → List DeviceInfo → (begun : Stage) → ℕ → (n
 Stood s devices begun zero now = now ≡ begun
 Stood s devices begun (suc k) now = (old : Stage) × (Stood s devices begun k old × OneMore s devices k old now)
 
--- The records between these moments are those of the runs, a stretch for each and in their order, and each stretch backs its run's replies, whose lines that name the medium are at most as many as the count of faults rose. The runs go on in the schedule, one where the one before it ended.
+-- The records between these moments are those of the runs, a stretch for each and in their order, and each stretch backs its run's replies,
+-- whose lines that name the medium are at most as many as the count of faults rose. The runs go on in the schedule, one where the one before it ended.
 pub record InStretches (s : Script) (devices : List DeviceInfo) (runs : List LegRun) (used : ℕ) (before after : RigState) : Type 0 where
   pub standing : after.standing ≡ before.standing
   pub faults : before.faults ≤ after.faults
@@ -63,7 +64,9 @@ pub record InStretches (s : Script) (devices : List DeviceInfo) (runs : List Leg
   pub medium : RoseBy (all_mediums runs) before.faults after.faults
   pub goes : GoOn s.schedule 0 runs used
 
--- After k ops, over any rig: the lines of the replies that name the medium are at most as many as the count of faults rose. And over one that tells its blocks: where no line names the medium, of the report or of a request on a leg, pages, marks, stored blocks and replies are those of the mirror's walk; and whatever lines name it, no block is listed as refused or short.
+-- After k ops, over any rig: the lines of the replies that name the medium are at most as many as the count of faults rose.
+-- And over one that tells its blocks: where no line names the medium, of the report or of a request on a leg, pages, marks, stored blocks and replies are those of the mirror's walk;
+-- and whatever lines name it, no block is listed as refused or short.
 pub record Served (s : Script) (devices : List DeviceInfo) (begun : Stage) (k : ℕ) (now : Stage) : Type 0 where
   pub stood : Stood s devices begun k now
   pub count : length now.replies ≡ k
@@ -110,7 +113,8 @@ pub record HasServed (s : Script) (devices : List DeviceInfo) (us left : List St
   pub repaired_is : repaired ≡ (repair_over s devices us).repaired
   pub lost_is : lost ≡ (repair_over s devices us).lost
 
--- All ops were done, and then the repair. Over any rig the lines of the replies that name the medium are at most as many as the count of faults rose. Over one that tells its blocks: where no line names the medium, of the report or of a request on a leg, it is the mirror's walk and its repair; and whatever lines name it, no block is listed as refused or short.
+-- All ops were done, and then the repair. Over any rig the lines of the replies that name the medium are at most as many as the count of faults rose.
+-- Over one that tells its blocks: where no line names the medium, of the report or of a request on a leg, it is the mirror's walk and its repair; and whatever lines name it, no block is listed as refused or short.
 pub record Finished (s : Script) (devices : List DeviceInfo) (begun : Stage) (r : Mirror) (repaired lost : ℕ) (after : RigState) : Type 0 where
   pub stage : Stage
   pub served : Served s devices begun (length s.ops) stage

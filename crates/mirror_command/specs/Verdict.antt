@@ -11,6 +11,7 @@ use Rattle.volume_table.specs.declared.device.DeviceInfo.{DeviceInfo}
 use Rattle.script_text.specs.Language.{script_in}
 use Rattle.script_text.specs.declared.fault.ScriptFault.{ScriptFault}
 use Rattle.script_text.specs.declared.script.Script.{Script}
+use Rattle.script_stack.specs.Followed.{KnownBlocks}
 use Rattle.run_command.specs.Layers.{NamesFaults}
 use Rattle.run_command.specs.Verdict.{CauseUntaken, Facts, HasBadVolume, HasRead, HasTable, HoldsBlocks, IsFromOutside, StoppedShort, WasAsked, devices_of, table_over}
 use Rattle.call_refusal.specs.declared.refusal.Refusal.{Refusal}
@@ -39,24 +40,36 @@ pub record IsBegun (s : Script) (devices : List DeviceInfo) (begun : Mirror) : T
 
 -- ---- a script that was run on a mirror
 
--- The image was opened, its devices told what they are, the script was bound to a mirror over them, its ops were done, and then the repair. `ended` says by which runs on the legs, and what these left; over any rig the lines of the report that name the medium are at most as many as the count of faults rose; over one that tells its blocks, where no line names the medium, of the report or of a request on a leg, it is the mirror's walk and its repair. Of such a run `enough` says when one good leg was enough, `formed` says it by what a reader of the script sees, and `still` says it of a script without faults under any protect field. Over a rig that tells its blocks, whatever lines name the medium, no block of the report is listed as refused or short.
+-- What holds of a mirror over known blocks, where no line names the medium, neither of the report nor of a request on a leg: one good leg is enough.
+pub record OnIntactLegs (s : Script) (devices : List DeviceInfo) (before after : List Stored) (lost : ℕ) : Type 0 where
+  -- In type 1 under protect field 001b, over clean and equal legs, of which each block has one where no fault line alters it:
+  -- each read is whole and last accepted, no block is lost, and both legs hold what was last accepted.
+  pub enough : IsOneGoodRun s devices before → WasEnough s devices before after lost
+  -- So it is by what a reader of the script sees of its faults, legs and escapes.
+  pub formed : IsFormedMirror s devices before → WasEnough s devices before after lost
+  -- So it is of a script without faults and overwrites, under any protect field.
+  pub still : IsStillMirror s devices before → WasEnough s devices before after lost
+
+-- A script was run on a mirror over the image of this name, and the mirror was repaired.
 pub record HasMirrored (run : Mirrored) (s : Script) (name : List ℕ) (old new : RigState) : Type 0 where
+  -- The image was opened, its devices told what they are, and the script was bound to a mirror over them.
   pub devices : List DeviceInfo
   pub told : RigState
   pub asked : WasAsked name devices old told
   pub bound : IsBoundMirror s devices
   pub begun : Mirror
   pub starts : IsBegun s devices begun
+  -- Its ops were done, and then the repair, by which runs on the legs: over any rig, and over known blocks as the mirror's walk does.
   pub ended : Finished s devices (stage_of begun [] told) run.mirror run.repair.repaired run.repair.lost new
+  -- The rig tells its image and its blocks afterwards exactly where it did before.
   pub tells : is_some new.image ≡ is_some told.image
+  pub tells_blocks : is_some new.units ≡ is_some told.units
+  -- A told image is the first 512 bytes that it had, and then the told blocks.
   pub holds : HoldsBlocks told new
-  pub faults : (us : List Stored) → told.units ≡ Some us → All NamesFaults run.mirror.replies.items
-  pub enough : (us : List Stored) → told.units ≡ Some us → NamesNoMedium (ended.stage.runs ++ ended.runs) run.mirror.replies.items → IsOneGoodRun s devices us
-      → (left : List Stored) × ((new.units ≡ Some left) × WasEnough s devices us left run.repair.lost)
-  pub formed : (us : List Stored) → told.units ≡ Some us → NamesNoMedium (ended.stage.runs ++ ended.runs) run.mirror.replies.items → IsFormedMirror s devices us
-      → (left : List Stored) × ((new.units ≡ Some left) × WasEnough s devices us left run.repair.lost)
-  pub still : (us : List Stored) → told.units ≡ Some us → NamesNoMedium (ended.stage.runs ++ ended.runs) run.mirror.replies.items → IsStillMirror s devices us
-      → (left : List Stored) × ((new.units ≡ Some left) × WasEnough s devices us left run.repair.lost)
+  -- Over known blocks, where no line names the medium, neither of the report nor of a request on a leg, one good leg is enough.
+  pub intact : (known : KnownBlocks told new) → NamesNoMedium (ended.stage.runs ++ ended.runs) run.mirror.replies.items → OnIntactLegs s devices known.before known.after run.repair.lost
+  -- Over known blocks, whatever store calls failed, each block that is listed was found bad by the check of a layer, or failed at the medium.
+  pub failing : KnownBlocks told new → All NamesFaults run.mirror.replies.items
 
 -- The source was read to its end, and its script was run on a mirror.
 pub record HasMirroredSource (run : Mirrored) (f : Facts) : Type 0 where

@@ -39,7 +39,8 @@ abbrev pub AllPutBytes : List Op → Type 0
 AllPutBytes [] = Unit {0}
 AllPutBytes (op ∷ ops) = PutsBytes op × AllPutBytes ops
 
--- The volume is of type 1, tuples pass all the way, commands have protect field 001b, and blocks have an even number of bytes. What stands in the pages and on the volume is bytes, each block of both legs is clean, requests lie on the mirror, and no write supplies an escape. The faults have the form.
+-- The volume is of type 1, tuples pass all the way, commands have protect field 001b, and blocks have an even number of bytes.
+-- What stands in the pages and on the volume is bytes, each block of both legs is clean, requests lie on the mirror, and no write supplies an escape. The faults have the form.
 pub record HasFormedLegs (m : Setting) (devices : List DeviceInfo) (half : ℕ) (ops : List Op) (opening : State) : Type 0 where
   pub checked : IsChecked m
   pub even : m.size % 2 ≡ 0
@@ -53,7 +54,9 @@ pub record HasFormedLegs (m : Setting) (devices : List DeviceInfo) (half : ℕ) 
   pub no_escape : NoneEscapes m (script_asks m half ops opening) opening
   pub form : shows_on_legs m.mode.kind m.size half m.site.faults ops ≡ true
 
--- There are no faults and no op that overwrites a stored block, and no `write` has the application tag FFFFh. The volume is of type 1, and tuples pass all the way, under any protect field but 000b, with a target behind the adapter. Both legs are clean, with the same data and application tags, and those of leg 0 are made of bytes.
+-- There are no faults and no op that overwrites a stored block, and no `write` has the application tag FFFFh.
+-- The volume is of type 1, and tuples pass all the way, under any protect field but 000b, with a target behind the adapter.
+-- Both legs are clean, with the same data and application tags, and those of leg 0 are made of bytes.
 pub record HasStillLegs (m : Setting) (devices : List DeviceInfo) (half : ℕ) (ops : List Op) (opening : State) : Type 0 where
   pub ty : m.ty ≡ One
   pub dix : m.mode.dix ≡ true

@@ -27,7 +27,8 @@ abbrev pub AreEqualLegs : Script → List DeviceInfo → List Stored → Type 0
 AreEqualLegs s devices us = (u : ℕ) → u < half_of s devices
     → brought_by s.block (get_or (blocks_told us) (home (mirror_setting s devices us) (half_of s devices + u)) []) ≡ brought_by s.block (get_or (blocks_told us) (home (mirror_setting s devices us) u) [])
 
--- The volume is of type 1, and commands have protect field 001b. Each block of its devices is clean, and both legs have the same data and application tags. No write supplies an escape, each alteration can be shown, and each block has a leg on which no fault line alters it on its way, and no overwrite in its place.
+-- The volume is of type 1, and commands have protect field 001b. Each block of its devices is clean, and both legs have the same data and application tags.
+-- No write supplies an escape, each alteration can be shown, and each block has a leg on which no fault line alters it on its way, and no overwrite in its place.
 pub record IsOneGoodRun (s : Script) (devices : List DeviceInfo) (us : List Stored) : Type 0 where
   pub ty : (table_of s devices).ty ≡ One
   pub protect : s.mode.protect ≡ 1
@@ -37,7 +38,8 @@ pub record IsOneGoodRun (s : Script) (devices : List DeviceInfo) (us : List Stor
   pub shown : detectable (mirror_setting s devices us) (script_asks (mirror_setting s devices us) (half_of s devices) s.ops (opening_over s us)) (opening_over s us) ≡ true
   pub one_good : OneGood (mirror_setting s devices us) (half_of s devices) s.ops
 
--- The same by what a reader of the script sees, but that the blocks are clean and the legs equal: the faults have the form under which each is shown, none names a block that another names on the other leg, there is no overwrite, and no `write` has the application tag FFFFh.
+-- The same by what a reader of the script sees, but that the blocks are clean and the legs equal: the faults have the form under which each is shown,
+-- none names a block that another names on the other leg, there is no overwrite, and no `write` has the application tag FFFFh.
 pub record IsFormedMirror (s : Script) (devices : List DeviceInfo) (us : List Stored) : Type 0 where
   pub ty : (table_of s devices).ty ≡ One
   pub protect : s.mode.protect ≡ 1

@@ -12,7 +12,8 @@ use Rattle.volume_table.specs.declared.device.DeviceInfo.{DeviceInfo}
 use Rattle.volume_table.specs.declared.entry.Entry.TheVariants.{Linear}
 use Rattle.script_text.specs.declared.script.Script.{Script}
 
--- A script with a write and a read of the one block of a mirror, over two formatted units: the block's data are altered on their way to leg 0, which refuses them. It is bound as a mirror's, and meets the premises (`premises_of_a_mirror_can_be_met`).
+-- A script with a write and a read of the one block of a mirror, over two formatted units: the block's data are altered on their way to leg 0, which refuses them.
+-- It is bound as a mirror's, and meets the premises (`premises_of_a_mirror_can_be_met`).
 
 abbrev pub unit : UnitSpec
 unit = record { ty = One; blocks = 1; size = 512; first = 0 }

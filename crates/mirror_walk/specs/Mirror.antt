@@ -13,7 +13,8 @@ use Rattle.whole_run.specs.Settings.{Block, Setting}
 use Rattle.mirror_walk.specs.declared.marks.Marks.{Marks}
 use Rattle.whole_run.specs.Steps.{Alters, Reads, Seals, Sets, Shows, Step, Writes, WritesPi, steps_of}
 
--- A mirror: a volume of twice `half` blocks, on which block u of the mirror stands at virtual block u, on leg 0, and at half + u, on leg 1. A script's steps are done one after another; a block of a write goes to both legs, and a block of a read is taken from the first leg that has it and delivers it.
+-- A mirror: a volume of twice `half` blocks, on which block u of the mirror stands at virtual block u, on leg 0, and at half + u, on leg 1.
+-- A script's steps are done one after another; a block of a write goes to both legs, and a block of a read is taken from the first leg that has it and delivers it.
 
 -- fresh on both legs
 abbrev pub fresh : Marks

@@ -8,7 +8,8 @@ use Rattle.mirror_walk.specs.Mirror.{marked, marks_of, neither}
 use Rattle.mirror_walk.specs.declared.marks.Marks.{Marks}
 use Rattle.mirror_walk.specs.Repair.{reading, writing}
 
--- A request of the mirror leg by leg: all its blocks on leg 0, and then on leg 1. Where no shift is scheduled, and each virtual block has a place of its own, this is the mirror's walk, in which each block goes to both legs before the next one does.
+-- A request of the mirror leg by leg: all its blocks on leg 0, and then on leg 1.
+-- Where no shift is scheduled, and each virtual block has a place of its own, this is the mirror's walk, in which each block goes to both legs before the next one does.
 
 -- n blocks of op `op` on a leg, from the one with this label and this virtual block on
 abbrev pub blocks_on : (op k virt n : ℕ) → List Block

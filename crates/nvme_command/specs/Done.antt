@@ -26,7 +26,9 @@ body_given d l = replicate (body_len d (command_of l)) l.fill
 abbrev pub meta_given : DeviceInfo → NvmLine → List ℕ
 meta_given d l = given (meta_len d.ty (command_of l)) l.meta
 
--- The command of a line was done over any rig. One that is refused sends nothing; another sends just one SCSI command, its completion is that of its outcome, and the buffers are its frames. Where the blocks are told all is the unit's answer, up to a store call that failed. Errors of the medium come only where the count of faults rose, and 0h/06h never where the blocks are told. The armed faults are as before.
+-- The command of a line was done over any rig. One that is refused sends nothing; another sends just one SCSI command, its completion is that of its outcome, and the buffers are its frames.
+-- Where the blocks are told all is the unit's answer, up to a store call that failed. Errors of the medium come only where the count of faults rose, and 0h/06h never where the blocks are told.
+-- The armed faults are as before.
 pub record WasDone (devices : List DeviceInfo) (l : NvmLine) (r : Reply) (old new : RigState) : Type 0 where
   pub command_is : r.command ≡ command_of l
   pub refused : (x : Completion) → refusal devices (command_of l) ≡ Some x → (r ≡ record { command = command_of l; completion = x; body = []; meta = [] }) × (new.log ≡ old.log) × (new.units ≡ old.units)

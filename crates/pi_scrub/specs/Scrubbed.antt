@@ -15,7 +15,8 @@ is_medium f = is_medium_why f.why
 abbrev pub RoseBy : ℕ → ℕ → ℕ → Type 0
 RoseBy n old new = (old + n ≤ new) ⊎ (2 ^ 64 ≤ new + 1)
 
--- Looks were made, one record each, and what was found is what their records say: each entry has a record of its own, which ended at its block. The blocks that were to be looked at are those that these looked at, each once and in order, and then the blocks that are left. Entries of a medium are at most as many as the count of faults rose.
+-- Looks were made, one record each, and what was found is what their records say: each entry has a record of its own, which ended at its block.
+-- The blocks that were to be looked at are those that these looked at, each once and in order, and then the blocks that are left. Entries of a medium are at most as many as the count of faults rose.
 pub record Looked (devices : List DeviceInfo) (due left : List Place) (found found' : List Found) (old new : List LogEntry) (f f' : ℕ) : Type 0 where
   pub looks : List Look
   pub fit : AreFit devices looks

@@ -14,17 +14,16 @@ use Rattle.volume_table.specs.Tables.{Table}
 use Rattle.script_text.specs.declared.script.Script.{Script}
 use Rattle.stack_core.specs.declared.stack.Stack.{Stack}
 use Rattle.stack_ops.specs.declared.reply.Reply.{Reply}
-use Rattle.stack_core.specs.Mediums.{medium_lines}
 use Rattle.stack_core.specs.Stacks.{GoesOn}
 use Rattle.stack_core.specs.Walking.{NoneFailed, is_medium}
 use Rattle.run_laws.specs.Records.{recorded}
 use Rattle.run_laws.specs.ToldRun.{told}
 use Rattle.stack_ops.specs.declared.reply.Reply.TheVariants.{Silent}
-use Rattle.script_stack.specs.Followed.{HasFallen, HasWalked, IsBackedBy, failed_in, none_fails, opening_of, setting_of, unit_of}
+use Rattle.script_stack.specs.Followed.{HasFallen, HasWalked, IsBackedBy, KnownBlocks, NoMediumLine, failed_in, none_fails, opening_of, setting_of, unit_of}
 use Rattle.stack_ops.specs.Ops.{is_overwrite}
 use Rattle.run_follows.specs.Falls.{of_blocks}
 use Rattle.stack_core.specs.Going.{Went}
-use Rattle.script_stack.proofs.Ended.{BackedLaw, FallenLaw, IsOver, MediumLaw, ToldLaw, answered_by, backed_by, fallen_at, few_lines, sent_by, told_at, walked_at}
+use Rattle.script_stack.proofs.Ended.{BackedLaw, FallenLaw, IsOver, MediumLaw, ToldLaw, answered_by, backed_by, fallen_at, few_lines, sent_by, still_told, told_at, walked_at}
 use Rattle.script_stack.proofs.SendsBy.{AllLaw, FewLaw}
 use Rattle.script_stack.proofs.Words.{sends_own}
 use Rattle.script_laws.specs.Keeping.{Keeps}
@@ -33,7 +32,7 @@ use Rattle.rig_discovery.specs.Discovery.{info_of}
 use Rattle.script_stack.proofs.Octets.{blocks_octets}
 use Rattle.dix_adapter.specs.Ways.{blocks_told, shapes_of}
 use Rattle.run_command.specs.Fallen.{HasServed}
-use Rattle.run_command.specs.Premises.{IsDetectableRun, IsFormedRun, IsPlainRun, IsQuietRun}
+use Rattle.run_command.specs.Premises.{IsDetectableRun, IsFormedRun, IsPlainRun, IsQuietRun, opening_told, setting_told}
 use Rattle.run_command.specs.Layers.{NamesFaults, NamesLayers}
 use Rattle.run_command.proofs.Devices.{image_holds}
 use Rattle.run_command.proofs.Fallen.{BroughtFallLaw, Ends, OwnFallLaw, ReadsFallLaw, served}
@@ -47,7 +46,7 @@ use Rattle.run_premises.specs.Forms.{escapes_none}
 use Rattle.script_premises.specs.FormedScript.{IsBoundTo, IsFormedScript}
 use Rattle.whole_run.specs.Detectable.{detectable}
 use Rattle.whole_run.specs.Past.{steps_from}
-use Rattle.run_command.specs.Verdict.{AllReadRightly, Followed, HasPlain, HasReadRightly, opening_told, setting_told}
+use Rattle.run_command.specs.Followed.{AllReadRightly, Followed, HasPlain, HasReadRightly, OnAnyRig, RunReadsRightly}
 use Rattle.block_path.specs.Acts.{State}
 use Rattle.block_path.specs.Moves.{hidden}
 use Rattle.stack_ops.specs.declared.op.Op.{Op}
@@ -86,30 +85,32 @@ pub record IsDone (s : Script) (t : Table) (devices : List DeviceInfo) (begun r 
   pub faults : new.armed ≡ s.faults
   pub over : IsOver s t devices s.schedule begun r old.image new.image (armed_for s old) new
 
--- where the rig told these units, the script is bound to its volume over them
-bound_at : (s : Script) (t : Table) (devices : List DeviceInfo) (begun r : Stack) (old new : RigState) (o : IsDone s t devices begun r old new) → (us : List Stored) → old.units ≡ Some us → IsBoundOver s t us
-bound_at s t devices begun r old new o us e =
-    let told = told_at s t devices s.schedule begun r old.image new.image (armed_for s old) new o.over us e in
+-- a rig with its faults armed tells the same blocks
+abbrev as_armed : (s : Script) (old new : RigState) → KnownBlocks old new → KnownBlocks (armed_for s old) new
+as_armed s old new known = record { before = known.before; after = known.after; began = known.began; ended = known.ended }
+
+-- over known blocks the script is bound to its volume
+bound_at : (s : Script) (t : Table) (devices : List DeviceInfo) (begun r : Stack) (old new : RigState) (o : IsDone s t devices begun r old new) → (known : KnownBlocks old new) → IsBoundOver s t known.before
+bound_at s t devices begun r old new o known =
+    let told = told_at s t devices s.schedule begun r old.image new.image (armed_for s old) new o.over (as_armed s old new known) in
     record { keeps = o.keeps; lines = o.over.lines; made = told.made; bound = told.bound; stored = told.stored }
 
-devices_at : (s : Script) (t : Table) (devices : List DeviceInfo) (begun r : Stack) (old new : RigState) (o : IsDone s t devices begun r old new) → (us : List Stored) → old.units ≡ Some us → devices ≡ map info_of (shapes_of us)
-devices_at s t devices begun r old new o us e = (told_at s t devices s.schedule begun r old.image new.image (armed_for s old) new o.over us e).infos
+devices_at : (s : Script) (t : Table) (devices : List DeviceInfo) (begun r : Stack) (old new : RigState) (o : IsDone s t devices begun r old new) → (known : KnownBlocks old new) → devices ≡ map info_of (shapes_of known.before)
+devices_at s t devices begun r old new o known = (told_at s t devices s.schedule begun r old.image new.image (armed_for s old) new o.over (as_armed s old new known)).infos
 
-bytes_at : (s : Script) (t : Table) (devices : List DeviceInfo) (begun r : Stack) (old new : RigState) (o : IsDone s t devices begun r old new) → (us : List Stored) → old.units ≡ Some us → All (All (λ x. x < 256)) (blocks_told us)
-bytes_at s t devices begun r old new o us e = blocks_octets old.standing old.image us o.octets (sym o.over.laid ∙ e)
+bytes_at : (s : Script) (t : Table) (devices : List DeviceInfo) (begun r : Stack) (old new : RigState) (o : IsDone s t devices begun r old new) → (known : KnownBlocks old new) → All (All (λ x. x < 256)) (blocks_told known.before)
+bytes_at s t devices begun r old new o known = blocks_octets old.standing old.image known.before o.octets (sym o.over.laid ∙ known.began)
 
-walked : (s : Script) (t : Table) (devices : List DeviceInfo) (begun r : Stack) (old new : RigState) → ToldLaw → (o : IsDone s t devices begun r old new) → (us : List Stored) → old.units ≡ Some us → medium_lines r.replies.items ≡ 0 →
-    (left : List Stored) × (new.units ≡ Some left) × HasWalked s t us left r.pool o.over.goes.more r.replies.items
-walked s t devices begun r old new law o us e unnamed =
-    let w = walked_at s t devices s.schedule begun r old.image new.image (armed_for s old) new law o.over us e unnamed in
-    (w.0, w.1.0, w.1.1)
+walked : (s : Script) (t : Table) (devices : List DeviceInfo) (begun r : Stack) (old new : RigState) → ToldLaw → (o : IsDone s t devices begun r old new) → (known : KnownBlocks old new) → NoMediumLine r.replies.items →
+    HasWalked s t known.before known.after r.pool o.over.goes.more r.replies.items
+walked s t devices begun r old new law o known unnamed = walked_at s t devices s.schedule begun r old.image new.image (armed_for s old) new law o.over (as_armed s old new known) unnamed
 
 -- behind the adapter of a script's setting is a target, and none of its overwrites fails
-named : (s : Script) (t : Table) (devices : List DeviceInfo) (begun r : Stack) (old new : RigState) → ToldLaw → (o : IsDone s t devices begun r old new) → (us : List Stored) → old.units ≡ Some us → medium_lines r.replies.items ≡ 0 →
+named : (s : Script) (t : Table) (devices : List DeviceInfo) (begun r : Stack) (old new : RigState) → ToldLaw → (o : IsDone s t devices begun r old new) → (known : KnownBlocks old new) → NoMediumLine r.replies.items →
     All NamesLayers r.replies.items
-named s t devices begun r old new law o us e unnamed =
-    let w = walked s t devices begun r old new law o us e unnamed in
-    subst (λ (replies : List Reply). All NamesLayers replies) (sym w.2.replies_are) (names-layers (setting_told s t us) s.faults refl (λ i. refl) s.ops (opening_told s us))
+named s t devices begun r old new law o known unnamed =
+    let w = walked s t devices begun r old new law o known unnamed in
+    subst (λ (replies : List Reply). All NamesLayers replies) (sym w.replies_are) (names-layers (setting_told s t known.before) s.faults refl (λ i. refl) s.ops (opening_told s known.before))
 
 -- the laws of a calm walk
 abbrev pub RepliesLaw : Type 0
@@ -128,11 +129,11 @@ plain_of s t us left pool log replies same under calm w =
       blocks = w.blocks ∙ u.blocks;
     }
 
-plain_at : (s : Script) (t : Table) (devices : List DeviceInfo) (begun r : Stack) (old new : RigState) → ToldLaw → RepliesLaw → UnderLaw → (o : IsDone s t devices begun r old new) → (us : List Stored) → old.units ≡ Some us → medium_lines r.replies.items ≡ 0 →
-    IsPlainRun s t us → (left : List Stored) × (new.units ≡ Some left) × HasPlain s t us left r.pool r.replies.items
-plain_at s t devices begun r old new law same under o us e unnamed run =
-    let w = walked s t devices begun r old new law o us e unnamed in
-    (w.0, w.1, plain_of s t us w.0 r.pool o.over.goes.more r.replies.items same under (plain_run s t us (bound_at s t devices begun r old new o us e) (bytes_at s t devices begun r old new o us e) run) w.2)
+plain_at : (s : Script) (t : Table) (devices : List DeviceInfo) (begun r : Stack) (old new : RigState) → ToldLaw → RepliesLaw → UnderLaw → (o : IsDone s t devices begun r old new) → (known : KnownBlocks old new) → NoMediumLine r.replies.items →
+    IsPlainRun s t known.before → HasPlain s t known.before known.after r.pool r.replies.items
+plain_at s t devices begun r old new law same under o known unnamed run =
+    plain_of s t known.before known.after r.pool o.over.goes.more r.replies.items same under (plain_run s t known.before (bound_at s t devices begun r old new o known) (bytes_at s t devices begun r old new o known) run)
+    (walked s t devices begun r old new law o known unnamed)
 
 -- the law of reads under scheduled faults
 abbrev pub DetectionLaw : Type 0
@@ -144,27 +145,23 @@ reads_rightly m devices ops opening replies law run same before after owner v n 
     subst (λ (r : List Reply). HasReadRightly m before owner v n body tuples opening r k) (sym (same ∙ ap (λ (all : List Op). script_replies m all opening) is))
     (law m devices before after owner v n k body tuples opening (subst (λ (all : List Op). IsShownRun m devices all opening) is run) l)
 
-shown_at : (s : Script) (t : Table) (devices : List DeviceInfo) (begun r : Stack) (old new : RigState) → ToldLaw → DetectionLaw → (o : IsDone s t devices begun r old new) → (us : List Stored) → old.units ≡ Some us → medium_lines r.replies.items ≡ 0 →
-    IsDetectableRun s t devices us → AllReadRightly (setting_told s t us) s.ops (opening_told s us) r.replies.items
-shown_at s t devices begun r old new law detects o us e unnamed run =
-    let w = walked s t devices begun r old new law o us e unnamed in
-    reads_rightly (setting_told s t us) devices s.ops (opening_told s us) r.replies.items detects
-    (detectable_run s t devices us (devices_at s t devices begun r old new o us e) (bound_at s t devices begun r old new o us e) run) w.2.replies_are
+shown_at : (s : Script) (t : Table) (devices : List DeviceInfo) (begun r : Stack) (old new : RigState) → ToldLaw → DetectionLaw → (o : IsDone s t devices begun r old new) → (known : KnownBlocks old new) → NoMediumLine r.replies.items →
+    IsDetectableRun s t devices known.before → RunReadsRightly s t known.before r.replies.items
+shown_at s t devices begun r old new law detects o known unnamed run =
+    reads_rightly (setting_told s t known.before) devices s.ops (opening_told s known.before) r.replies.items detects
+    (detectable_run s t devices known.before (devices_at s t devices begun r old new o known) (bound_at s t devices begun r old new o known) run) (walked s t devices begun r old new law o known unnamed).replies_are
 
-fell : (s : Script) (t : Table) (devices : List DeviceInfo) (begun r : Stack) (old new : RigState) → FallenLaw → (o : IsDone s t devices begun r old new) → (us : List Stored) → old.units ≡ Some us →
-    (left : List Stored) × (new.units ≡ Some left) × HasFallen s t us left r.pool o.over.goes.more r.replies.items
-fell s t devices begun r old new law o us e =
-    let w = fallen_at s t devices s.schedule begun r old.image new.image (armed_for s old) new law o.over us e in
-    (w.0, w.1.0, w.1.1)
+fell : (s : Script) (t : Table) (devices : List DeviceInfo) (begun r : Stack) (old new : RigState) → FallenLaw → (o : IsDone s t devices begun r old new) → (known : KnownBlocks old new) →
+    HasFallen s t known.before known.after r.pool o.over.goes.more r.replies.items
+fell s t devices begun r old new law o known = fallen_at s t devices s.schedule begun r old.image new.image (armed_for s old) new law o.over (as_armed s old new known)
 
 -- behind the adapter is a target, whose store calls may fail
-names_faults : (s : Script) (t : Table) (devices : List DeviceInfo) (begun r : Stack) (old new : RigState) → FallenLaw → (o : IsDone s t devices begun r old new) → (us : List Stored) → old.units ≡ Some us →
+names_faults : (s : Script) (t : Table) (devices : List DeviceInfo) (begun r : Stack) (old new : RigState) → FallenLaw → (o : IsDone s t devices begun r old new) → (known : KnownBlocks old new) →
     All NamesFaults r.replies.items
-names_faults s t devices begun r old new law o us e =
-    let w = fell s t devices begun r old new law o us e in
-    let f = w.2.fallen in
+names_faults s t devices begun r old new law o known =
+    let f = (fell s t devices begun r old new law o known).fallen in
     subst (λ (replies : List Reply). All NamesFaults replies) (sym f.ends.replies_are)
-    (names-faults (setting_of s t (shapes_of us) (failed_in r.replies.items)) s.faults refl (of_blocks f.ends.falls) 1 (with_flips f.flips 1 s.ops) (hidden (4096 * s.pages) (opening_told s us)))
+    (names-faults (setting_of s t (shapes_of known.before) (failed_in r.replies.items)) s.faults refl (of_blocks f.ends.falls) 1 (with_flips f.flips 1 s.ops) (hidden (4096 * s.pages) (opening_told s known.before)))
 
 -- without overwrites none fails: the replies are those of a walk by the records
 none_failed : (s : Script) (t : Table) (devices : List DeviceInfo) (log : List LogEntry) (replies : List Reply) → list_any is_overwrite s.ops ≡ false → IsBackedBy s t devices log replies → NoneFailed replies
@@ -234,35 +231,46 @@ by_form s t devices us form escape same b bytes p =
           });
     }
 
-formed_at : (s : Script) (t : Table) (devices : List DeviceInfo) (begun r : Stack) (old new : RigState) → ToldLaw → DetectionLaw → FormLaw → EscapeLaw → (o : IsDone s t devices begun r old new) → (us : List Stored) → old.units ≡ Some us →
-    medium_lines r.replies.items ≡ 0 → IsFormedRun s t devices us → AllReadRightly (setting_told s t us) s.ops (opening_told s us) r.replies.items
-formed_at s t devices begun r old new law detects form escape o us e unnamed run =
-    shown_at s t devices begun r old new law detects o us e unnamed
-    (by_form s t devices us form escape (devices_at s t devices begun r old new o us e) (bound_at s t devices begun r old new o us e) (bytes_at s t devices begun r old new o us e) run)
+formed_at : (s : Script) (t : Table) (devices : List DeviceInfo) (begun r : Stack) (old new : RigState) → ToldLaw → DetectionLaw → FormLaw → EscapeLaw → (o : IsDone s t devices begun r old new) → (known : KnownBlocks old new) →
+    NoMediumLine r.replies.items → IsFormedRun s t devices known.before → RunReadsRightly s t known.before r.replies.items
+formed_at s t devices begun r old new law detects form escape o known unnamed run =
+    shown_at s t devices begun r old new law detects o known unnamed
+    (by_form s t devices known.before form escape (devices_at s t devices begun r old new o known) (bound_at s t devices begun r old new o known) (bytes_at s t devices begun r old new o known) run)
 
-fallen_view : (s : Script) (t : Table) (devices : List DeviceInfo) (begun r : Stack) (old new : RigState) → BackedLaw → FallenLaw → ReadsFallLaw → OwnFallLaw → BroughtFallLaw → (o : IsDone s t devices begun r old new) → (us : List Stored) → old.units ≡ Some us → IsQuietRun s t us →
-    (left : List Stored) × (new.units ≡ Some left) × HasServed s t us left r.pool o.over.goes.more r.replies.items
-fallen_view s t devices begun r old new backed law reads own brought o us e quiet =
-    let none = none_failed s t devices o.over.goes.more r.replies.items quiet.overwrites (backed_by s t devices s.schedule begun r old.image new.image (armed_for s old) new backed o.over) in
-    let w = fell s t devices begun r old new law o us e in
-    (w.0, w.1, served s t us w.0 r.pool o.over.goes.more r.replies.items reads own brought (bound_at s t devices begun r old new o us e) (bytes_at s t devices begun r old new o us e) quiet (quiet_ends s t us w.0 r.pool o.over.goes.more r.replies.items quiet.overwrites none w.2))
+served_at : (s : Script) (t : Table) (devices : List DeviceInfo) (begun r : Stack) (old new : RigState) → BackedLaw → FallenLaw → ReadsFallLaw → OwnFallLaw → BroughtFallLaw → (o : IsDone s t devices begun r old new) → (known : KnownBlocks old new) → IsQuietRun s t known.before →
+    HasServed s t known.before known.after r.pool o.over.goes.more r.replies.items
+served_at s t devices begun r old new backed law reads own brought o known quiet =
+    let us = known.before in
+    let more = o.over.goes.more in
+    let none = none_failed s t devices more r.replies.items quiet.overwrites (backed_by s t devices s.schedule begun r old.image new.image (armed_for s old) new backed o.over) in
+    served s t us known.after r.pool more r.replies.items reads own brought (bound_at s t devices begun r old new o known) (bytes_at s t devices begun r old new o known) quiet (quiet_ends s t us known.after r.pool more r.replies.items quiet.overwrites none (fell s t devices begun r old new law o known))
 
-pub followed : (s : Script) (t : Table) (devices : List DeviceInfo) (begun r : Stack) (old new : RigState) → BackedLaw → FewLaw → AllLaw → MediumLaw → ToldLaw → RepliesLaw → UnderLaw → DetectionLaw → FormLaw → EscapeLaw → FallenLaw → ReadsFallLaw → OwnFallLaw → BroughtFallLaw → IsDone s t devices begun r old new → Followed s t devices old new r.pool r.replies.items
-followed s t devices begun r old new backed few all medium told same under detects form escape fallen reads own brought o = record {
+abbrev any_rig : (s : Script) (t : Table) (devices : List DeviceInfo) (begun r : Stack) (old new : RigState) → BackedLaw → FewLaw → AllLaw → MediumLaw → IsDone s t devices begun r old new → OnAnyRig s t devices old new r.replies.items
+any_rig s t devices begun r old new backed few all medium o = record {
   tells = o.over.tells;
+  tells_blocks = still_told old.image new.image old.standing new.standing old.units new.units o.over.laid o.over.laid_after o.over.tells;
   holds = image_holds old new o.over.goes.standing o.some o.over.ready o.over.ready_after o.over.laid_after o.over.tells;
   armed = o.faults;
   goes = record { standing = o.over.goes.standing; more = o.over.goes.more; records = o.over.goes.records; faults = o.over.goes.faults };
   backed = backed_by s t devices s.schedule begun r old.image new.image (armed_for s old) new backed o.over;
   sends = sends_own s [] t o.over.goes.more r.replies.items (sent_by s t devices s.schedule begun r old.image new.image (armed_for s old) new few all o.over);
   medium = few_lines s t devices s.schedule begun r old.image new.image (armed_for s old) new medium o.over;
-  plain = plain_at s t devices begun r old new told same under o;
-  shown = shown_at s t devices begun r old new told detects o;
-  formed = formed_at s t devices begun r old new told detects form escape o;
-  walked = walked s t devices begun r old new told o;
-  named = named s t devices begun r old new told o;
-  fell = fell s t devices begun r old new fallen o;
-  faults = names_faults s t devices begun r old new fallen o;
-  answered = λ us e quiet none calm. answered_by s t devices s.schedule begun r old.image new.image (armed_for s old) new o.over us e quiet none calm;
-  fallen = fallen_view s t devices begun r old new backed fallen reads own brought o;
+}
+
+pub followed : (s : Script) (t : Table) (devices : List DeviceInfo) (begun r : Stack) (old new : RigState) → BackedLaw → FewLaw → AllLaw → MediumLaw → ToldLaw → RepliesLaw → UnderLaw → DetectionLaw → FormLaw → EscapeLaw → FallenLaw → ReadsFallLaw → OwnFallLaw → BroughtFallLaw → IsDone s t devices begun r old new → Followed s t devices old new r.pool r.replies.items
+followed s t devices begun r old new backed few all medium told same under detects form escape fallen reads own brought o = record {
+  any_rig = any_rig s t devices begun r old new backed few all medium o;
+  intact = λ known none. record {
+    walked = walked s t devices begun r old new told o known none;
+    named = named s t devices begun r old new told o known none;
+    plain = plain_at s t devices begun r old new told same under o known none;
+    shown = shown_at s t devices begun r old new told detects o known none;
+    formed = formed_at s t devices begun r old new told detects form escape o known none;
+    answered = answered_by s t devices s.schedule begun r old.image new.image (armed_for s old) new o.over (as_armed s old new known);
+  };
+  failing = λ known. record {
+    fell = fell s t devices begun r old new fallen o known;
+    named = names_faults s t devices begun r old new fallen o known;
+    served = served_at s t devices begun r old new backed fallen reads own brought o known;
+  };
 }

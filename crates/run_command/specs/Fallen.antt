@@ -32,7 +32,8 @@ pub record AllWriteOrFail (m : Setting) (falls : Falls) (ops : List Op) (opening
   pub own : (before after : List Op) (v n k : ℕ) (body : List Seg) (app : ℕ) → ops ≡ before ++ (Write v n body app ∷ after) → k < n → finds_plainly m app ≡ None → IsWrittenOrFails (length before) replies k
   pub brought : (before after : List Op) (v n k : ℕ) (body tuples : List Seg) → ops ≡ before ++ (WritePi v n body tuples ∷ after) → k < n → finds_then m (of_blocks falls) before v body tuples opening k ≡ None → IsWrittenOrFails (length before) replies k
 
--- Replies, pages and stored blocks are those of the script's ops done one after another, but for the store calls that failed, and the records hold what these carry. A block of a read that isn't lost, and one of a write that the plain map accepts, fails at the medium alone.
+-- Replies, pages and stored blocks are those of the script's ops done one after another, but for the store calls that failed, and the records hold what these carry.
+-- A block of a read that isn't lost, and one of a write that the plain map accepts, fails at the medium alone.
 pub record HasServed (script : Script) (table : Table) (us left : List Stored) (pool : List (List ℕ)) (log : List LogEntry) (replies : List Reply) : Type 0 where
   pub ends : EndsAsFalling (setting_told script table us) (PAGE * script.pages) script.ops (opening_told script us) (take (PAGE * script.pages) (flat pool)) (blocks_told left) replies (recorded (setting_told script table us) log)
   pub reads : AllReadOrFail (setting_told script table us) ends.falls script.ops (opening_told script us) replies

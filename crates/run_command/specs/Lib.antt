@@ -1,4 +1,5 @@
 pub mod Fallen
+pub mod Followed
 pub mod Layers
 pub mod Premises
 pub mod Texts

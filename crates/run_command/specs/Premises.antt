@@ -1,4 +1,5 @@
--- What is asked of a script, and of the blocks that a rig tells, before its run is one on a plain map, or names the first layer that checks after a fault. All else that is asked there was seen to when the script was read and bound to its volume.
+-- What is asked of a script, and of the blocks that a rig tells, before its run is one on a plain map, or names the first layer that checks after a fault.
+-- All else that is asked there was seen to when the script was read and bound to its volume.
 use Rattle.std.specs.Prelude.{◌≡◌, true, false, List, []}
 use Rattle.std.specs.List.{list_any}
 use Rattle.pi_tuple.specs.declared.checks.PiType.TheVariants.{One}

@@ -34,7 +34,8 @@ sents_so_far [] = []
 sents_so_far (None ∷ done) = sents_so_far done
 sents_so_far (Some a ∷ done) = put_sent a.sent (sents_so_far done)
 
--- Cells and record are what the moves leave that are done, in whatever order they were, one after another in script order: each answered what it answers there. The setting says what is behind the adapter: over any rig it is a device of which is known what stands on record; over a rig that tells its blocks, the target itself.
+-- Cells and record are what the moves leave that are done, in whatever order they were, one after another in script order: each answered what it answers there.
+-- The setting says what is behind the adapter: over any rig it is a device of which is known what stands on record; over a rig that tells its blocks, the target itself.
 pub record Follows (m : Setting) (n : ℕ) (ops : List Op) (opening : State) (status : ℕ → ℕ → Status) (now : State) (es : List Sent) : Type 0 where
   pub done : List (Option ActAnswer)
   pub stand : AllStand m n 0 1 ops status done

@@ -28,7 +28,9 @@ AllFallen falls status = (i k : ℕ) → IfSome (falls (record { op = i; k = k }
 abbrev pub LeavesSized : (size : ℕ) → Falls → Type 0
 LeavesSized size falls = (label : Label) → IfSome (falls label) (λ left. length left ≡ size)
 
--- Some store calls failed. Over the device on which just these fail the stack follows the walk, with its statuses told so; pages and stored blocks are those there; and what stands on record is told from the record there, each entry of which stands after the write entries before it.
+-- Some store calls failed.
+-- Over the device on which just these fail the stack follows the walk, with its statuses told so; pages and stored blocks are those there;
+-- and what stands on record is told from the record there, each entry of which stands after the write entries before it.
 pub record FollowsFalling (m : Setting) (n : ℕ) (ops : List Op) (opening : State) (status : ℕ → ℕ → Status) (pages : List ℕ) (blocks : List (List ℕ)) (es : List Sent) : Type 0 where
   pub falls : Falls
   pub after : State

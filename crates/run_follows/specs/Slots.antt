@@ -11,7 +11,8 @@ use Rattle.run_laws.specs.ScriptMoves.{lands_in}
 
 -- How far each block of a script is, and which of its moves are done by then.
 
--- A block waits, is admitted with its op, is cut into a piece, is carried, and then it is known what was found of it, and is settled, and then it is known with what it is listed. What is no block of a request is done at once, and then it is known what it shows.
+-- A block waits, is admitted with its op, is cut into a piece, is carried, and then it is known what was found of it, and is settled, and then it is known with what it is listed.
+-- What is no block of a request is done at once, and then it is known what it shows.
 pub data Status : Type 0 where
   Waits : Status
   Admitted : Status

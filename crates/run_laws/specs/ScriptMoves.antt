@@ -14,7 +14,8 @@ use Rattle.whole_run.specs.Steps.{Alters, Reads, Seals, Sets, Shows, Step, Write
 use Rattle.page_pool.specs.declared.TheConstants.{PAGE}
 use Rattle.pi_tuple.specs.declared.TheConstants.{TUPLE}
 
--- The moves of a whole script: what a stack does with each block, move by move. Tuples that the block layer makes or checks lie in private pages behind the script's, each request beginning a fresh one; and each block of a request has a cell for what is found of it.
+-- The moves of a whole script: what a stack does with each block, move by move.
+-- Tuples that the block layer makes or checks lie in private pages behind the script's, each request beginning a fresh one; and each block of a request has a cell for what is found of it.
 
 -- a block by its moves, the act that they are together, and what their answers say together
 pub record ByMoves : Type 0 where

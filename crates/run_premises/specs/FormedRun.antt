@@ -17,7 +17,8 @@ abbrev pub IsOfBytes : FaultKind → Type 0
 IsOfBytes (Flip off bytes) = All (λ x. x < 256) bytes
 IsOfBytes (Shift by) = Unit {0}
 
--- The volume is of type 1, tuples pass all the way, commands have protect field 001b, and blocks have an even number of bytes. What stands in the pages and on the volume is bytes, each block of the volume is clean, and no write supplies an escape. The faults have the form.
+-- The volume is of type 1, tuples pass all the way, commands have protect field 001b, and blocks have an even number of bytes.
+-- What stands in the pages and on the volume is bytes, each block of the volume is clean, and no write supplies an escape. The faults have the form.
 pub record HasFormedFaults (m : Setting) (ops : List Op) (opening : State) : Type 0 where
   pub checked : IsChecked m
   pub even : m.size % 2 ≡ 0

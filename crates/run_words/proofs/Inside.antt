@@ -97,7 +97,7 @@ guides_run : (run : Finished) (s : Script) (name : List ℕ) (old new : RigState
 guides_run run s name old new g h is =
     let same : h.table.entries ≡ g.entries = h.made.entries ∙ sym is.entries in
     let r = run.stack.replies.items in
-    let inside = inside_run s h.table h.devices h.followed.goes.more r h.bound h.followed.backed in
+    let inside = inside_run s h.table h.devices h.followed.any_rig.goes.more r h.bound h.followed.any_rig.backed in
     record {
       table = h.table;
       made = record { devices = h.devices; size = s.block; made = h.made.made };

@@ -6,10 +6,9 @@ use Rattle.dix_base.specs.Told.{Calm}
 use Rattle.answered_record.specs.Answered.{AreAnswersTo}
 use Rattle.stack_ops.specs.Ops.{is_overwrite}
 use Rattle.stack_core.specs.declared.sheet.Sheet.{Sheet}
-use Rattle.std.proofs.lemmas.Option.{none-some}
+use Rattle.std.proofs.lemmas.Bool.{false≢true}
 use Rattle.std.proofs.Math.Seq.{drop-append_seam}
 use Rattle.fault_schedule.specs.declared.fault.FaultLine.{FaultLine}
-use Rattle.target_answer.specs.Image.{units_in}
 use Rattle.target_answer.specs.Target.{Stored}
 use Rattle.rig_api.specs.Log.{LogEntry}
 use Rattle.rig_api.specs.Telling.{IsStanding, Standing, specs_of, units_told}
@@ -31,7 +30,7 @@ use Rattle.stack_core.specs.declared.stack.Stack.{Stack}
 use Rattle.stack_core.proofs.ToldOps.{is_told}
 use Rattle.stack_steps.specs.Does.{Holds}
 use Rattle.stack_view.specs.View.{start}
-use Rattle.script_stack.specs.Followed.{BeginsTold, BeginsWalks, HasWalked, IsBackedBy, SizesAre, begun_of, failed_in, none_fails, setting_of, unit_of, BeginsFalling, HasFallen}
+use Rattle.script_stack.specs.Followed.{BeginsTold, BeginsWalks, HasWalked, IsBackedBy, SizesAre, begun_of, failed_in, none_fails, setting_of, unit_of, BeginsFalling, HasFallen, KnownBlocks, NoMediumLine}
 use Rattle.stack_core.specs.Going.{Went}
 use Rattle.script_stack.specs.Sends.{IsPlanFor, SendsBy, SendsFor, by_words, entries_of}
 use Rattle.script_stack.proofs.Following.{told-shapes, told-stored}
@@ -103,15 +102,20 @@ sent_by s t devices words begun r image image' old new few all o =
     (record { plan = record { is = o.plan.is; queues = o.plan.queues }; first = o.first; stays = o.stays; sent = o.sent; records = o.goes.records; stack = o.stack; ended = o.ended }) m (4096 * s.pages) opening (length old.log) new.standing new.log
     (o.went.walks m (4096 * s.pages) opening (length old.log) (o.walks (failed_in r.replies.items) [] old.standing old.log o.sizes)) refl refl
 
--- Over a rig that tells its units, without faults and overwrites, and where no store call failed, the records are what they answer.
-pub answered_by : (s : Script) (t : Table) (devices : List DeviceInfo) (words : List (ℕ × ℕ)) (begun r : Stack) (image image' : Option (List ℕ)) (old new : RigState) → (o : IsOver s t devices words begun r image image' old new) → (us : List Stored) → old.units ≡ Some us →
-    s.faults ≡ [] → list_any is_overwrite s.ops ≡ false → Calm old.faults new.faults → (left : List Stored) × (new.units ≡ Some left) × AreAnswersTo old.standing us o.goes.more left
-answered_by s t devices words begun r image image' old new o us told quiet none calm =
+-- a rig tells one list of blocks
+pub one_left : (a b : List Stored) → Some a ≡ Some b → a ≡ b
+one_left a b e = cc
+
+-- Over known blocks, without faults and overwrites, and where no store call failed, the records are what the units answer.
+pub answered_by : (s : Script) (t : Table) (devices : List DeviceInfo) (words : List (ℕ × ℕ)) (begun r : Stack) (image image' : Option (List ℕ)) (old new : RigState) → (o : IsOver s t devices words begun r image image' old new) → (known : KnownBlocks old new) →
+    s.faults ≡ [] → list_any is_overwrite s.ops ≡ false → Calm old.faults new.faults → AreAnswersTo old.standing known.before o.goes.more known.after
+answered_by s t devices words begun r image image' old new o known quiet none calm =
     let m = setting_of s t (map unit_of devices) (failed_in r.replies.items) in
     let ops : begun.sheet.ops ≡ s.ops = ap (λ (x : Sheet). x.ops) (sym o.stays.sheet) ∙ o.ops in
-    let x = (o.went.answered m (4096 * s.pages) (begun_of s (map unit_of devices) []) (length old.log) (o.walks (failed_in r.replies.items) [] old.standing old.log o.sizes) (ap (list_any is_overwrite) ops ∙ none) us told (o.armed ∙ quiet) calm).0 in
+    let x = (o.went.answered m (4096 * s.pages) (begun_of s (map unit_of devices) []) (length old.log) (o.walks (failed_in r.replies.items) [] old.standing old.log o.sizes) (ap (list_any is_overwrite) ops ∙ none) known.before known.began (o.armed ∙ quiet) calm).0 in
     let same : x.records ≡ o.goes.more = sym (drop-append_seam old.log x.records) ∙ (ap (drop (length old.log)) (sym x.log) ∙ rest_is s t devices words begun r image image' old new o) in
-    (x.left, x.units, subst (λ es. AreAnswersTo old.standing us es x.left) same x.answered)
+    subst (λ left. AreAnswersTo old.standing known.before o.goes.more left) (one_left x.left known.after (sym x.units ∙ known.ended))
+    (subst (λ es. AreAnswersTo old.standing known.before es x.left) same x.answered)
 
 -- the law of lines that name the medium
 abbrev pub MediumLaw : Type 0
@@ -127,60 +131,64 @@ few_lines s t devices words begun r image image' old new law o =
 
 -- ---- where the rig tells its blocks
 
--- what a rig that told units tells afterwards
-left_told : (image image' : Option (List ℕ)) (st st' : Standing) (units units' : Option (List Stored)) (us : List Stored) → units ≡ Some us → units ≡ units_told st image → units' ≡ units_told st' image' → is_some image' ≡ is_some image →
-    (left : List Stored) × (units' ≡ Some left)
-left_told None image' st st' units units' us e l l' t = absurd (none-some us (sym l ∙ e))
-left_told (Some bytes) None st st' units units' us e l l' t = absurd (cc)
-left_told (Some bytes) (Some bytes') st st' units units' us e l l' t = (units_in (specs_of st') bytes', l')
+-- a rig that tells its image afterwards exactly where it did before tells its blocks so
+pub still_told : (image image' : Option (List ℕ)) (st st' : Standing) (units units' : Option (List Stored)) → units ≡ units_told st image → units' ≡ units_told st' image' → is_some image' ≡ is_some image → is_some units' ≡ is_some units
+still_told None None st st' units units' l l' t = rw (l, l') refl
+still_told None (Some bytes') st st' units units' l l' t = absurd (cc)
+still_told (Some bytes) None st st' units units' l l' t = absurd (cc)
+still_told (Some bytes) (Some bytes') st st' units units' l l' t = rw (l, l') refl
 
--- What is known where the rig told these units: the script is bound to its volume over their shapes, and its stack begins with their blocks.
-pub record IsTold (s : Script) (t : Table) (devices : List DeviceInfo) (us : List Stored) (begun : Stack) (old new : RigState) : Type 0 where
+-- so one that told these blocks tells some afterwards
+pub tells_some : (o o' : Option (List Stored)) (us : List Stored) → is_some o' ≡ is_some o → o ≡ Some us → (left : List Stored) × (o' ≡ Some left)
+tells_some o None us t e = absurd (false≢true (t ∙ ap is_some e))
+tells_some o (Some left) us t e = (left, refl)
+
+abbrev pub known_from : (old new : RigState) → is_some new.units ≡ is_some old.units → (us : List Stored) → old.units ≡ Some us → KnownBlocks old new
+known_from old new tells us e = record { before = us; after = (tells_some old.units new.units us tells e).0; began = e; ended = (tells_some old.units new.units us tells e).1 }
+
+-- What is known over known blocks: the script is bound to its volume over their shapes, and its stack begins with them.
+pub record IsTold (s : Script) (t : Table) (devices : List DeviceInfo) (us left : List Stored) (begun : Stack) (old new : RigState) : Type 0 where
   pub infos : devices ≡ map info_of (shapes_of us)
   pub made : MadeFor t (map info_of (shapes_of us)) s.block
   pub bound : binding_fault s t (map info_of (shapes_of us)) ≡ None
   pub stored : AreStored us
   pub begins_falling : (fails : ℕ → Bool) → WalksFalling (setting_of s t (shapes_of us) fails) (4096 * s.pages) (begun_of s (shapes_of us) (blocks_told us)) (length old.log) begun old.units old.armed old.standing old.log
-  pub left : List Stored
-  pub left_are : new.units ≡ Some left
   pub same : shapes_of left ≡ shapes_of us
 
-pub told_at : (s : Script) (t : Table) (devices : List DeviceInfo) (words : List (ℕ × ℕ)) (begun r : Stack) (image image' : Option (List ℕ)) (old new : RigState) → IsOver s t devices words begun r image image' old new → (us : List Stored) → old.units ≡ Some us → IsTold s t devices us begun old new
-told_at s t devices words begun r image image' old new o us e =
-    let after = left_told image image' old.standing new.standing old.units new.units us e o.laid o.laid_after o.tells in
-    let told : units_told old.standing image ≡ Some us = sym o.laid ∙ e in
-    let told' : units_told new.standing image' ≡ Some after.0 = sym o.laid_after ∙ after.1 in
+pub told_at : (s : Script) (t : Table) (devices : List DeviceInfo) (words : List (ℕ × ℕ)) (begun r : Stack) (image image' : Option (List ℕ)) (old new : RigState) → IsOver s t devices words begun r image image' old new → (known : KnownBlocks old new) → IsTold s t devices known.before known.after begun old new
+told_at s t devices words begun r image image' old new o known =
+    let us = known.before in
+    let told : units_told old.standing image ≡ Some us = sym o.laid ∙ known.began in
+    let told' : units_told new.standing image' ≡ Some known.after = sym o.laid_after ∙ known.ended in
     let shapes : shapes_of us ≡ specs_of old.standing = told-shapes old.standing image us told o.ready in
-    let shapes' : shapes_of after.0 ≡ specs_of new.standing = told-shapes new.standing image' after.0 told' o.ready_after in
-    let known : devices ≡ map info_of (specs_of old.standing) = o.known (is_told old.standing image us told) in
-    let infos : devices ≡ map info_of (shapes_of us) = known ∙ ap (map info_of) (sym shapes) in
+    let shapes' : shapes_of known.after ≡ specs_of new.standing = told-shapes new.standing image' known.after told' o.ready_after in
+    let specs : devices ≡ map info_of (specs_of old.standing) = o.known (is_told old.standing image us told) in
+    let infos : devices ≡ map info_of (shapes_of us) = specs ∙ ap (map info_of) (sym shapes) in
     record {
       infos = infos;
       made = subst (λ ds. MadeFor t ds s.block) infos o.made;
       bound = subst (λ ds. binding_fault s t ds ≡ None) infos o.bound;
       stored = told-stored old.standing image us told o.ready;
-      begins_falling = λ fails. rw (e, o.armed) (o.falling fails us old.standing old.log known shapes);
-      left = after.0;
-      left_are = after.1;
+      begins_falling = λ fails. rw (known.began, o.armed) (o.falling fails us old.standing old.log specs shapes);
       same = shapes' ∙ ap specs_of o.goes.standing ∙ sym shapes;
     }
 
-pub walked_at : (s : Script) (t : Table) (devices : List DeviceInfo) (words : List (ℕ × ℕ)) (begun r : Stack) (image image' : Option (List ℕ)) (old new : RigState) → ToldLaw → (o : IsOver s t devices words begun r image image' old new) → (us : List Stored) → old.units ≡ Some us → medium_lines r.replies.items ≡ 0 →
-    (left : List Stored) × ((new.units ≡ Some left) × HasWalked s t us left r.pool o.goes.more r.replies.items)
-walked_at s t devices words begun r image image' old new law o us e none =
-    let told = told_at s t devices words begun r image image' old new o us e in
+pub walked_at : (s : Script) (t : Table) (devices : List DeviceInfo) (words : List (ℕ × ℕ)) (begun r : Stack) (image image' : Option (List ℕ)) (old new : RigState) → ToldLaw → (o : IsOver s t devices words begun r image image' old new) → (known : KnownBlocks old new) → NoMediumLine r.replies.items →
+    HasWalked s t known.before known.after r.pool o.goes.more r.replies.items
+walked_at s t devices words begun r image image' old new law o known none =
+    let us = known.before in
+    let told = told_at s t devices words begun r image image' old new o known in
     let ends = o.went.falling (setting_of s t (shapes_of us) none_fails) (4096 * s.pages) (begun_of s (shapes_of us) (blocks_told us)) (length old.log) (told.begins_falling none_fails) in
-    let ends' : WalksFalling (setting_of s t (shapes_of us) none_fails) (4096 * s.pages) (begun_of s (shapes_of us) (blocks_told us)) (length old.log) r (Some told.left) new.armed new.standing new.log = rw told.left_are at ends in
-    let walked : HasWalked s t us told.left r.pool (drop (length old.log) new.log) r.replies.items =
-    law s t us told.left (length old.log) r new.armed new.standing new.log o.suits o.lines told.made told.bound told.stored told.same o.stack o.ops none ends' o.ended in
-    (told.left, (told.left_are, subst (λ (more : List LogEntry). HasWalked s t us told.left r.pool more r.replies.items) (rest_is s t devices words begun r image image' old new o) walked))
+    let ends' : WalksFalling (setting_of s t (shapes_of us) none_fails) (4096 * s.pages) (begun_of s (shapes_of us) (blocks_told us)) (length old.log) r (Some known.after) new.armed new.standing new.log = rw known.ended at ends in
+    subst (λ (more : List LogEntry). HasWalked s t us known.after r.pool more r.replies.items) (rest_is s t devices words begun r image image' old new o)
+    (law s t us known.after (length old.log) r new.armed new.standing new.log o.suits o.lines told.made told.bound told.stored told.same o.stack o.ops none ends' o.ended)
 
-pub fallen_at : (s : Script) (t : Table) (devices : List DeviceInfo) (words : List (ℕ × ℕ)) (begun r : Stack) (image image' : Option (List ℕ)) (old new : RigState) → FallenLaw → (o : IsOver s t devices words begun r image image' old new) → (us : List Stored) → old.units ≡ Some us →
-    (left : List Stored) × ((new.units ≡ Some left) × HasFallen s t us left r.pool o.goes.more r.replies.items)
-fallen_at s t devices words begun r image image' old new law o us e =
-    let told = told_at s t devices words begun r image image' old new o us e in
+pub fallen_at : (s : Script) (t : Table) (devices : List DeviceInfo) (words : List (ℕ × ℕ)) (begun r : Stack) (image image' : Option (List ℕ)) (old new : RigState) → FallenLaw → (o : IsOver s t devices words begun r image image' old new) → (known : KnownBlocks old new) →
+    HasFallen s t known.before known.after r.pool o.goes.more r.replies.items
+fallen_at s t devices words begun r image image' old new law o known =
+    let us = known.before in
+    let told = told_at s t devices words begun r image image' old new o known in
     let ends = o.went.falling (setting_of s t (shapes_of us) (failed_in r.replies.items)) (4096 * s.pages) (begun_of s (shapes_of us) (blocks_told us)) (length old.log) (told.begins_falling (failed_in r.replies.items)) in
-    let ends' : WalksFalling (setting_of s t (shapes_of us) (failed_in r.replies.items)) (4096 * s.pages) (begun_of s (shapes_of us) (blocks_told us)) (length old.log) r (Some told.left) new.armed new.standing new.log = rw told.left_are at ends in
-    let fallen : HasFallen s t us told.left r.pool (drop (length old.log) new.log) r.replies.items =
-    law s t us told.left (length old.log) r new.armed new.standing new.log o.suits o.lines told.made told.bound told.stored told.same o.stack o.ops ends' o.ended in
-    (told.left, (told.left_are, subst (λ (more : List LogEntry). HasFallen s t us told.left r.pool more r.replies.items) (rest_is s t devices words begun r image image' old new o) fallen))
+    let ends' : WalksFalling (setting_of s t (shapes_of us) (failed_in r.replies.items)) (4096 * s.pages) (begun_of s (shapes_of us) (blocks_told us)) (length old.log) r (Some known.after) new.armed new.standing new.log = rw known.ended at ends in
+    subst (λ (more : List LogEntry). HasFallen s t us known.after r.pool more r.replies.items) (rest_is s t devices words begun r image image' old new o)
+    (law s t us known.after (length old.log) r new.armed new.standing new.log o.suits o.lines told.made told.bound told.stored told.same o.stack o.ops ends' o.ended)

@@ -31,7 +31,8 @@ pub record IsBoundTo (s : Script) (t : Table) (devices : List DeviceInfo) : Type
 abbrev pub setup_of : Script → Table → Setup
 setup_of s t = record { table = t; mode = s.mode; limits = s.limits; pages = s.pages; faults = s.faults }
 
--- The run of a script, none of whose ops has begun, over a volume of these devices: a new stack for its ops, with the plan of its requests, and its schedule. The stack follows the script's walk from a rig's next record on, and nothing has failed at the medium.
+-- The run of a script, none of whose ops has begun, over a volume of these devices: a new stack for its ops, with the plan of its requests, and its schedule.
+-- The stack follows the script's walk from a rig's next record on, and nothing has failed at the medium.
 pub record Begins (s : Script) (t : Table) (devices : List DeviceInfo) (r : Run) : Type 0 where
   pub stack : IsStack r.stack
   pub is : IsSetUp (setup_of s t) s.ops r.stack

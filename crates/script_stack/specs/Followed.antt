@@ -1,5 +1,5 @@
 -- What a script's run comes to, by its records and, where a rig tells its blocks, by these.
-use Rattle.std.specs.Prelude.{◌≡◌, ℕ, zero, suc, ◌*◌, ◌<◌, ◌≤◌, Bool, false, List, [], ◌++◌, length, get_or, map, replicate, take, None, Some}
+use Rattle.std.specs.Prelude.{◌≡◌, ℕ, zero, suc, ◌*◌, ◌<◌, ◌≤◌, Bool, false, List, [], ◌++◌, length, get_or, is_some, map, replicate, take, None, Some}
 use Rattle.page_pool.specs.Cells.{flat}
 use Rattle.target_answer.specs.Target.{Stored}
 use Rattle.target_answer.specs.declared.units.UnitSpec.{UnitSpec}
@@ -104,20 +104,40 @@ BeginsFalling s t devices r = (fails : ℕ → Bool) (us : List Stored) (st : St
 
 -- ---- at the end
 
--- A script was run by these words over a rig, to a volume of whose devices it was bound: all ops of its stack have ended. The rig stands as it did, and its count of faults didn't fall. The records from then on back the replies, and are those that its steps send by these words; lines that name the medium are at most as many as the count rose. Where the rig tells its blocks, and no line names the medium, the script's ops were done one after another at the target; and whatever lines name it, so they were but for what the store calls that failed left.
-pub record Ran (s : Script) (t : Table) (devices : List DeviceInfo) (words : List (ℕ × ℕ)) (before after : RigState) (r : Stack) : Type 0 where
+-- A rig tells its blocks: these before a run, and those after it.
+pub record KnownBlocks (old new : RigState) : Type 0 where
+  pub before : List Stored
+  pub after : List Stored
+  pub began : old.units ≡ Some before
+  pub ended : new.units ≡ Some after
+
+-- No line of the report names the medium: no block is listed with it, and no overwrite replied that it failed.
+abbrev pub NoMediumLine : List Reply → Type 0
+NoMediumLine replies = medium_lines replies ≡ 0
+
+-- A script was run by these words over a rig, to a volume of whose devices it was bound.
+pub record Ran (s : Script) (t : Table) (devices : List DeviceInfo) (words : List (ℕ × ℕ)) (old new : RigState) (r : Stack) : Type 0 where
+  -- All ops of its stack have ended, and what no step changes is the script's.
   pub stack : IsStack r
   pub ops : r.sheet.ops ≡ s.ops
   pub ios : r.sheet.ios.items ≡ requests_from s.mode.dix s.pages s.ops
   pub mode : mode_of r.adapter ≡ s.mode
   pub armed : r.adapter.tamper ≡ s.faults
   pub ended : IsFinished r
-  pub standing : after.standing ≡ before.standing
-  pub faults : before.faults ≤ after.faults
+  -- The rig stands as it did, its count of faults didn't fall, and its log has grown by these records.
+  pub standing : new.standing ≡ old.standing
+  pub faults : old.faults ≤ new.faults
   pub more : List LogEntry
-  pub records : after.log ≡ before.log ++ more
+  pub records : new.log ≡ old.log ++ more
+  -- The rig tells its blocks afterwards exactly where it did before.
+  pub tells_blocks : is_some new.units ≡ is_some old.units
+  -- The records back the replies.
   pub backed : IsBackedBy s t devices more r.replies.items
+  -- They are those that its steps send by these words.
   pub sends : SendsFor (by_words s words) t more r.replies.items
-  pub medium : RoseBy (medium_lines r.replies.items) before.faults after.faults
-  pub told : (us : List Stored) → before.units ≡ Some us → medium_lines r.replies.items ≡ 0 → (left : List Stored) × ((after.units ≡ Some left) × HasWalked s t us left r.pool more r.replies.items)
-  pub fallen : (us : List Stored) → before.units ≡ Some us → (left : List Stored) × ((after.units ≡ Some left) × HasFallen s t us left r.pool more r.replies.items)
+  -- Lines that name the medium are at most as many as the count of faults rose.
+  pub medium : RoseBy (medium_lines r.replies.items) old.faults new.faults
+  -- Over known blocks, where no line names the medium, the script's ops were done one after another at the target.
+  pub walked : (known : KnownBlocks old new) → NoMediumLine r.replies.items → HasWalked s t known.before known.after r.pool more r.replies.items
+  -- Over known blocks, whatever lines name it, so they were but for what the store calls that failed left.
+  pub fell : (known : KnownBlocks old new) → HasFallen s t known.before known.after r.pool more r.replies.items

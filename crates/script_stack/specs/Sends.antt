@@ -34,7 +34,10 @@ pub record IsPlanFor (s : Script) (t : Table) (p : Plan) : Type 0 where
   pub is : p ≡ plan_for s t p.devices
   pub queues : HasQueues p
 
--- The records of a run are at most as many as its requests have blocks. Each is of a READ or WRITE in the form that the script's mode and the volume's type call for, and, whichever blocks are listed, of blocks of its requests, where these lie and with their labels. Where the replies list no block they are, in order and one for one, those of the groups that are sent where all blocks are good; so where besides no entry of the schedule cuts, they are at most as many as the greatest pieces of the requests.
+-- The records of a run are at most as many as its requests have blocks.
+-- Each is of a READ or WRITE in the form that the script's mode and the volume's type call for, and, whichever blocks are listed, of blocks of its requests, where these lie and with their labels.
+-- Where the replies list no block they are, in order and one for one, those of the groups that are sent where all blocks are good;
+-- so where besides no entry of the schedule cuts, they are at most as many as the greatest pieces of the requests.
 pub record SendsFor (s : Script) (t : Table) (log : List Record) (replies : List Reply) : Type 0 where
   pub plan : Plan
   pub is_plan : IsPlanFor s t plan

@@ -8,7 +8,8 @@ use Rattle.sense_codes.specs.declared.decode.SenseFault.TheVariants.{Short, Form
 abbrev pub fixed : ℕ → ℕ → Sense → List ℕ
 fixed response info s = response ∷ 0 ∷ s.key ∷ (to_be_bytes w32 info ++ (0x0A ∷ 0 ∷ 0 ∷ 0 ∷ 0 ∷ s.asc ∷ s.ascq ∷ 0 ∷ 0 ∷ 0 ∷ 0 ∷ []))
 
--- descriptor format, 20 bytes: response code 72h; sense key; ASC; ASCQ; three bytes of 0; additional sense length 0Ch (SPC-4, 4.5.2.1). Then the information descriptor: type 00h, additional length 0Ah, VALID in bit 7, a byte of 0, INFORMATION in 8 bytes (SPC-4, 4.5.2.2)
+-- descriptor format, 20 bytes: response code 72h; sense key; ASC; ASCQ; three bytes of 0; additional sense length 0Ch (SPC-4, 4.5.2.1).
+-- Then the information descriptor: type 00h, additional length 0Ah, VALID in bit 7, a byte of 0, INFORMATION in 8 bytes (SPC-4, 4.5.2.2)
 abbrev pub descriptor : ℕ → Sense → List ℕ
 descriptor info s = 0x72 ∷ s.key ∷ s.asc ∷ s.ascq ∷ 0 ∷ 0 ∷ 0 ∷ 0x0C ∷ 0 ∷ 0x0A ∷ 0x80 ∷ 0 ∷ to_be_bytes w64 info
 

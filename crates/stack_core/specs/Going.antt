@@ -20,7 +20,9 @@ pub record StandsOver (s : Stack) (rig : RigState) : Type 0 where
   pub reaches : Reaches s (is_some rig.image) rig.standing
   pub spare : HasSpare s rig.standing rig.room
 
--- A stack that follows the walk by what stands on record still does. So does one that follows it at the target while the count of faults doesn't rise; and then no overwrite fails. Whether or not it rises, so does one that follows it where store calls may fail; and what failed at the medium is still at most as much as the count rose. Where no op overwrites a stored block, the records of a stack that follows the walk are what the rig's units answer.
+-- A stack that follows the walk by what stands on record still does. So does one that follows it at the target while the count of faults doesn't rise; and then no overwrite fails.
+-- Whether or not it rises, so does one that follows it where store calls may fail; and what failed at the medium is still at most as much as the count rose.
+-- Where no op overwrites a stored block, the records of a stack that follows the walk are what the rig's units answer.
 pub record Went (old : Stack) (before : RigState) (new : Stack) (after : RigState) : Type 0 where
   pub walks : (m : Setting) (n : ℕ) (opening : State) (first : ℕ) → Walks m n opening first old before.standing before.log → Walks m n opening first new after.standing after.log
   pub told : (m : Setting) (n : ℕ) (opening : State) (first : ℕ) → WalksTold m n opening first old before.units before.armed before.standing before.log → Calm before.faults after.faults

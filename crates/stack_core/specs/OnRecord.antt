@@ -71,7 +71,8 @@ AreOnRecord (c ∷ cs) (e ∷ es) = (IsRecordOf (sent c) e × AreOnRecord cs es)
 
 -- ---- forms
 
--- READ or WRITE of these blocks in the form that units of this type and the mode call for: of 32 bytes in type 2 with a protect field that isn't 0, else of 10 bytes where they reach, else of 16. The protect field is the mode's where tuples travel to the target, else 0; in the form of 32 bytes the address is the expected reference tag.
+-- READ or WRITE of these blocks in the form that units of this type and the mode call for: of 32 bytes in type 2 with a protect field that isn't 0, else of 10 bytes where they reach, else of 16.
+-- The protect field is the mode's where tuples travel to the target, else 0; in the form of 32 bytes the address is the expected reference tag.
 abbrev pub command_by : Mode → PiType → Dir2 → (lba n : ℕ) → Cdb
 command_by mode ty dir lba n = chosen ty dir lba n (if mode.dif && not (is_zero ty) then mode.protect else 0) mode.app mode.mask
 

@@ -150,7 +150,8 @@ pub record IsOver (m : Setting) (n : ℕ) (opening : State) (sheet : Sheet) (a :
   pub faults : m.site.faults ≡ a.tamper
   pub seals : (i : ℕ) → i < length sheet.ops → IsSealed m (op_in sheet.ops i)
 
--- A stack of this plan, with these data, that shows this view follows the walk of its script over a setting, with these entries and ends on record: its pages are those of the walk's state; each op that has ended has its reply, which says of an overwrite whether it failed, and each other one the room for it.
+-- A stack of this plan, with these data, that shows this view follows the walk of its script over a setting, with these entries and ends on record: its pages are those of the walk's state;
+-- each op that has ended has its reply, which says of an overwrite whether it failed, and each other one the room for it.
 pub record Follow (course : Course) (over : Setting) (n : ℕ) (opening : State) (es : List Sent) (p : Plan) (ops : List Op) (d : Data) (v : View) (now : State) : Type 0 where
   pub bytes : now.bytes ≡ flat d.pool
   pub whole : AreWhole d.pool

@@ -28,7 +28,9 @@ is_one One = true
 is_one Two = false
 is_one Three = false
 
--- What is asked of a tuple. The guard, but under protect field 011b; the reference tag under 001b, and of a stored block of type 1 under 000b too; under 001b in type 2 also the application tag in the command's mask (SBC-3, 4.22.4 and the RDPROTECT and WRPROTECT tables).
+-- What is asked of a tuple.
+-- The guard, but under protect field 011b; the reference tag under 001b, and of a stored block of type 1 under 000b too;
+-- under 001b in type 2 also the application tag in the command's mask (SBC-3, 4.22.4 and the RDPROTECT and WRPROTECT tables).
 abbrev pub asked_of : Passage → Checks
 asked_of b = record {
   guard = not (eqb b.protect 3);

@@ -36,14 +36,14 @@ enough old new more first n e h m = let l = ap length h ∙ length-append old mo
 
 -- those of a run
 abbrev run_more : (run : Finished) (script : Script) (name : List ℕ) (old new : RigState) → HasRun run script name old new → List LogEntry
-run_more run script name old new r = looks r.asked.told.between.standing 0 r.asked.told.found.answers ++ r.followed.goes.more
+run_more run script name old new r = looks r.asked.told.between.standing 0 r.asked.told.found.answers ++ r.followed.any_rig.goes.more
 
 run_log : (run : Finished) (script : Script) (name : List ℕ) (old new : RigState) (r : HasRun run script name old new) → new.log ≡ old.log ++ run_more run script name old new r
 run_log run script name old new r =
     let told = r.asked.told in
     let asks : List LogEntry = looks told.between.standing 0 told.found.answers in
     let asked : r.told.log ≡ old.log ++ asks = told.found.log ∙ ap (λ v. v ++ asks) told.since.kept.log in
-    r.followed.goes.records ∙ ap (λ v. v ++ r.followed.goes.more) asked ∙ append_assoc old.log asks r.followed.goes.more
+    r.followed.any_rig.goes.records ∙ ap (λ v. v ++ r.followed.any_rig.goes.more) asked ∙ append_assoc old.log asks r.followed.any_rig.goes.more
 
 logged : (p : Played) (f : Facts) → HasPlayed p f → AreLogged p f.rig_after.log
 logged (played.Listed lines first) f h =

@@ -49,7 +49,7 @@ stopped refusal.Memory script name old new c = short name old new c
 stopped r script name old new c = untold r name old new c
 
 ran : (run : Finished) (script : Script) (name : List ℕ) (old new : RigState) → HasRun run script name old new → Goes name old new
-ran run script name old new r = on_from name old r.asked.told.between r.told new r.asked.told.since r.followed.goes.standing r.followed.goes.faults
+ran run script name old new r = on_from name old r.asked.told.between r.told new r.asked.told.since r.followed.any_rig.goes.standing r.followed.any_rig.goes.faults
 
 ready : (name : List ℕ) (old between new : RigState) → IsReady name old between → new.standing ≡ between.standing → between.faults ≤ new.faults → Goes name old new
 ready name old between new r s n = (opened_by name old.standing between.standing new.standing r.opened.opened s, omega (arith, n, r.count))

@@ -77,7 +77,8 @@ ScriptIsComplete r f =
     (text image : List ℕ) (script : Script) → f.left ≡ Some text → is_list (lines_of text) ≡ false → script_in text ≡ Ok script → unplayed script ≡ None → f.rig.image ≡ Some image → head_fault (head_of image) ≡ None →
     table_fault script.entries (devices_of image) script.block ≡ None → binding_fault script (table_over script.entries (devices_of image)) (devices_of image) ≡ None → Calm f.reads f.reads_after → IsFromOutside r
 
--- What a call comes to: the commands of its text were done, with the number of the first of their records; or why not. The records that the rig had are there still, and those behind them are the call's. The rig is opened at most once, by the name, and no count falls. Where nothing is at fault in text and image, want of memory alone refuses, or a fault of the rig as the image is opened.
+-- What a call comes to: the commands of its text were done, with the number of the first of their records; or why not. The records that the rig had are there still, and those behind them are the call's.
+-- The rig is opened at most once, by the name, and no count falls. Where nothing is at fault in text and image, want of memory alone refuses, or a fault of the rig as the image is opened.
 pub record HasCome (result : Result Played Refusal) (f : Facts) : Type 0 where
   pub verdict : MatchResult result (λ p. HasPlayed p f) (λ r. CauseNotPlayed r f)
   pub logged : IfOk result (λ p. AreLogged p f.rig_after.log)

@@ -8,9 +8,12 @@ use Rattle.dix_adapter.specs.Groups.{mode_of}
 use Rattle.dix_adapter.specs.declared.adapter.Adapter.{Adapter}
 use Rattle.stack_core.specs.Mediums.{RoseBy, medium_lines}
 use Rattle.stack_core.specs.declared.sheet.Sheet.{Sheet}
-use Rattle.script_stack.specs.Followed.{SizesAre}
-use Rattle.script_stack.proofs.Ended.{IsOver, backed_by, fallen_at, few_lines, sent_by, walked_at}
+use Rattle.script_stack.specs.Followed.{KnownBlocks, SizesAre}
+use Rattle.script_stack.proofs.Ended.{IsOver, backed_by, fallen_at, few_lines, sent_by, still_told, walked_at}
 use Rattle.script_stack.proofs.whole.run_bound.Goals as goal
+
+abbrev is_known : (old new : RigState) (us left : List Stored) → old.units ≡ Some us → new.units ≡ Some left → KnownBlocks old new
+is_known old new us left e f = record { before = us; after = left; began = e; ended = f }
 
 pub returns-clause-ran : goal.returns-clause-ran
 returns-clause-ran g c =
@@ -57,7 +60,7 @@ returns-clause-ran g c =
       counted = c.run_all.ensures.went.counts (g.R.Rig.state ready).faults (begins.counted (g.R.Rig.state ready).faults);
       sent = c.run_all.ensures.sends;
     } in
-    let units-ready = λ (us : List Stored) (e : (g.R.Rig.state asked).units ≡ Some us). (ap (λ (x : RigState). x.units) armed ∙ e) in
+    let since = λ (known : KnownBlocks (g.R.Rig.state asked) after). is_known before after known.before known.after (ap (λ (x : RigState). x.units) armed ∙ known.began) known.ended in
     record {
       stack = o.stack;
       ops = o.ops;
@@ -72,8 +75,9 @@ returns-clause-ran g c =
       backed = backed_by s t devices words begun r (g.R.Rig.state ready).image (g.R.Rig.state end).image before after c.a_script_run_is_backed.ensures o;
       sends = sent_by s t devices words begun r (g.R.Rig.state ready).image (g.R.Rig.state end).image before after c.a_finished_stack_has_sent.ensures.few c.a_finished_stack_has_sent.ensures.all o;
       medium = subst (λ n. RoseBy (medium_lines r.replies.items) n (g.R.Rig.state end).faults) count (few_lines s t devices words begun r (g.R.Rig.state ready).image (g.R.Rig.state end).image before after c.a_finished_stack_names_the_medium_seldom.ensures o);
-      told = λ us e none. walked_at s t devices words begun r (g.R.Rig.state ready).image (g.R.Rig.state end).image before after c.a_told_script_run_has_walked.ensures o us (units-ready us e) none;
-      fallen = λ us e. fallen_at s t devices words begun r (g.R.Rig.state ready).image (g.R.Rig.state end).image before after c.a_told_script_run_has_fallen.ensures o us (units-ready us e);
+      tells_blocks = still_told (g.R.Rig.state ready).image (g.R.Rig.state end).image before.standing after.standing before.units after.units o.laid o.laid_after o.tells ∙ ap (λ (x : RigState). is_some x.units) armed;
+      walked = λ known none. walked_at s t devices words begun r (g.R.Rig.state ready).image (g.R.Rig.state end).image before after c.a_told_script_run_has_walked.ensures o (since known) none;
+      fell = λ known. fallen_at s t devices words begun r (g.R.Rig.state ready).image (g.R.Rig.state end).image before after c.a_told_script_run_has_fallen.ensures o (since known);
     }
 
 pub returns-clause-tells : goal.returns-clause-tells
