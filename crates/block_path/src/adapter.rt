@@ -11,7 +11,7 @@ ghost use Rattle.integrity_payload.specs.Payloads.{all_asked};
 ghost use Rattle.pi_tuple.specs.Finds.{own_tag};
 ghost use Rattle.target_answer.specs.Frames.{data_of, frame_of, tuple_of};
 ghost use Rattle.target_answer.specs.Passing.{unless};
-ghost use Rattle.block_path.specs.Routes.{converted, field, host_finding, host_size, host_type, passes_tuples, wire_size, with_guard};
+ghost use Rattle.block_path.specs.Routes.{converted, host_finding, host_size, host_type, passes_tuples, wire_size, with_guard};
 ghost use Rattle.block_path.specs.Operations.{IsHandedOn};
 ghost use Rattle.block_path.specs.WayIn.{adapter_finds_in, from_wire};
 ghost use Rattle.block_path.specs.WayOut.{adapter_finds_out, to_wire};
@@ -60,13 +60,6 @@ impl Route {
         ensures { result ≡ passes_tuples self.now }
     {
         self.mode.passes_tuples(self.ty)
-    }
-
-    /// The protect field of the command that carries the block: that of the mode, and 0 where no tuples travel.
-    pub fn field(&self) -> u8
-        ensures { result ≡ field self.now }
-    {
-        self.mode.field(self.ty)
     }
 
     fn checks(&self) -> Checks

@@ -1,15 +1,13 @@
 //! A script on a mirror, op by op.
 
-ghost use Rattle.std.specs.Prelude.{IfErr, IfOk, IsTrue, List, Ok, [], false, is_err, length, replicate, true, ◌+◌, ◌<◌, ◌↔◌, ◌≡◌};
-ghost use Rattle.mirror_walk.specs.Mirror.{fresh};
-ghost use Rattle.page_pool.specs.Pages.{IsBlank};
+ghost use Rattle.std.specs.Prelude.{IfErr, IfOk, IsTrue, List, Ok, [], false, is_err, length, true, ◌+◌, ◌<◌, ◌↔◌, ◌≡◌};
 ghost use Rattle.mirror_volume.specs.Helds.{none_mended, so_far};
 ghost use Rattle.mirror_volume.specs.Plans.{IsMirror, sides_of};
 ghost use Rattle.mirror_volume.specs.Running.{CanGoOn, CanRun, DidNext, HasRun};
 ghost use Rattle.target_answer.specs.Target.{Stored};
 ghost use Rattle.leg_runs.specs.OnOps.{RanOp, whole_request};
 ghost use Rattle.leg_runs.specs.Mending.{IsRepairOf, RepairBy, stretches_in};
-ghost use Rattle.leg_runs.specs.Standing.{IsBoundMirror, RepairsAsWalk, StandsAt, half_of, op_at};
+ghost use Rattle.leg_runs.specs.Standing.{IsBoundMirror, RepairsAsWalk, StandsAt, op_at};
 
 use crate::legs::{Plan, table_of};
 use crate::marks::FRESH;
@@ -59,31 +57,6 @@ pub(crate) fn whole_request(op: u32, v: u64, n: u32) -> Piece
     }
 }
 
-/// The blocks of a leg of the mirror, and what its ops begin on: pages of zeros, and all blocks fresh on both legs.
-fn beginning(
-    alloc: Global,
-    script: &Script,
-    devices: &[DeviceInfo],
-) -> Result<(u64, State), AllocError>
-    requires { IsBoundMirror script.now devices.now }
-    ensures half { IfOk result (λ b. b.0 ≡ half_of script.now devices.now) }
-    ensures pages { IfOk result (λ b. IsBlank script.now.pages b.1.pool) }
-    ensures marks { IfOk result (λ b. b.1.marks.items ≡ replicate (half_of script.now devices.now) fresh) }
-    ensures unused { IfOk result (λ b. b.1.used ≡ 0) }
-{
-    let half = table_of(alloc, script, devices)?.len() / 2;
-    let pool = PagePool::new(alloc, script.pages)?;
-    let marks = vec![in alloc; FRESH; half as usize]?;
-    Ok((
-        half,
-        State {
-            pool,
-            marks,
-            used: 0,
-        },
-    ))
-}
-
 impl Mirror {
     /// The mirror of a script that is bound to it over these devices: none of its ops is done, and all blocks are fresh on
     /// both legs. Its one failure is want of memory.
@@ -101,7 +74,9 @@ impl Mirror {
         ensures unused { IfOk result (λ r. r.state.used ≡ 0) }
         ensures told { IfOk result (λ r. (us : List Stored) → StandsAt script devices.items us (sides_of r) [] us) }
     {
-        let (half, state) = beginning(alloc, &script, devices.as_slice())?;
+        let half = table_of(alloc, &script, devices.as_slice())?.len() / 2;
+        let pool = PagePool::new(alloc, script.pages)?;
+        let marks = vec![in alloc; FRESH; half as usize]?;
         let replies = Vec::with_capacity(alloc, script.ops.as_slice().len())?;
         Ok(Mirror {
             plan: Plan {
@@ -109,7 +84,11 @@ impl Mirror {
                 devices,
                 half,
             },
-            state,
+            state: State {
+                pool,
+                marks,
+                used: 0,
+            },
             replies,
             failed: false,
         })

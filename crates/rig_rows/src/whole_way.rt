@@ -55,7 +55,7 @@ fn passage(block: &Route, tamper: &Tamper) -> Passage
     Passage {
         ty: block.ty,
         size: block.size,
-        protect: block.field(),
+        protect: block.mode.field(block.ty),
         lba: moved(block.lba, by),
         rtag: ref_tag(block.lba),
         app: block.mode.app,
