@@ -46,13 +46,13 @@ pub record Sent : Type 0 where
   pub after : ℕ
 
 -- a block of a request, and who verifies it, where it is a read's
-pub record Asked : Type 0 where
+pub record AskedBlock : Type 0 where
   pub route : Route
   pub reader : Option Owner
 
 -- What an act answers: which block it is, if it is one; what was found; what stands on record of it; the bytes that are shown.
 pub record ActAnswer : Type 0 where
-  pub of : Option Asked
+  pub of : Option AskedBlock
   pub why : Option Why
   pub sent : Option Sent
   pub shown : List ℕ
@@ -63,10 +63,10 @@ silent = record { of = None; why = None; sent = None; shown = [] }
 abbrev pub sent_of : Route → Dir → Result (List ℕ) Why → ℕ → Option Sent
 sent_of r dir came after = Some (record { label = r.label; dir = dir; dev = r.dev; lba = r.lba; came = came; after = after })
 
-abbrev pub write_of : Route → Option Asked
+abbrev pub write_of : Route → Option AskedBlock
 write_of r = Some (record { route = r; reader = None })
 
-abbrev pub read_of : Route → Owner → Option Asked
+abbrev pub read_of : Route → Owner → Option AskedBlock
 read_of r owner = Some (record { route = r; reader = Some owner })
 
 abbrev pub untouched : Cells

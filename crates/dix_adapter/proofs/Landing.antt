@@ -20,7 +20,7 @@ use Rattle.bio_core.specs.declared.fate.Fate.{Fate}
 use Rattle.bio_core.specs.Bios.{Block, blocks_from, blocks_of}
 use Rattle.target_answer.specs.Frames.{frames_of}
 use Rattle.dix_adapter.specs.declared.adapter.Adapter.{Adapter}
-use Rattle.dix_adapter.specs.Groups.{IsBio, IsGroup, block_len, blocks_in, data_cells, first_of, frame_cells, no_bio, request_of, route_by, size, tuple_cells}
+use Rattle.dix_adapter.specs.Groups.{IsBio, IsCarriedGroup, block_len, blocks_in, data_cells, first_of, frame_cells, no_bio, request_of, route_by, size, tuple_cells}
 use Rattle.dix_adapter.specs.Carried.{arrives, carried, comes_by, comes_first, fates_in, frame_len, land, landed, lands_first}
 use Rattle.dix_adapter.proofs.Blocks.{bios-more, blocks-more, length-blocks, length-in}
 use Rattle.dix_adapter.specs.Walking.{HasHost, Walkable, WalksTuples}
@@ -248,7 +248,7 @@ room-group done left n w most all long h l m k r =
     let b : all * w ≤ all * most = mul-le-mul_left all k in
     omega arith
 
-pub group-width : (a : Adapter) (pool : List (List ℕ)) (bytes : ℕ) (ios : List Io) (req : List Bio) → IsGroup a pool bytes ios req → frame_len a ios req ≡ (if a.dif && not (is_zero a.ty) then bytes + 8 else bytes)
+pub group-width : (a : Adapter) (pool : List (List ℕ)) (bytes : ℕ) (ios : List Io) (req : List Bio) → IsCarriedGroup a pool bytes ios req → frame_len a ios req ≡ (if a.dif && not (is_zero a.ty) then bytes + 8 else bytes)
 group-width a pool bytes ios req g =
     let k = All-get_or (IsBio a pool bytes ios (first_of req).dev (first_of req).dir) req 0 no_bio (let x = g.some in omega arith) g.bios in
     ap (λ n. if a.dif && not (is_zero a.ty) then n + 8 else n) k.request.size
@@ -282,12 +282,12 @@ frames-front w (suc n) X Y h =
 pub frames-taken : (w n len : ℕ) (X : List ℕ) → n * w ≤ len → len ≤ length X → frames_of w n X ≡ frames_of w n (take len X)
 frames-taken w n len X h l = ap (frames_of w n) (sym (take-append-drop len X)) ∙ frames-front w n (take len X) (drop len X) (let e = length-take len X in omega arith)
 
-pub group-bytes : (a : Adapter) (pool : List (List ℕ)) (bytes : ℕ) (ios : List Io) (req : List Bio) → IsGroup a pool bytes ios req → block_len ios req ≡ bytes
+pub group-bytes : (a : Adapter) (pool : List (List ℕ)) (bytes : ℕ) (ios : List Io) (req : List Bio) → IsCarriedGroup a pool bytes ios req → block_len ios req ≡ bytes
 group-bytes a pool bytes ios req g =
     let k = All-get_or (IsBio a pool bytes ios (first_of req).dev (first_of req).dir) req 0 no_bio (let x = g.some in omega arith) g.bios in
     k.request.size
 
-pub group-most : (a : Adapter) (pool : List (List ℕ)) (bytes : ℕ) (ios : List Io) (req : List Bio) → IsGroup a pool bytes ios req → frame_len a ios req ≤ block_len ios req + 8
+pub group-most : (a : Adapter) (pool : List (List ℕ)) (bytes : ℕ) (ios : List Io) (req : List Bio) → IsCarriedGroup a pool bytes ios req → frame_len a ios req ≤ block_len ios req + 8
 group-most a pool bytes ios req g = of (a.dif && not (is_zero a.ty)) (group-width a pool bytes ios req g)
   where
     of : (c : Bool) → frame_len a ios req ≡ (if c then bytes + 8 else bytes) → frame_len a ios req ≤ block_len ios req + 8

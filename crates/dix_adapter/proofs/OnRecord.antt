@@ -23,8 +23,8 @@ use Rattle.rig_api.specs.Telling.{spec_at}
 use Rattle.rig_api.specs.declared.rig.Outcome.{Outcome}
 use Rattle.rig_api.specs.State.{RigState}
 use Rattle.dix_adapter.specs.declared.adapter.Adapter.{Adapter}
-use Rattle.dix_adapter.specs.Carried.{Fetched, Sent, any_bad, arrives, carried, command_for, command_of, fates_in, frame_len, landed, out_of, sends, unsent, way_of}
-use Rattle.dix_adapter.specs.Groups.{IsGroup, IsProtect, blocks_in, first_of, label_of, request_of, size}
+use Rattle.dix_adapter.specs.Carried.{Fetched, WasSent, any_bad, arrives, carried, command_for, command_of, fates_in, frame_len, landed, out_of, sends, unsent, way_of}
+use Rattle.dix_adapter.specs.Groups.{IsCarriedGroup, IsProtect, blocks_in, first_of, label_of, request_of, size}
 use Rattle.dix_adapter.specs.Outcomes.{done_of, rest_of}
 use Rattle.block_path.specs.Senses.{why_ended}
 use Rattle.dix_adapter.specs.Ways.{RecordedIn, RecordedOut, any_settled}
@@ -58,7 +58,7 @@ moved-front a bytes width address n d came f p e =
     ∙ ap (λ x. take (min d n * sent_size (field_for a) x) came) e
     ∙ ap (λ x. take (min d n * x) came) (width-sent a bytes p)
 
-pub recorded-in : (a : Adapter) (pool pool' : List (List ℕ)) (bytes : ℕ) (ios : List Io) (req : List Bio) (fates : List Fate) (old new : RigState) → IsProtect a.protect → IsGroup a pool bytes ios req → (first_of req).dir ≡ Read →
+pub recorded-in : (a : Adapter) (pool pool' : List (List ℕ)) (bytes : ℕ) (ios : List Io) (req : List Bio) (fates : List Fate) (old new : RigState) → IsProtect a.protect → IsCarriedGroup a pool bytes ios req → (first_of req).dir ≡ Read →
     (spec_at old.standing (first_of req).dev).size ≡ block_size (request_of ios (first_of req).op) → Fetched a ios req pool pool' fates old new → RecordedIn a ios req pool pool' fates old new
 recorded-in a pool pool' bytes ios req fates old new p g w e got =
     let n = size req in
@@ -100,8 +100,8 @@ moved-of a bytes width address n d fs came f p w m e =
     ∙ ap (take (min d n * width_for a bytes)) (sym (append-nil (joined fs)))
     ∙ front-joined (width_for a bytes) (min d n) fs [] w (omega arith)
 
-pub recorded-out : (a : Adapter) (pool pool' : List (List ℕ)) (bytes : ℕ) (ios : List Io) (req : List Bio) (fates : List Fate) (old new : RigState) → IsProtect a.protect → IsGroup a pool bytes ios req → (first_of req).dir ≡ Write →
-    any_bad (map (sends a ios (flat pool)) (blocks_in req)) ≡ false → (spec_at old.standing (first_of req).dev).size ≡ block_size (request_of ios (first_of req).op) → Sent a ios req pool pool' fates old new → RecordedOut a ios req (flat pool) fates old new
+pub recorded-out : (a : Adapter) (pool pool' : List (List ℕ)) (bytes : ℕ) (ios : List Io) (req : List Bio) (fates : List Fate) (old new : RigState) → IsProtect a.protect → IsCarriedGroup a pool bytes ios req → (first_of req).dir ≡ Write →
+    any_bad (map (sends a ios (flat pool)) (blocks_in req)) ≡ false → (spec_at old.standing (first_of req).dev).size ≡ block_size (request_of ios (first_of req).op) → WasSent a ios req pool pool' fates old new → RecordedOut a ios req (flat pool) fates old new
 recorded-out a pool pool' bytes ios req fates old new p g w b e got =
     let n = size req in
     let d : command_of a req ≡ command_for a Out (first_of req).lba n = ap (λ y. command_for a (way_of y) (first_of req).lba n) w in
@@ -148,13 +148,13 @@ settled-came a ios (b ∷ bs) (f ∷ fs) n o h l m = by (arrives a ios b f)
     by (Ok x) = refl
     by (Err c) = refl
 
-pub settles-out : (a : Adapter) (pool pool' : List (List ℕ)) (bytes : ℕ) (ios : List Io) (req : List Bio) (fates : List Fate) (old new : RigState) → IsGroup a pool bytes ios req → Sent a ios req pool pool' fates old new → any_settled fates ≡ true
+pub settles-out : (a : Adapter) (pool pool' : List (List ℕ)) (bytes : ℕ) (ios : List Io) (req : List Bio) (fates : List Fate) (old new : RigState) → IsCarriedGroup a pool bytes ios req → WasSent a ios req pool pool' fates old new → any_settled fates ≡ true
 settles-out a pool pool' bytes ios req fates old new g got = ap any_settled got.fates_are ∙ settled-sent (size req) got.outcome (some-blocks a pool bytes ios req g)
 
 pub settles-unsent : (a : Adapter) (ios : List Io) (req : List Bio) (cells : List ℕ) (fates : List Fate) → any_bad (map (sends a ios cells) (blocks_in req)) ≡ true → fates ≡ map unsent (map (sends a ios cells) (blocks_in req)) → any_settled fates ≡ true
 settles-unsent a ios req cells fates b e = ap any_settled e ∙ settled-unsent (map (sends a ios cells) (blocks_in req)) b
 
-pub settles-in : (a : Adapter) (pool pool' : List (List ℕ)) (bytes : ℕ) (ios : List Io) (req : List Bio) (fates : List Fate) (old new : RigState) → IsGroup a pool bytes ios req → Fetched a ios req pool pool' fates old new → any_settled fates ≡ true
+pub settles-in : (a : Adapter) (pool pool' : List (List ℕ)) (bytes : ℕ) (ios : List Io) (req : List Bio) (fates : List Fate) (old new : RigState) → IsCarriedGroup a pool bytes ios req → Fetched a ios req pool pool' fates old new → any_settled fates ≡ true
 settles-in a pool pool' bytes ios req fates old new g got =
     ap any_settled got.fates_are
     ∙ settled-came a ios (blocks_in req) (frames_of (frame_len a ios req) (done_of (size req) got.outcome) got.came) (size req) got.outcome (some-blocks a pool bytes ios req g) (length-in req)

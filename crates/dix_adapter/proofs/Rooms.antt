@@ -5,7 +5,7 @@ use Rattle.bio_core.specs.declared.bio.Bio.{Bio}
 use Rattle.bio_core.specs.declared.request.Io.{Io}
 use Rattle.dix_adapter.specs.declared.adapter.Adapter.{Adapter}
 use Rattle.dix_adapter.specs.declared.scratch.Scratch.{Scratch}
-use Rattle.dix_adapter.specs.Groups.{IsGroup, block_len, size}
+use Rattle.dix_adapter.specs.Groups.{IsCarriedGroup, block_len, size}
 use Rattle.dix_adapter.specs.Room.{HoldsBlocks}
 use Rattle.dix_adapter.proofs.Landing.{group-bytes}
 

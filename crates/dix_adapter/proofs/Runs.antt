@@ -27,7 +27,7 @@ use Rattle.block_path.specs.Routes.{host_size, moved, passage, wire_lba, wire_si
 use Rattle.block_path.proofs.Sizes.{out_size}
 use Rattle.dix_adapter.specs.declared.adapter.Adapter.{Adapter}
 use Rattle.dix_adapter.specs.Carried.{any_bad, frame_sent, is_bad, sends}
-use Rattle.dix_adapter.specs.Groups.{Chain, IsBio, IsGroup, IsProtect, blocks_in, data_cells, first_of, frame_cells, frame_in, label_of, request_of, route_of, tuple_cells}
+use Rattle.dix_adapter.specs.Groups.{Chain, IsBio, IsCarriedGroup, IsProtect, blocks_in, data_cells, first_of, frame_cells, frame_in, label_of, request_of, route_of, tuple_cells}
 use Rattle.dix_adapter.specs.Walking.{HasHost, Walkable, WalksTuples}
 use Rattle.dix_adapter.proofs.Asking.{address-more, alike-out, asked-alike, field_for, fields_of}
 use Rattle.dix_adapter.proofs.Blocks.{length-blocks}
@@ -87,7 +87,7 @@ bios-run a pool ios bytes dev at dir s t (b ∷ bs) h c e =
     run-append a ios dev bytes s t at (blocks_of b) (blocks_in bs) here
     (subst (λ m. Run a ios dev bytes s t m (blocks_in bs)) (sym n) (bios-run a pool ios bytes dev (at + b.count) dir s t bs (λ k d l. h (suc k) d (omega (arith, l))) c.1 (λ k d l. e (suc k) d (omega (arith, l)))))
 
-pub group-run : (a : Adapter) (pool : List (List ℕ)) (bytes : ℕ) (ios : List Io) (req : List Bio) (s t : ℤ) → IsGroup a pool bytes ios req →
+pub group-run : (a : Adapter) (pool : List (List ℕ)) (bytes : ℕ) (ios : List Io) (req : List Bio) (s t : ℤ) → IsCarriedGroup a pool bytes ios req →
     All (λ b. (shift_of a.tamper AdapterToTarget b.op ≡ s) × (shift_of a.tamper MediumToTarget b.op ≡ t)) req → Run a ios (first_of req).dev bytes s t (first_of req).lba (blocks_in req)
 group-run a pool bytes ios req s t g e = bios-run a pool ios bytes (first_of req).dev (first_of req).lba (first_of req).dir s t req g.bios g.chain e
 
@@ -175,7 +175,7 @@ shaped-wide a ios cells bytes (b ∷ bs) r h =
 pub sent-wide : (a : Adapter) (ios : List Io) (cells : List ℕ) (dev bytes : ℕ) (s t : ℤ) (at : ℕ) (bs : List Block) → Run a ios dev bytes s t at bs → any_bad (map (sends a ios cells) bs) ≡ false → AllLong (width_for a bytes) (all_sent a ios cells bs)
 sent-wide a ios cells dev bytes s t at bs r h = shaped-wide a ios cells bytes bs (run-shaped a ios dev bytes s t at bs r) h
 
-pub group-wide : (a : Adapter) (pool : List (List ℕ)) (bytes : ℕ) (ios : List Io) (req : List Bio) → IsGroup a pool bytes ios req → any_bad (map (sends a ios (flat pool)) (blocks_in req)) ≡ false → AllLong (width_for a bytes) (all_sent a ios (flat pool) (blocks_in req))
+pub group-wide : (a : Adapter) (pool : List (List ℕ)) (bytes : ℕ) (ios : List Io) (req : List Bio) → IsCarriedGroup a pool bytes ios req → any_bad (map (sends a ios (flat pool)) (blocks_in req)) ≡ false → AllLong (width_for a bytes) (all_sent a ios (flat pool) (blocks_in req))
 group-wide a pool bytes ios req g h = shaped-wide a ios (flat pool) bytes (blocks_in req) (bios-shaped a pool ios bytes (first_of req).dev (first_of req).dir req g.bios) h
 
 pub cut-joined : (w : ℕ) (fs : List (List ℕ)) (rest : List ℕ) → AllLong w fs → frames_of w (length fs) (joined fs ++ rest) ≡ fs

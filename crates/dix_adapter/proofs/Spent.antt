@@ -24,7 +24,7 @@ use Rattle.rig_api.specs.Telling.{greatest, greatest_size, no_spec, spec_at, spe
 use Rattle.rig_api.specs.declared.rig.Outcome.{Outcome}
 use Rattle.rig_api.specs.State.{RigState, Exchanged}
 use Rattle.dix_adapter.specs.declared.adapter.Adapter.{Adapter}
-use Rattle.dix_adapter.specs.Carried.{Fetched, Sent, arrives, carried, command_for, fates_in, frame_len, sends, unsent, way_of}
+use Rattle.dix_adapter.specs.Carried.{Fetched, WasSent, arrives, carried, command_for, fates_in, frame_len, sends, unsent, way_of}
 use Rattle.dix_adapter.specs.Groups.{blocks_in, first_of, label_of, size}
 use Rattle.dix_adapter.specs.Outcomes.{done_of, rest_of}
 use Rattle.block_path.specs.Senses.{why_ended}
@@ -143,7 +143,7 @@ spends-none size fates room e b h =
     let hl = h.labels in
     record { records = omega arith; labels = omega arith; moved = omega arith }
 
-pub spends-out : (a : Adapter) (pool pool' : List (List ℕ)) (ios : List Io) (req : List Bio) (fates : List Fate) (old new : RigState) → Sent a ios req pool pool' fates old new → Spends (greatest_size old.standing) fates old.room new.room
+pub spends-out : (a : Adapter) (pool pool' : List (List ℕ)) (ios : List Io) (req : List Bio) (fates : List Fate) (old new : RigState) → WasSent a ios req pool pool' fates old new → Spends (greatest_size old.standing) fates old.room new.room
 spends-out a pool pool' ios req fates old new got =
     let n = size req in
     let s = ap settled_count got.fates_are ∙ sent-settled (done_of n got.outcome) (rest_of n got.outcome) in
@@ -161,7 +161,7 @@ spends-in a pool pool' ios req fates old new got =
     spends a (way_of (first_of req).dir) (first_of req).lba n (first_of req).dev old new (map label_of (blocks_in req)) [] got.before got.came got.outcome fates got.fits got.exchanged (omega (arith, s, r, k))
 
 -- each block has a fate
-pub each-out : (a : Adapter) (pool pool' : List (List ℕ)) (ios : List Io) (req : List Bio) (fates : List Fate) (old new : RigState) → Sent a ios req pool pool' fates old new → length fates ≡ size req
+pub each-out : (a : Adapter) (pool pool' : List (List ℕ)) (ios : List Io) (req : List Bio) (fates : List Fate) (old new : RigState) → WasSent a ios req pool pool' fates old new → length fates ≡ size req
 each-out a pool pool' ios req fates old new got =
     let n = size req in
     let r = rest-length n got.outcome in

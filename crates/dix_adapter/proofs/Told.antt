@@ -17,8 +17,8 @@ use Rattle.rig_api.specs.Log.{entry_of}
 use Rattle.rig_api.specs.Telling.{IsAnswer, IsStanding, answer_of, frame_size, spec_at, unit_at, units_told}
 use Rattle.rig_api.specs.State.{RigState}
 use Rattle.dix_adapter.specs.declared.adapter.Adapter.{Adapter}
-use Rattle.dix_adapter.specs.Carried.{Fetched, Sent, any_bad, command_for, command_of, fates_in, landed, out_of, sends, way_of}
-use Rattle.dix_adapter.specs.Groups.{IsBio, IsGroup, IsProtect, blocks_in, first_of, label_of, no_bio, request_of, size}
+use Rattle.dix_adapter.specs.Carried.{Fetched, WasSent, any_bad, command_for, command_of, fates_in, landed, out_of, sends, way_of}
+use Rattle.dix_adapter.specs.Groups.{IsBio, IsCarriedGroup, IsProtect, blocks_in, first_of, label_of, no_bio, request_of, size}
 use Rattle.dix_adapter.specs.Outcomes.{done_of, rest_of}
 use Rattle.dix_adapter.specs.Ways.{CameIn, IsBehind, UpTo, WentOut}
 use Rattle.dix_adapter.proofs.Asking.{is-pos}
@@ -30,11 +30,11 @@ use Rattle.dix_adapter.proofs.Units.{unit-stands}
 use Rattle.dix_adapter.proofs.WentOut.{some-blocks, went-by}
 
 -- the blocks of the group have one size
-pub group-bytes : (a : Adapter) (pool : List (List ℕ)) (bytes : ℕ) (ios : List Io) (req : List Bio) → IsGroup a pool bytes ios req → block_size (request_of ios (first_of req).op) ≡ bytes
+pub group-bytes : (a : Adapter) (pool : List (List ℕ)) (bytes : ℕ) (ios : List Io) (req : List Bio) → IsCarriedGroup a pool bytes ios req → block_size (request_of ios (first_of req).op) ≡ bytes
 group-bytes a pool bytes ios req g = let x : IsBio a pool bytes ios (first_of req).dev (first_of req).dir (first_of req) = g.bios 0 no_bio (let y = g.some in omega arith) in x.request.size
 
-pub told-out : (a : Adapter) (pool pool' : List (List ℕ)) (bytes : ℕ) (ios : List Io) (req : List Bio) (fates : List Fate) (old new : RigState) (us : List Stored) (image : Option (List ℕ)) → IsProtect a.protect → IsGroup a pool bytes ios req → (first_of req).dir ≡ Write →
-    any_bad (map (sends a ios (flat pool)) (blocks_in req)) ≡ false → Sent a ios req pool pool' fates old new → old.units ≡ Some us → old.units ≡ units_told old.standing image → IsStanding old.standing image → (first_of req).dev < old.standing.devices → IsBehind a ios req us old.armed →
+pub told-out : (a : Adapter) (pool pool' : List (List ℕ)) (bytes : ℕ) (ios : List Io) (req : List Bio) (fates : List Fate) (old new : RigState) (us : List Stored) (image : Option (List ℕ)) → IsProtect a.protect → IsCarriedGroup a pool bytes ios req → (first_of req).dir ≡ Write →
+    any_bad (map (sends a ios (flat pool)) (blocks_in req)) ≡ false → WasSent a ios req pool pool' fates old new → old.units ≡ Some us → old.units ≡ units_told old.standing image → IsStanding old.standing image → (first_of req).dev < old.standing.devices → IsBehind a ios req us old.armed →
     UpTo (λ stop. WentOut a ios req (flat pool) us stop fates old new) (frame_size (unit_at us (first_of req).dev)) old.faults new.faults
 told-out a pool pool' bytes ios req fates old new us image p g w n sent u laid ready dev behind =
     (λ calm. by None (sent.exchanged.calm us u calm), (let x = sent.exchanged.stopped us u in (x.0, x.1, by x.0 x.2)))
@@ -67,7 +67,7 @@ told-out a pool pool' bytes ios req fates old new us image p g w n sent u laid r
         (sent.exchanged.recorded ∙ ap (λ y. old.log ++ (entry_of (spec_at old.standing (first_of req).dev).size (first_of req).dev y (map label_of (blocks_in req)) sent.outcome (out_of a ios req pool) [] ∷ [])) (ap form d))
         sent.fates_are
 
-pub told-in : (a : Adapter) (pool pool' : List (List ℕ)) (bytes : ℕ) (ios : List Io) (req : List Bio) (fates : List Fate) (old new : RigState) (us : List Stored) (image : Option (List ℕ)) → IsProtect a.protect → IsGroup a pool bytes ios req → (first_of req).dir ≡ Read →
+pub told-in : (a : Adapter) (pool pool' : List (List ℕ)) (bytes : ℕ) (ios : List Io) (req : List Bio) (fates : List Fate) (old new : RigState) (us : List Stored) (image : Option (List ℕ)) → IsProtect a.protect → IsCarriedGroup a pool bytes ios req → (first_of req).dir ≡ Read →
     Fetched a ios req pool pool' fates old new → old.units ≡ Some us → old.units ≡ units_told old.standing image → IsStanding old.standing image → (first_of req).dev < old.standing.devices → IsBehind a ios req us old.armed →
     UpTo (λ stop. CameIn a ios req pool pool' us stop fates old new) (frame_size (unit_at us (first_of req).dev)) old.faults new.faults
 told-in a pool pool' bytes ios req fates old new us image p g w got u laid ready dev behind =

@@ -34,7 +34,7 @@ use Rattle.block_path.specs.Routes.{moved, wire_lba}
 use Rattle.block_path.specs.Serial.{plain}
 use Rattle.dix_adapter.specs.declared.adapter.Adapter.{Adapter}
 use Rattle.dix_adapter.specs.Carried.{any_bad, command_for, out_of, sends}
-use Rattle.dix_adapter.specs.Groups.{IsBio, IsGroup, IsProtect, blocks_in, first_of, label_of, route_of, size}
+use Rattle.dix_adapter.specs.Groups.{IsBio, IsCarriedGroup, IsProtect, blocks_in, first_of, label_of, route_of, size}
 use Rattle.dix_adapter.specs.Outcomes.{done_of, rest_of}
 use Rattle.dix_adapter.specs.Ways.{WentOut, acts_out, blocks_told, cell_in, cells_out, fates_out, frames_out, left_at, shapes_of, stopped_out, ways_out}
 use Rattle.dix_adapter.proofs.Asking.{address-more, asked-for, count-is, field_for, fields_of, lba-is, no-tuples-asked, not-refused-out, own-form, protect-is}
@@ -48,7 +48,7 @@ pub first-shift : (a : Adapter) (ios : List Io) (device bytes : ℕ) (s t : ℤ)
 first-shift a ios device bytes s t address [] c h r = absurd (omega arith)
 first-shift a ios device bytes s t address (b ∷ bs) c h r = ap (λ z. pos c.lba +ℤ z) r.0.wire
 
-pub some-blocks : (a : Adapter) (pool : List (List ℕ)) (bytes : ℕ) (ios : List Io) (req : List Bio) → IsGroup a pool bytes ios req → 1 ≤ size req
+pub some-blocks : (a : Adapter) (pool : List (List ℕ)) (bytes : ℕ) (ios : List Io) (req : List Bio) → IsCarriedGroup a pool bytes ios req → 1 ≤ size req
 some-blocks a pool bytes ios [] g = absurd (let x = g.some in omega arith)
 some-blocks a pool bytes ios (b ∷ bs) g =
     let x : IsBio a pool bytes ios b.dev b.dir b = g.bios 0 b (omega arith) in

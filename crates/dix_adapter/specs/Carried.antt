@@ -148,7 +148,7 @@ abbrev pub out_of : Adapter → List Io → List Bio → (pool : List (List ℕ)
 out_of a ios req pool = joined (map frame_sent (map (sends a ios (flat pool)) (blocks_in req)))
 
 -- A write whose blocks are all good was sent.
-pub record Sent (a : Adapter) (ios : List Io) (req : List Bio) (pool pool' : List (List ℕ)) (fates : List Fate) (old new : RigState) : Type 0 where
+pub record WasSent (a : Adapter) (ios : List Io) (req : List Bio) (pool pool' : List (List ℕ)) (fates : List Fate) (old new : RigState) : Type 0 where
   pub outcome : Outcome
   pub fits : Fits (command_of a req)
   pub exchanged : Exchanged old new (first_of req).dev (form (command_of a req)) (map label_of (blocks_in req)) (out_of a ios req pool) [] [] outcome

@@ -10,8 +10,8 @@ use Rattle.rig_api.specs.Telling.{frame_size, greatest_size, spec_at, unit_at}
 use Rattle.rig_api.specs.State.{RigState}
 use Rattle.dix_adapter.specs.declared.adapter.Adapter.{Adapter}
 use Rattle.dix_adapter.specs.declared.scratch.Scratch.{Scratch}
-use Rattle.dix_adapter.specs.Carried.{Fetched, Sent}
-use Rattle.dix_adapter.specs.Groups.{IsGroup, IsProtect, block_len, first_of, size}
+use Rattle.dix_adapter.specs.Carried.{Fetched, WasSent}
+use Rattle.dix_adapter.specs.Groups.{IsCarriedGroup, IsProtect, block_len, first_of, size}
 use Rattle.dix_adapter.specs.Room.{HoldsBlocks}
 use Rattle.dix_adapter.specs.Ways.{CameIn, IsBehind, RecordedIn, RecordedOut, UpTo, WentOut, any_settled}
 
@@ -19,7 +19,7 @@ use Rattle.dix_adapter.specs.Ways.{CameIn, IsBehind, RecordedIn, RecordedOut, Up
 pub record CanCarry (a : Adapter) (pool : List (List ℕ)) (ios : List Io) (req : List Bio) (s : Scratch) (capacity : ℕ) (rig : RigState) : Type 0 where
   pub protect : IsProtect a.protect
   pub bytes : ℕ
-  pub group : IsGroup a pool bytes ios req
+  pub group : IsCarriedGroup a pool bytes ios req
   pub scratch : HoldsBlocks (block_len ios req) (size req) s
   pub fates : size req ≤ capacity
   pub device : (first_of req).dev < rig.standing.devices
@@ -27,7 +27,7 @@ pub record CanCarry (a : Adapter) (pool : List (List ℕ)) (ios : List Io) (req 
 
 -- A write went out: it was sent; where the unit has blocks of its size, its frames stand on record; and where the units are told, each block went its way.
 pub record HasCarriedOut (a : Adapter) (ios : List Io) (req : List Bio) (pool pool' : List (List ℕ)) (fates : List Fate) (old new : RigState) : Type 0 where
-  pub sent : Sent a ios req pool pool' fates old new
+  pub sent : WasSent a ios req pool pool' fates old new
   pub recorded : (spec_at old.standing (first_of req).dev).size ≡ block_len ios req → RecordedOut a ios req (flat pool) fates old new
   pub went : (us : List Stored) → old.units ≡ Some us → IsBehind a ios req us old.armed
       → UpTo (λ stop. WentOut a ios req (flat pool) us stop fates old new) (frame_size (unit_at us (first_of req).dev)) old.faults new.faults

@@ -97,7 +97,7 @@ abbrev pub IsProtect : ℕ → Type 0
 IsProtect p = (p ≡ 1) ⊎ ((p ≡ 3) ⊎ (p ≡ 4))
 
 -- A request whose blocks have this size, and lie in the pool; data that are read have no byte twice.
-pub record IsRequest (a : Adapter) (pool : List (List ℕ)) (bytes : ℕ) (io : Io) : Type 0 where
+pub record IsCarriedRequest (a : Adapter) (pool : List (List ℕ)) (bytes : ℕ) (io : Io) : Type 0 where
   pub size : block_size io ≡ bytes
   pub walks : Walkable pool io
   pub once : io.dir ≡ Read → IsOnce io
@@ -119,7 +119,7 @@ pub record IsBio (a : Adapter) (pool : List (List ℕ)) (bytes : ℕ) (ios : Lis
   pub way : b.dir ≡ dir
   pub of : (request_of ios b.op).dir ≡ dir
   pub ends : EndsInTime b
-  pub request : IsRequest a pool bytes (request_of ios b.op)
+  pub request : IsCarriedRequest a pool bytes (request_of ios b.op)
 
 -- each begins where the one before ends
 abbrev pub Chain : ℕ → List Bio → Type 0
@@ -127,7 +127,7 @@ Chain at [] = Unit {0}
 Chain at (b ∷ bs) = (b.lba ≡ at) × Chain (at + b.count) bs
 
 -- A group: blocks of one direction and one size, at consecutive addresses of one device.
-pub record IsGroup (a : Adapter) (pool : List (List ℕ)) (bytes : ℕ) (ios : List Io) (req : List Bio) : Type 0 where
+pub record IsCarriedGroup (a : Adapter) (pool : List (List ℕ)) (bytes : ℕ) (ios : List Io) (req : List Bio) : Type 0 where
   pub some : 1 ≤ length req
   pub bios : All (IsBio a pool bytes ios (first_of req).dev (first_of req).dir) req
   pub chain : Chain (first_of req).lba req

@@ -15,7 +15,7 @@ ghost use Rattle.rig_api.specs.State.{Exchanged};
 ghost use Rattle.dix_adapter.specs.Room.{KeepsScratch};
 ghost use Rattle.block_path.specs.Routes.{wire_size};
 ghost use Rattle.dix_adapter.specs.Carried.{Fetched, carried, command_for, land};
-ghost use Rattle.dix_adapter.specs.Groups.{IsGroup, IsProtect, block_len, data_cells, first_of, route_by, size, tuple_cells};
+ghost use Rattle.dix_adapter.specs.Groups.{IsCarriedGroup, IsProtect, block_len, data_cells, first_of, route_by, size, tuple_cells};
 ghost use Rattle.dix_adapter.specs.Walking.{IsBefore, IsOnce, Walkable};
 ghost use Rattle.dix_adapter.specs.Carrying.{CanCarry};
 ghost use Rattle.dix_adapter.specs.OnTheWay.{CanGo, HasLanded, HasLandedFirst, HasLandedNext, KeepsBehind};
@@ -103,7 +103,7 @@ impl Adapter {
         frames: &mut [u8],
         fates: &mut Vec<Fate>,
     )
-        requires group { (bytes : ℕ) × IsGroup self.now pool.old bytes ios.now req.now }
+        requires group { (bytes : ℕ) × IsCarriedGroup self.now pool.old bytes ios.now req.now }
         requires way { (first_of req.now).dir ≡ Read }
         requires done { done ≤ size req.now }
         requires none { fates.old.items ≡ [] }

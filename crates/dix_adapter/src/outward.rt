@@ -14,12 +14,12 @@ ghost use Rattle.pi_tuple.specs.Finds.{is_zero};
 ghost use Rattle.rig_api.specs.Log.{HasRoom};
 ghost use Rattle.rig_api.specs.Telling.{greatest_size};
 ghost use Rattle.rig_api.specs.State.{Exchanged};
-ghost use Rattle.dix_adapter.specs.Carried.{Gathers, Sent, Unsent, any_fails, command_for, fails, is_bad_write, out_of, sends, sends_by, sends_first, unsent};
+ghost use Rattle.dix_adapter.specs.Carried.{Gathers, WasSent, Unsent, any_fails, command_for, fails, is_bad_write, out_of, sends, sends_by, sends_first, unsent};
 ghost use Rattle.dix_adapter.specs.Walking.{IsBefore};
 ghost use Rattle.dix_adapter.specs.Outcomes.{done_of as spec_done, rest_of};
 ghost use Rattle.dix_adapter.specs.Room.{KeepsScratch};
 ghost use Rattle.bio_core.specs.declared.request.Dir.TheVariants.{Write};
-ghost use Rattle.dix_adapter.specs.Groups.{EndsInTime, IsGroup, IsProtect, block_len, blocks_in, first_of, label_of, route_by, size};
+ghost use Rattle.dix_adapter.specs.Groups.{EndsInTime, IsCarriedGroup, IsProtect, block_len, blocks_in, first_of, label_of, route_by, size};
 ghost use Rattle.dix_adapter.specs.Carrying.{CanCarry};
 ghost use Rattle.dix_adapter.specs.OnTheWay.{CanGo};
 ghost use Rattle.pi_tuple.specs.declared.TheConstants.{LARGEST_BLOCK};
@@ -52,7 +52,7 @@ impl Adapter {
         ensures unsent { is_bad_write self.now ios.now req.now (flat pool.now) ≡ true
             → Unsent self.now ios.now req.now pool.now pool.now fates.new.items × (rig.new ≡ rig.old) }
         ensures sent { is_bad_write self.now ios.now req.now (flat pool.now) ≡ false
-            → Sent self.now ios.now req.now pool.now pool.now fates.new.items (R.state rig.old) (R.state rig.new) }
+            → WasSent self.now ios.now req.now pool.now pool.now fates.new.items (R.state rig.old) (R.state rig.new) }
         ensures scratch { KeepsScratch (block_len ios.now req.now) (size req.now) scratch.old scratch.new }
         ensures capacity { vec_capacity fates.new ≡ vec_capacity fates.old }
     {
@@ -75,7 +75,7 @@ impl Adapter {
         frames: &mut [u8],
         fates: &mut Vec<Fate>,
     ) -> usize
-        requires group { (bytes : ℕ) × IsGroup self.now pool.now bytes ios.now req.now }
+        requires group { (bytes : ℕ) × IsCarriedGroup self.now pool.now bytes ios.now req.now }
         requires none { fates.old.items ≡ [] }
         requires room { size req.now * (block_len ios.now req.now + TUPLE) + TUPLE ≤ length frames.old }
         requires fates { size req.now ≤ vec_capacity fates.old }

@@ -28,7 +28,7 @@ use Rattle.dix_run.specs.declared.refusal.Refusal.{Refusal}
 use Rattle.dix_run.specs.declared.refusal.Refusal.TheVariants as refusal
 use Rattle.dix_run.specs.declared.status.Status.{Status}
 use Rattle.dix_run.specs.declared.status.Status.TheVariants as status
-use Rattle.headline.specs.Headline.{Fits, FitsMirror}
+use Rattle.headline.specs.Headline.{FitsImage, FitsMirror}
 use Rattle.headline.specs.Words.{words_for}
 use Rattle.headline.specs.declared.way.Way.{Way}
 use Rattle.headline.specs.declared.way.Way.TheVariants.{Mirror, Run}
@@ -94,7 +94,7 @@ pub record CameToRun (script : Script) (f : Facts) (result : Status) (text' : Li
   pub status_is : result ≡ done_status (has_bad run.stack.replies.items)
   pub text_is : text' ≡ report run.stack.replies.items
 
-pub came_to_run : (script : Script) (image text image' text' : List ℕ) (f : Facts) (o n : ℕ) (result : Status) → IsCalled Run image text image' f → head_fault (head_of image) ≡ None → Fits script image text → (result ≡ status.Memory → ⊥) → (result ≡ status.WriteFault → ⊥) →
+pub came_to_run : (script : Script) (image text image' text' : List ℕ) (f : Facts) (o n : ℕ) (result : Status) → IsCalled Run image text image' f → head_fault (head_of image) ≡ None → FitsImage script image text → (result ≡ status.Memory → ⊥) → (result ≡ status.WriteFault → ⊥) →
     Carries f (Some []) (Some text') o n result → CameToRun script f result text'
 came_to_run script image text image' text' f o n result called right fits memory sink carries = by ended.verdict ended.cause (wrote run_work ended.verdict text' o n result sink ended.written) where
   ended : EndedAs run_work f (Some []) (Some text') o n result

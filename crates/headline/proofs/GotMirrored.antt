@@ -5,7 +5,7 @@ use Rattle.target_answer.specs.Target.{Stored}
 use Rattle.script_text.specs.declared.script.Script.{Script}
 use Rattle.mirror_volume.specs.Enough.{WasEnough}
 use Rattle.mirror_volume.specs.Premises.{IsOneGoodRun}
-use Rattle.mirror_command.specs.Stages.{HasServed}
+use Rattle.mirror_command.specs.Stages.{HasServedMirror}
 use Rattle.mirror_command.specs.Verdict.{HasMirrored}
 use Rattle.mirror_command.proofs.Mirroring.{calm-names-none, known-told}
 use Rattle.mirror_command.specs.declared.mirrored.Mirrored.{Mirrored}
@@ -15,7 +15,7 @@ calm : (old new : ℕ) → new ≡ 0 → Calm old new
 calm old new e = (omega (arith, e), omega (arith, e))
 
 pub got_served : (run : Mirrored) (script : Script) (name : List ℕ) (old new : RigState) (us : List Stored) (m : HasMirrored run script name old new) → m.told.units ≡ Some us → new.faults ≡ 0
-    → (left : List Stored) × ((new.units ≡ Some left) × HasServed script m.devices us left run.mirror.state.pool run.mirror.replies.items run.mirror.state.marks.items run.repair.repaired run.repair.lost)
+    → (left : List Stored) × ((new.units ≡ Some left) × HasServedMirror script m.devices us left run.mirror.state.pool run.mirror.replies.items run.mirror.state.marks.items run.repair.repaired run.repair.lost)
 got_served run script name old new us m e none = m.ended.told us e (calm-names-none run script name old new m (calm m.told.faults new.faults none))
 
 pub got_enough : (run : Mirrored) (script : Script) (name : List ℕ) (old new : RigState) (us : List Stored) (m : HasMirrored run script name old new) → m.told.units ≡ Some us → new.faults ≡ 0 → IsOneGoodRun script m.devices us

@@ -31,7 +31,7 @@ use Rattle.run_command.proofs.Completing.{table_is}
 use Rattle.run_command.proofs.Devices.{image_devices}
 use Rattle.mirror_volume.specs.Enough.{BothHoldLast, WasEnough}
 use Rattle.mirror_volume.specs.Premises.{IsOneGoodRun}
-use Rattle.mirror_command.specs.Stages.{HasServed}
+use Rattle.mirror_command.specs.Stages.{HasServedMirror}
 use Rattle.mirror_command.specs.Texts.{is_any_lost, mirror_text}
 use Rattle.mirror_command.specs.Verdict.{HasMirrored}
 use Rattle.mirror_command.specs.declared.mirrored.Mirrored.{Mirrored}
@@ -40,7 +40,7 @@ use Rattle.dix_run.specs.Headline.{Carries}
 use Rattle.dix_run.specs.Verdict.{Facts, done_status}
 use Rattle.dix_run.specs.declared.status.Status.{Status}
 use Rattle.dix_run.specs.declared.status.Status.TheVariants as status
-use Rattle.headline.specs.Headline.{AreEqualLegs, Fits, FitsMirror, HasGoodLegs, Headline, IsClean, IsFaultless, IsFormed, IsFound, IsFresh, IsMended, IsMirrored, IsPlain, IsStill, IsWalked, blocks_in, mended_over, mirror_over, opening_over, replied_on_mirror, setting_over, volume_over}
+use Rattle.headline.specs.Headline.{AreEqualLegs, FitsImage, FitsMirror, HasGoodLegs, Headline, IsClean, IsFaultless, IsFormedText, IsFound, IsFresh, IsMended, IsMirrored, IsPlain, IsStill, IsWalked, blocks_in, mended_over, mirror_over, opening_over, replied_on_mirror, setting_over, volume_over}
 use Rattle.headline.specs.Words.{IsTold, wants_memory, words_for}
 use Rattle.headline.specs.declared.way.Way.{Way}
 use Rattle.headline.specs.declared.way.Way.TheVariants.{Mirror, Run}
@@ -109,7 +109,7 @@ plain script image image' text' run right bytes o tx p =
     let w = got_plain script (volume_over script image) (devices_of image) o.old o.new run.stack.pool run.stack.replies.items (own_units image) o.followed o.units o.none premise in
     record { report_is = tx ∙ ap report w.2.replies_are; image_is = image_after image image' w.0 _ right (o.after w.0 w.1) w.2.blocks }
 
-found : (script : Script) (image image' text' : List ℕ) (run : Finished) → All (λ x. x < 256) image → RanOver script image image' run → text' ≡ report run.stack.replies.items → IsFormed script image → IsClean script image → IsFound script image text'
+found : (script : Script) (image image' text' : List ℕ) (run : Finished) → All (λ x. x < 256) image → RanOver script image image' run → text' ≡ report run.stack.replies.items → IsFormedText script image → IsClean script image → IsFound script image text'
 found script image image' text' run bytes o tx p clean =
     let premise : IsFormedRun script (volume_over script image) (devices_of image) (own_units image) = record {
       ty = p.ty;
@@ -160,7 +160,7 @@ pub record MirroredOver (script : Script) (image image' : List ℕ) (run : Mirro
   pub left : List Stored
   pub after : IsAfter image image' left
   pub made : MadeFor (volume_over script image) (devices_of image) script.block
-  pub served : HasServed script (devices_of image) (own_units image) left run.mirror.state.pool run.mirror.replies.items run.mirror.state.marks.items run.repair.repaired run.repair.lost
+  pub served : HasServedMirror script (devices_of image) (own_units image) left run.mirror.state.pool run.mirror.replies.items run.mirror.state.marks.items run.repair.repaired run.repair.lost
   pub enough : IsOneGoodRun script (devices_of image) (own_units image) → WasEnough script (devices_of image) (own_units image) left run.repair.lost
 
 mirrored_over : (script : Script) (image text image' : List ℕ) (f : Facts) (name : List ℕ) (run : Mirrored) → IsCalled Mirror image text image' f → head_fault (head_of image) ≡ None → HasMirrored run script name f.rig f.rig_after → MirroredOver script image image' run
@@ -173,7 +173,7 @@ mirrored_over script image text image' f name run called right r =
       left = s.0;
       made = subst (λ (d : List DeviceInfo). MadeFor (table_over script.entries d) d script.block) ds r.bound.made;
       after = told_after Mirror image text image' f name r.devices r.told called right r.asked r.ended.stretches.standing s.0 s.1.0;
-      served = subst (λ (d : List DeviceInfo). HasServed script d us s.0 run.mirror.state.pool run.mirror.replies.items run.mirror.state.marks.items run.repair.repaired run.repair.lost) ds s.1.1;
+      served = subst (λ (d : List DeviceInfo). HasServedMirror script d us s.0 run.mirror.state.pool run.mirror.replies.items run.mirror.state.marks.items run.repair.repaired run.repair.lost) ds s.1.1;
       enough = λ p.
           let e = got_enough run script name f.rig f.rig_after us r units called.faults (subst (λ (d : List DeviceInfo). IsOneGoodRun script d us) (sym ds) p) in
           let same : e.0 ≡ s.0 = one_left e.0 s.0 (sym e.1.0 ∙ s.1.0) in
@@ -261,10 +261,10 @@ headlined way image text image' text' f o n result called memory sink carries = 
     fresh_head : (units : List UnitSpec) → IsFresh units image → head_fault (head_of image) ≡ None
     fresh_head units fresh = ap (λ i. head_fault (head_of i)) fresh.image_is ∙ right_head units fresh.layout
 
-    run_at : (script : Script) → way ≡ Run → head_fault (head_of image) ≡ None → Fits script image text → CameToRun script f result text'
+    run_at : (script : Script) → way ≡ Run → head_fault (head_of image) ≡ None → FitsImage script image text → CameToRun script f result text'
     run_at script is right fits = came_to_run script image text image' text' f o n result (subst (λ w. IsCalled w image text image' f) is called) right fits memory sink carries
 
-    over_at : (script : Script) → way ≡ Run → head_fault (head_of image) ≡ None → Fits script image text → (c : CameToRun script f result text') → RanOver script image image' c.run
+    over_at : (script : Script) → way ≡ Run → head_fault (head_of image) ≡ None → FitsImage script image text → (c : CameToRun script f result text') → RanOver script image image' c.run
     over_at script is right fits c = ran_over script image text image' f _ c.run (subst (λ w. IsCalled w image text image' f) is called) right c.ran
 
     mirror_at : (script : Script) → way ≡ Mirror → head_fault (head_of image) ≡ None → FitsMirror script image text → CameToMirror script f result text'

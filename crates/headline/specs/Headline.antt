@@ -25,7 +25,7 @@ use Rattle.run_command.specs.Verdict.{AllReadRightly, devices_of}
 use Rattle.mirror_script.specs.MirrorFaults.{mirror_fault}
 use Rattle.mirror_walk.specs.Mirror.{mirror_replies}
 use Rattle.mirror_walk.specs.OneGood.{OneGood, script_asks}
-use Rattle.mirror_walk.specs.Repair.{Repair}
+use Rattle.mirror_walk.specs.Repair.{WalkedRepair}
 use Rattle.leg_runs.specs.Standing.{half_of, mirror_setting}
 use Rattle.mirror_command.specs.Stages.{repair_over}
 use Rattle.mirror_command.specs.Texts.{is_any_lost, mirror_text}
@@ -33,7 +33,7 @@ use Rattle.mirror_volume.specs.Enough.{AllReadLast, BothHoldLast}
 use Rattle.report_text.specs.Report.{report}
 use Rattle.dix_run.specs.Verdict.{done_status}
 use Rattle.dix_run.specs.declared.status.Status.{Status}
-pub use Rattle.image_scripts.specs.Over.{Fits, IsClean, blocks_in, image_with, left_by, opening_over, replied, setting_over, volume_over}
+pub use Rattle.image_scripts.specs.Over.{FitsImage, IsClean, blocks_in, image_with, left_by, opening_over, replied, setting_over, volume_over}
 use Rattle.headline.specs.declared.way.Way.{Way}
 use Rattle.headline.specs.declared.way.Way.TheVariants.{Mirror, Run}
 
@@ -56,7 +56,7 @@ asked_of_legs script image = script_asks (mirror_over script image) (half_over s
 abbrev pub replied_on_mirror : Script → List ℕ → List Reply
 replied_on_mirror script image = mirror_replies (mirror_over script image) (half_over script image) script.ops (opening_over script image)
 
-abbrev pub mended_over : Script → List ℕ → Repair
+abbrev pub mended_over : Script → List ℕ → WalkedRepair
 mended_over script image = repair_over script (devices_of image) (own_units image)
 
 -- The text is this script of the language, and neither its volume nor one of its lines is at fault over the image's units where it is run on a mirror over them.
@@ -81,7 +81,7 @@ pub record IsStill (script : Script) : Type 0 where
   pub escapes : escapes_none script.ops ≡ true
 
 -- The volume is of type 1, tuples pass all the way, and commands have protect field 001b. The faults have the form under which tuples show each, no `write` has the application tag FFFFh, and there is no `writepi`.
-pub record IsFormed (script : Script) (image : List ℕ) : Type 0 where
+pub record IsFormedText (script : Script) (image : List ℕ) : Type 0 where
   pub ty : (volume_over script image).ty ≡ One
   pub dix : script.mode.dix ≡ true
   pub dif : script.mode.dif ≡ true
@@ -149,7 +149,7 @@ pub record RunLeaves (script : Script) (image : List ℕ) (status : Status) (rep
   pub plain : IsFaultless script image → IsPlain script image report' image'
   -- In type 1, tuples passed all the way, over clean blocks and with faults whose form shows them:
   -- each block of each read is the last accepted write's, or it is listed with the first layer that checks behind the fault.
-  pub found : IsFormed script image → IsClean script image → IsFound script image report'
+  pub found : IsFormedText script image → IsClean script image → IsFound script image report'
 
 -- What `mirror` leaves of it.
 pub record MirrorLeaves (script : Script) (image : List ℕ) (status : Status) (report' image' : List ℕ) : Type 0 where
@@ -163,16 +163,16 @@ pub record FreshRunLeaves (script : Script) (image report' image' : List ℕ) : 
   -- without faults and escapes
   pub plain : IsStill script → IsPlain script image report' image'
   -- in type 1, tuples passed all the way, with faults whose form shows them
-  pub found : IsFormed script image → IsFound script image report'
+  pub found : IsFormedText script image → IsFound script image report'
 
 -- What a call leaves that was handed this image and this text, of which came this status, this report and this image.
 pub record Headline (way : Way) (image text : List ℕ) (status : Status) (report' image' : List ℕ) : Type 0 where
   -- of `run`, over an image with a right head
-  pub ran : (script : Script) → way ≡ Run → head_fault (head_of image) ≡ None → Fits script image text → RunLeaves script image status report' image'
+  pub ran : (script : Script) → way ≡ Run → head_fault (head_of image) ≡ None → FitsImage script image text → RunLeaves script image status report' image'
   -- of `mirror`, over such an image
   pub mirrored : (script : Script) → way ≡ Mirror → head_fault (head_of image) ≡ None → FitsMirror script image text → MirrorLeaves script image status report' image'
   -- of `run`, over an image that `format` left
-  pub fresh_ran : (script : Script) (units : List UnitSpec) → way ≡ Run → IsFresh units image → Fits script image text → as_expected (setting_over script image) 0 ≡ true → FreshRunLeaves script image report' image'
+  pub fresh_ran : (script : Script) (units : List UnitSpec) → way ≡ Run → IsFresh units image → FitsImage script image text → as_expected (setting_over script image) 0 ≡ true → FreshRunLeaves script image report' image'
   -- of `mirror`, over such an image: one good leg for each block is enough
   pub fresh_mirrored : (script : Script) (units : List UnitSpec) → way ≡ Mirror → IsFresh units image → FitsMirror script image text → as_expected (mirror_over script image) 0 ≡ true
       → HasGoodLegs script image → IsMended script image report' image'

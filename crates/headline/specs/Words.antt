@@ -17,7 +17,7 @@ abbrev pub words_for : Way → List (List ℕ)
 words_for way = verb_of way ∷ codes "image" ∷ []
 
 -- a sink in memory: the bytes that it took, and how many of its calls failed
-pub record Kept : Type 0 where
+pub record KeptSink : Type 0 where
   pub bytes : List ℕ
   pub faults : ℕ
 

@@ -15,9 +15,9 @@ pub(crate) struct ReportSink {
 }
 
 impl Model for ReportSink {
-    ghost use Rattle.headline.specs.Words.{Kept};
+    ghost use Rattle.headline.specs.Words.{KeptSink};
 
-    ghost Value = { Kept };
+    ghost Value = { KeptSink };
 
     ghost view = { λ s. record { bytes = s.held.items; faults = s.faults } };
 }

@@ -17,7 +17,7 @@ use Rattle.rig_api.specs.Telling.{holding, no_spec, unit_at}
 use Rattle.image_layout.specs.Places.{block_len, block_place}
 use Rattle.image_layout.proofs.Units.{behind_over, bytes_within, drop_over, frames_front, front_over, unit_found, units_change}
 use Rattle.image_blocks.specs.declared.stretch.Stretch.{Stretch}
-use Rattle.image_blocks.specs.Blocks.{AreLeft, ArePut, AreStored, HasBlocks, blocks_at, blocks_of, with_stretch}
+use Rattle.image_blocks.specs.Blocks.{AreLeft, ArePut, AreStored, HasStretch, blocks_at, blocks_of, with_stretch}
 use Rattle.image_blocks.specs.Places.{IsStretch, behind_in, spec_of}
 use Rattle.small_laws.proofs.Numbers.{within_all}
 
@@ -126,7 +126,7 @@ stored_in_turn us was s n h c =
 
 -- the first blocks, and those behind them
 pub has_both : (us : List UnitSpec) (s : Stretch) (n : ℕ) (xs ys : List (List ℕ)) (image : Option (List ℕ)) → IsStretch us s → n ≤ s.count →
-    HasBlocks us (record { dev = s.dev; first = s.first; count = n }) xs image → HasBlocks us (behind_in s n) ys image → HasBlocks us s (xs ++ ys) image
+    HasStretch us (record { dev = s.dev; first = s.first; count = n }) xs image → HasStretch us (behind_in s n) ys image → HasStretch us s (xs ++ ys) image
 has_both us s n xs ys image h c a b =
     let l = length-append xs ys in
     let m = a.many in
@@ -138,7 +138,7 @@ has_both us s n xs ys image h c a b =
     both_stored (Some was) p q = ap (λ v. v ++ ys) p ∙ ap (λ v. blocks_at (units_in us was) (record { dev = s.dev; first = s.first; count = n }) ++ v) q ∙ sym (stored_in_turn us was s n h c)
 
 -- no blocks
-pub has_none : (us : List UnitSpec) (s : Stretch) (image : Option (List ℕ)) → s.count ≡ 0 → HasBlocks us s [] image
+pub has_none : (us : List UnitSpec) (s : Stretch) (image : Option (List ℕ)) → s.count ≡ 0 → HasStretch us s [] image
 has_none us s image e = record { many = sym e; long = tt; stored = none image }
   where
     none : (image : Option (List ℕ)) → AreStored us s [] image
@@ -146,7 +146,7 @@ has_none us s image e = record { many = sym e; long = tt; stored = none image }
     none (Some was) = let u = unit_at (units_in us was) s.dev in ap (λ n. take n (drop (s.first - u.first) u.blocks)) (sym e)
 
 -- Whatever is told, there are such blocks.
-pub has_some : (us : List UnitSpec) (s : Stretch) (len : ℕ) (image : Option (List ℕ)) → IsStretch us s → len ≡ image_size us → HasLength len image → (blocks : List (List ℕ)) × HasBlocks us s blocks image
+pub has_some : (us : List UnitSpec) (s : Stretch) (len : ℕ) (image : Option (List ℕ)) → IsStretch us s → len ≡ image_size us → HasLength len image → (blocks : List (List ℕ)) × HasStretch us s blocks image
 has_some us s len None h z l =
     let bytes : List ℕ = replicate (s.count * block_len us s.dev) 0 in
     let c = mul_comm s.count (block_len us s.dev) in
@@ -162,7 +162,7 @@ has_some us s len (Some was) h z l =
 -- ---- what a call of the store leaves
 
 pub were_read : {X E : Type 0} (r : Result X E) (us : List UnitSpec) (s : Stretch) (at n : ℕ) (xs : List ℕ) (image : Option (List ℕ)) → IsStretch us s → at ≡ block_place us s.dev s.first → n ≡ s.count * block_len us s.dev →
-    length xs ≡ s.count * block_len us s.dev → OnOk r (IsRead at n xs image) → OnOk r (HasBlocks us s (blocks_of us s xs) image)
+    length xs ≡ s.count * block_len us s.dev → OnOk r (IsRead at n xs image) → OnOk r (HasStretch us s (blocks_of us s xs) image)
 were_read (Err e) us s at n xs image h p l k r = tt
 were_read (Ok x) us s at n xs image h p l k r =
     let c = mul_comm s.count (block_len us s.dev) in

@@ -27,7 +27,7 @@ AreStored us s blocks None = Unit {0}
 AreStored us s blocks (Some image) = blocks ≡ blocks_at (units_in us image) s
 
 -- The blocks are as many as the stretch has, each of the length that is stored; where the image is told, they are the stored ones.
-pub record HasBlocks (us : List UnitSpec) (s : Stretch) (blocks : List (List ℕ)) (image : Option (List ℕ)) : Type 0 where
+pub record HasStretch (us : List UnitSpec) (s : Stretch) (blocks : List (List ℕ)) (image : Option (List ℕ)) : Type 0 where
   pub many : length blocks ≡ s.count
   pub long : AllLong (block_len us s.dev) blocks
   pub stored : AreStored us s blocks image

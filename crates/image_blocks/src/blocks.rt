@@ -5,7 +5,7 @@ ghost use Rattle.dix_base.specs.Stores.{IsCounted, WasRead, WasWritten};
 ghost use Rattle.dix_base.specs.Told.{Apart, Becomes};
 ghost use Rattle.target_answer.specs.Headers.{image_size};
 ghost use Rattle.image_layout.specs.Places.{block_len, block_place};
-ghost use Rattle.image_blocks.specs.Blocks.{AreLeft, ArePut, HasBlocks, blocks_of};
+ghost use Rattle.image_blocks.specs.Blocks.{AreLeft, ArePut, HasStretch, blocks_of};
 ghost use Rattle.image_blocks.specs.Images.{units_open};
 ghost use Rattle.image_blocks.specs.Places.{IsStretch};
 
@@ -36,7 +36,7 @@ pub fn read_blocks<S: Store>(
     requires place { IsStretch (units_open image.now) at }
     requires room { length into.old ≡ at.count * block_len (units_open image.now) at.dev }
     requires held { (S.state store.old).length ≡ image_size (units_open image.now) }
-    ensures read { OnOk result (HasBlocks (units_open image.now) at (blocks_of (units_open image.now) at into.new) (S.state store.old).bytes) }
+    ensures read { OnOk result (HasStretch (units_open image.now) at (blocks_of (units_open image.now) at into.new) (S.state store.old).bytes) }
     ensures long { length into.new ≡ length into.old }
     ensures stays { WasRead (S.state store.old) (S.state store.new) }
     ensures counted { IsCounted result (S.state store.old) (S.state store.new) }

@@ -3,13 +3,13 @@ use Rattle.std.proofs.Common.{List, ℕ, ◌≡◌, Some, None, ◌∙◌, Optio
 use Rattle.rig_api.specs.declared.rig.RigFault.{RigFault}
 use Rattle.rig_api.specs.State.{RigState}
 use Rattle.rig_api.specs.Head.{head_fault, head_of}
-use Rattle.image_commands.specs.Views.{WasOpened}
+use Rattle.image_commands.specs.Views.{ImageWasOpened}
 use Rattle.rig_api.proofs.HeadLaws.{headed}
 use Rattle.image_commands.specs.Causes.{IsBad}
 use Rattle.std.specs.Prelude.{is_some}
 use Rattle.rig_api.specs.Telling.{units_told}
 
-pub right_head : (image : List ℕ) (x : RigFault) (name : List ℕ) (old new : RigState) → old.image ≡ Some image → new.image ≡ old.image → head_fault (head_of image) ≡ None → WasOpened name (Some x) old new → ⊥
+pub right_head : (image : List ℕ) (x : RigFault) (name : List ℕ) (old new : RigState) → old.image ≡ Some image → new.image ≡ old.image → head_fault (head_of image) ≡ None → ImageWasOpened name (Some x) old new → ⊥
 right_head image x name old new e k good opened =
     let head : new.standing.head ≡ head_of image = headed new.standing.head image new.image (k ∙ e) opened.head in
     let both : ◌≡◌ {A = Option RigFault} (Some x) None = sym opened.judged ∙ ap head_fault head ∙ good in

@@ -10,16 +10,16 @@ use Rattle.answered_record.specs.Answered.{Answers}
 use Rattle.volume_table.specs.declared.device.DeviceInfo.{DeviceInfo}
 use Rattle.rig_discovery.specs.Discovery.{HasFault, HasFound}
 use Rattle.pi_scrub.specs.Faults.{all_faults}
-use Rattle.pi_scrub.specs.Looks.{Place, all_places}
+use Rattle.pi_scrub.specs.Looks.{LookedPlace, all_places}
 use Rattle.pi_scrub.specs.Scrubbed.{HasDevices, Looked}
 use Rattle.pi_scrub.specs.declared.found.Found.{Found}
-use Rattle.image_commands.specs.Views.{HasKept, OpenedOnce, WasOpened}
+use Rattle.image_commands.specs.Views.{HasKept, OpenedOnce, ImageWasOpened}
 use Rattle.call_refusal.specs.declared.refusal.Refusal.{Refusal}
 use Rattle.call_refusal.specs.declared.refusal.Refusal.TheVariants as refusal
 
 -- Why an image isn't opened: its head is at fault, the rig failed, or there is no memory.
 abbrev pub CauseUnopened : Refusal → List ℕ → RigState → RigState → Type 0
-CauseUnopened (refusal.Image f) name old new = WasOpened name (Some f) old new
+CauseUnopened (refusal.Image f) name old new = ImageWasOpened name (Some f) old new
 CauseUnopened refusal.RigFault name old new = Rose old.faults new.faults × Opened name old.standing new.standing
 CauseUnopened refusal.Memory name old new = Unit {0}
 CauseUnopened _ name old new = ⊥
@@ -51,14 +51,14 @@ pub record WasMigrated (name : List ℕ) (n : ℕ) (old new : RigState) : Type 0
 
 -- Why an image isn't migrated: its head is at fault, the rig failed, or there is no memory. Only where the rig failed may the first 512 bytes be others. The armed faults are as before.
 abbrev pub CauseUnmigrated : Refusal → List ℕ → RigState → RigState → Type 0
-CauseUnmigrated (refusal.Image f) name old new = WasOpened name (Some f) old new × HasKept old new
+CauseUnmigrated (refusal.Image f) name old new = ImageWasOpened name (Some f) old new × HasKept old new
 CauseUnmigrated refusal.RigFault name old new = Rose old.faults new.faults × Opened name old.standing new.standing × KeepsBlocks old.image new.image × (new.log ≡ old.log) × (new.armed ≡ old.armed)
 CauseUnmigrated refusal.Memory name old new = HasKept old new × OpenedOnce name old.standing new.standing
 CauseUnmigrated _ name old new = ⊥
 
 -- The image of this name was opened, and its head is right. Neither this nor what came since changed a byte of it.
 pub record HasOpened (name : List ℕ) (old between new : RigState) : Type 0 where
-  pub opened : WasOpened name None old between
+  pub opened : ImageWasOpened name None old between
   pub kept : HasKept old between
   pub laid : between.units ≡ units_told between.standing between.image
   pub image : new.image ≡ between.image
@@ -85,7 +85,7 @@ pub record IsBad (name : List ℕ) (dev : ℕ) (old new : RigState) : Type 0 whe
 
 -- Why it isn't known what the devices of an image are: it isn't opened, a device's answer is at fault, or there is no memory.
 abbrev pub CauseUntold : Refusal → List ℕ → RigState → RigState → Type 0
-CauseUntold (refusal.Image f) name old new = WasOpened name (Some f) old new × HasKept old new
+CauseUntold (refusal.Image f) name old new = ImageWasOpened name (Some f) old new × HasKept old new
 CauseUntold (refusal.BadCapacity dev) name old new = IsBad name dev old new
 CauseUntold refusal.RigFault name old new = Rose old.faults new.faults × Opened name old.standing new.standing × HasKept old new
 CauseUntold refusal.Memory name old new = HasKept old new × OpenedOnce name old.standing new.standing
@@ -108,7 +108,7 @@ pub record WasScrubbedInPart (name : List ℕ) (old new : RigState) : Type 0 whe
   pub devices : List DeviceInfo
   pub told : RigState
   pub discovered : WasTold name devices old told
-  pub left : List Place
+  pub left : List LookedPlace
   pub found : List Found
   pub looked : Looked devices (all_places 0 devices) left [] found told.log new.log told.faults new.faults
   pub units : new.units ≡ told.units

@@ -5,7 +5,7 @@ use Rattle.rig_api.specs.Telling.{Opened, Standing, Stayed}
 use Rattle.rig_api.specs.declared.rig.RigFault.{RigFault}
 
 -- The image of this name was opened once more, and its head has this fault or none.
-pub record WasOpened (name : List ℕ) (fault : Option RigFault) (old new : RigState) : Type 0 where
+pub record ImageWasOpened (name : List ℕ) (fault : Option RigFault) (old new : RigState) : Type 0 where
   pub opened : Opened name old.standing new.standing
   pub judged : head_fault new.standing.head ≡ fault
   pub head : IsHeadOf new.standing.head new.image

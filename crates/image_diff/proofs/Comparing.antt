@@ -13,7 +13,7 @@ use Rattle.block_lines.specs.ShowText.{one_if}
 use Rattle.block_lines.specs.declared.diff.Pair.{Pair}
 use Rattle.image_layout.specs.Places.{block_len}
 use Rattle.image_blocks.specs.declared.stretch.Stretch.{Stretch}
-use Rattle.image_blocks.specs.Blocks.{HasBlocks}
+use Rattle.image_blocks.specs.Blocks.{HasStretch}
 use Rattle.image_blocks.specs.Places.{IsStretch, behind_in, front_in}
 use Rattle.image_blocks.proofs.Stretches.{has_both, has_none, has_some}
 use Rattle.image_walk.proofs.Walks.{behind_is, front_is}
@@ -62,7 +62,7 @@ few_differ p lba other (x ∷ xs) (u ∷ us) = let a = one_at_most (differs (dif
 
 -- These are the first blocks of the stretch, and these are left.
 pub record Front (us : List UnitSpec) (s left : Stretch) (image : Option (List ℕ)) (blocks : List (List ℕ)) : Type 0 where
-  pub whole : (rest : List (List ℕ)) → HasBlocks us left rest image → HasBlocks us s (blocks ++ rest) image
+  pub whole : (rest : List (List ℕ)) → HasStretch us left rest image → HasStretch us s (blocks ++ rest) image
   pub dev : left.dev ≡ s.dev
   pub first : left.first ≡ s.first + length blocks
   pub few : length blocks + left.count ≡ s.count
@@ -70,7 +70,7 @@ pub record Front (us : List UnitSpec) (s left : Stretch) (image : Option (List �
 front_none : (us : List UnitSpec) (s : Stretch) (image : Option (List ℕ)) → Front us s s image []
 front_none us s image = record { whole = λ rest h. h; dev = refl; first = omega arith; few = omega arith }
 
-front_more : (us : List UnitSpec) (s left : Stretch) (most : ℕ) (image : Option (List ℕ)) (blocks more : List (List ℕ)) → IsStretch us left → Front us s left image blocks → HasBlocks us (front_in left most) more image →
+front_more : (us : List UnitSpec) (s left : Stretch) (most : ℕ) (image : Option (List ℕ)) (blocks more : List (List ℕ)) → IsStretch us left → Front us s left image blocks → HasStretch us (front_in left most) more image →
     Front us s (behind_in left (min left.count most)) image (blocks ++ more)
 front_more us s left most image blocks more h l p =
     let n = p.many in
@@ -78,7 +78,7 @@ front_more us s left most image blocks more h l p =
     let f = l.first in
     let k = l.few in
     record {
-      whole = λ rest r. subst (λ v. HasBlocks us s v image) (sym (append_assoc blocks more rest)) (l.whole (more ++ rest) (has_both us left (min left.count most) more rest image h (omega arith) p r));
+      whole = λ rest r. subst (λ v. HasStretch us s v image) (sym (append_assoc blocks more rest)) (l.whole (more ++ rest) (has_both us left (min left.count most) more rest image h (omega arith) p r));
       dev = l.dev;
       first = omega (arith, n, a, f);
       few = omega (arith, n, a, k);
@@ -87,16 +87,16 @@ front_more us s left most image blocks more h l p =
 -- the first blocks and a piece, with whatever is behind them
 pub record Ahead (us : List UnitSpec) (s : Stretch) (image : Option (List ℕ)) (blocks more : List (List ℕ)) : Type 0 where
   pub rest : List (List ℕ)
-  pub has : HasBlocks us s (blocks ++ (more ++ rest)) image
+  pub has : HasStretch us s (blocks ++ (more ++ rest)) image
 
-ahead : (us : List UnitSpec) (s left : Stretch) (most len : ℕ) (image : Option (List ℕ)) (blocks more : List (List ℕ)) → IsStretch us left → len ≡ image_size us → HasLength len image → Front us s left image blocks → HasBlocks us (front_in left most) more image → Ahead us s image blocks more
+ahead : (us : List UnitSpec) (s left : Stretch) (most len : ℕ) (image : Option (List ℕ)) (blocks more : List (List ℕ)) → IsStretch us left → len ≡ image_size us → HasLength len image → Front us s left image blocks → HasStretch us (front_in left most) more image → Ahead us s image blocks more
 ahead us s left most len image blocks more h z t l p =
     let n = p.many in
     let r = has_some us (behind_in left (min left.count most)) len image (behind_is us left (min left.count most) h (omega arith)) z t in
     record { rest = r.0; has = l.whole (more ++ r.0) (has_both us left (min left.count most) more r.0 image h (omega arith) p r.1) }
 
-all_of : (us : List UnitSpec) (s left : Stretch) (image : Option (List ℕ)) (blocks : List (List ℕ)) → Front us s left image blocks → left.count ≡ 0 → HasBlocks us s blocks image
-all_of us s left image blocks l e = subst (λ v. HasBlocks us s v image) (append-nil blocks) (l.whole [] (has_none us left image e))
+all_of : (us : List UnitSpec) (s left : Stretch) (image : Option (List ℕ)) (blocks : List (List ℕ)) → Front us s left image blocks → left.count ≡ 0 → HasStretch us s blocks image
+all_of us s left image blocks l e = subst (λ v. HasStretch us s v image) (append-nil blocks) (l.whole [] (has_none us left image e))
 
 -- as many blocks as a room holds lie in it
 pub room_for : (us : List UnitSpec) (s left piece : Stretch) (most len whole : ℕ) (room : List ℕ) (image : Option (List ℕ)) (blocks : List (List ℕ)) → piece ≡ front_in left most → most ≤ whole / len → length room ≡ whole → len ≡ block_len us s.dev → Front us s left image blocks →

@@ -5,7 +5,7 @@ use Rattle.target_answer.specs.declared.units.UnitSpec.{UnitSpec}
 use Rattle.block_lines.specs.DiffText.{count_differ, diff_lines, diff_text}
 use Rattle.block_lines.specs.declared.diff.Pair.{Pair}
 use Rattle.image_blocks.specs.declared.stretch.Stretch.{Stretch}
-use Rattle.image_blocks.specs.Blocks.{HasBlocks}
+use Rattle.image_blocks.specs.Blocks.{HasStretch}
 use Rattle.image_blocks.specs.Places.{IsStretch, spec_of}
 use Rattle.image_diff.specs.declared.fault.DiffFault.{DiffFault}
 use Rattle.image_diff.specs.declared.fault.DiffFault.TheVariants as fault
@@ -48,8 +48,8 @@ differ_of p ones twos = count_differ (pair_of p) p.at.first p.to.first ones twos
 
 -- Blocks of both stretches: as many as each has, each of the length that is stored; where an image is told they are the stored ones.
 pub record HaveBlocks (p : Places) (ones twos : List (List ℕ)) (first second : Option (List ℕ)) : Type 0 where
-  pub one : HasBlocks p.units p.at ones first
-  pub other : HasBlocks p.others p.to twos second
+  pub one : HasStretch p.units p.at ones first
+  pub other : HasStretch p.others p.to twos second
 
 -- What was written is the text of blocks of both stretches, so many of which differ.
 pub record HasCompared (text : (ones twos : List (List ℕ)) → List ℕ) (p : Places) (first second : Option (List ℕ)) (differ : ℕ) (old new : Option (List ℕ)) : Type 0 where

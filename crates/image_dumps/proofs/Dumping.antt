@@ -11,7 +11,7 @@ use Rattle.target_answer.specs.declared.units.UnitSpec.{UnitSpec}
 use Rattle.target_model.proofs.Bytes.{rise}
 use Rattle.block_lines.proofs.Frames.{next_frame, shorter}
 use Rattle.image_blocks.specs.declared.stretch.Stretch.{Stretch}
-use Rattle.image_blocks.specs.Blocks.{HasBlocks, blocks_of}
+use Rattle.image_blocks.specs.Blocks.{HasStretch, blocks_of}
 use Rattle.image_blocks.specs.Places.{IsStretch, behind_in, front_in, spec_of}
 use Rattle.image_walk.proofs.Walks.{behind_is}
 use Rattle.image_blocks.proofs.Stretches.{has_both, has_none, has_some}
@@ -50,7 +50,7 @@ dump_more layout size (x ∷ xs) ys = ap (λ v. piece_of layout size x ++ v) (du
 -- The pieces of the first blocks were written, and these are left.
 pub record SoFar (layout : Layout) (us : List UnitSpec) (s left : Stretch) (image : Option (List ℕ)) (old now : Option (List ℕ)) : Type 0 where
   pub blocks : List (List ℕ)
-  pub whole : (rest : List (List ℕ)) → HasBlocks us left rest image → HasBlocks us s (blocks ++ rest) image
+  pub whole : (rest : List (List ℕ)) → HasStretch us left rest image → HasStretch us s (blocks ++ rest) image
   pub dev : left.dev ≡ s.dev
   pub written : Appended (dump_in layout us s blocks) old now
 
@@ -67,7 +67,7 @@ further : (layout : Layout) (us : List UnitSpec) (s left : Stretch) (most : ℕ)
     HasDumped layout us (front_in left most) image mid new → SoFar layout us s (behind_in left (min left.count most)) image old new
 further layout us s left most image old mid new h l p = record {
   blocks = l.blocks ++ p.blocks;
-  whole = λ rest r. subst (λ v. HasBlocks us s v image) (sym (append_assoc l.blocks p.blocks rest)) (l.whole (p.blocks ++ rest) (has_both us left (min left.count most) p.blocks rest image h (omega arith) p.has r));
+  whole = λ rest r. subst (λ v. HasStretch us s v image) (sym (append_assoc l.blocks p.blocks rest)) (l.whole (p.blocks ++ rest) (has_both us left (min left.count most) p.blocks rest image h (omega arith) p.has r));
   dev = l.dev;
   written = subst (λ t. Appended t old new) (sym (dump_behind layout us s left l.blocks p.blocks l.dev)) (appended_both (dump_in layout us s l.blocks) (dump_in layout us left p.blocks) old mid new l.written p.written);
 }
@@ -99,15 +99,15 @@ breaks_off layout us s left piece most len image old mid new h z t l e p =
 pub at_last : (layout : Layout) (us : List UnitSpec) (s left : Stretch) (image old now : Option (List ℕ)) → SoFar layout us s left image old now → left.count ≡ 0 → HasDumped layout us s image old now
 at_last layout us s left image old now l e = record {
   blocks = l.blocks;
-  has = subst (λ v. HasBlocks us s v image) (append-nil l.blocks) (l.whole [] (has_none us left image e));
+  has = subst (λ v. HasStretch us s v image) (append-nil l.blocks) (l.whole [] (has_none us left image e));
   written = l.written;
 }
 
 -- what was read of a stretch was written
-pub piece_dumped : (layout : Layout) (us vs : List UnitSpec) (s : Stretch) (into : List ℕ) (image old new : Option (List ℕ)) → vs ≡ us → HasBlocks us s (blocks_of us s into) image → Appended (dump_in layout vs s (blocks_of vs s into)) old new → HasDumped layout us s image old new
+pub piece_dumped : (layout : Layout) (us vs : List UnitSpec) (s : Stretch) (into : List ℕ) (image old new : Option (List ℕ)) → vs ≡ us → HasStretch us s (blocks_of us s into) image → Appended (dump_in layout vs s (blocks_of vs s into)) old new → HasDumped layout us s image old new
 piece_dumped layout us vs s into image old new e h a = record { blocks = blocks_of us s into; has = h; written = subst (λ (v : List UnitSpec). Appended (dump_in layout v s (blocks_of v s into)) old new) e a }
 
-pub piece_some : (layout : Layout) (us vs : List UnitSpec) (s : Stretch) (into : List ℕ) (image old new : Option (List ℕ)) → vs ≡ us → HasBlocks us s (blocks_of us s into) image → AppendedSome (dump_in layout vs s (blocks_of vs s into)) old new → HasDumpedSome layout us s image old new
+pub piece_some : (layout : Layout) (us vs : List UnitSpec) (s : Stretch) (into : List ℕ) (image old new : Option (List ℕ)) → vs ≡ us → HasStretch us s (blocks_of us s into) image → AppendedSome (dump_in layout vs s (blocks_of vs s into)) old new → HasDumpedSome layout us s image old new
 piece_some layout us vs s into image old new e h a = record { blocks = blocks_of us s into; has = h; written = subst (λ (v : List UnitSpec). AppendedSome (dump_in layout v s (blocks_of v s into)) old new) e a }
 
 -- nothing of a stretch

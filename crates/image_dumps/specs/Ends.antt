@@ -8,7 +8,7 @@ use Rattle.target_answer.specs.declared.units.UnitSpec.{UnitSpec}
 use Rattle.target_model.specs.Served.{AllLong}
 use Rattle.image_layout.specs.Places.{block_len, block_place}
 use Rattle.image_blocks.specs.declared.stretch.Stretch.{Stretch}
-use Rattle.image_blocks.specs.Blocks.{HasBlocks, blocks_at, blocks_of, with_stretch}
+use Rattle.image_blocks.specs.Blocks.{HasStretch, blocks_at, blocks_of, with_stretch}
 use Rattle.image_blocks.specs.Places.{IsStretch, spec_of}
 use Rattle.image_dumps.specs.declared.layout.Layout.{Layout}
 use Rattle.image_dumps.specs.declared.layout.Layout.TheVariants.{Interleaved, Plain, Tuples}
@@ -27,13 +27,13 @@ dump_in layout us s blocks = dump_of layout (spec_of us s.dev).size blocks
 -- What was written is the dump of blocks of the stretch. Where the image is told they are the stored ones.
 pub record HasDumped (layout : Layout) (us : List UnitSpec) (s : Stretch) (image : Option (List ℕ)) (old new : Option (List ℕ)) : Type 0 where
   pub blocks : List (List ℕ)
-  pub has : HasBlocks us s blocks image
+  pub has : HasStretch us s blocks image
   pub written : Appended (dump_in layout us s blocks) old new
 
 -- What was written is the beginning of such a dump.
 pub record HasDumpedSome (layout : Layout) (us : List UnitSpec) (s : Stretch) (image : Option (List ℕ)) (old new : Option (List ℕ)) : Type 0 where
   pub blocks : List (List ℕ)
-  pub has : HasBlocks us s blocks image
+  pub has : HasStretch us s blocks image
   pub written : AppendedSome (dump_in layout us s blocks) old new
 
 -- How an export ends: all was written, or store or sink failed, whose count rose.
@@ -62,7 +62,7 @@ imported_in layout us s found pieces = imported layout (spec_of us s.dev).ty (sp
 abbrev pub HasOwn : Layout → List UnitSpec → Stretch → List ℕ → Option (List ℕ) → Type 0
 HasOwn Interleaved us s bytes image = Unit {0}
 HasOwn Plain us s bytes image = Unit {0}
-HasOwn Tuples us s bytes image = HasBlocks us s (blocks_of us s bytes) image
+HasOwn Tuples us s bytes image = HasStretch us s (blocks_of us s bytes) image
 
 -- Where the image is told, its units are as before, with what is stored of these pieces at the front of the stretch, and these blocks behind it.
 abbrev pub ArePieces : Layout → List UnitSpec → Stretch → (pieces others : List (List ℕ)) → (image image_after : Option (List ℕ)) → Type 0

@@ -43,7 +43,7 @@ abbrev pub left_by : Script → List ℕ → State
 left_by script image = script_walk (setting_over script image) script.ops (opening_over script image)
 
 -- The text is this script of the language, and neither its volume nor one of its lines is at fault over the image's units.
-pub record Fits (script : Script) (image text : List ℕ) : Type 0 where
+pub record FitsImage (script : Script) (image text : List ℕ) : Type 0 where
   pub language : script_in text ≡ Ok script
   pub volume : table_fault script.entries (devices_of image) script.block ≡ None
   pub lines : binding_fault script (volume_over script image) (devices_of image) ≡ None

@@ -12,7 +12,7 @@ use Rattle.target_answer.specs.declared.units.UnitSpec.{UnitSpec}
 use Rattle.block_lines.specs.ShowText.{block_lines, count_bad, first_line, last_line}
 use Rattle.block_lines.specs.Sights.{block_line}
 use Rattle.image_blocks.specs.declared.stretch.Stretch.{Stretch}
-use Rattle.image_blocks.specs.Blocks.{HasBlocks}
+use Rattle.image_blocks.specs.Blocks.{HasStretch}
 use Rattle.image_blocks.specs.Places.{IsStretch, behind_in, front_in, spec_of}
 use Rattle.image_blocks.proofs.Stretches.{has_both, has_none, has_some}
 use Rattle.image_walk.proofs.Walks.{behind_is}
@@ -59,7 +59,7 @@ few_bad ty size dev lba (x ∷ xs) =
 -- The lines of the first blocks were written, and these are left.
 pub record SoFar (us : List UnitSpec) (s left : Stretch) (image : Option (List ℕ)) (bad : ℕ) (old now : Option (List ℕ)) : Type 0 where
   pub blocks : List (List ℕ)
-  pub whole : (rest : List (List ℕ)) → HasBlocks us left rest image → HasBlocks us s (blocks ++ rest) image
+  pub whole : (rest : List (List ℕ)) → HasStretch us left rest image → HasStretch us s (blocks ++ rest) image
   pub dev : left.dev ≡ s.dev
   pub first : left.first ≡ s.first + length blocks
   pub few : length blocks + left.count ≡ s.count
@@ -95,7 +95,7 @@ further us s left most bad more image old mid new h l p =
     let d = p.counted in
     record {
       blocks = l.blocks ++ p.blocks;
-      whole = λ rest r. subst (λ v. HasBlocks us s v image) (sym (append_assoc l.blocks p.blocks rest)) (l.whole (p.blocks ++ rest) (has_both us left (min left.count most) p.blocks rest image h (omega arith) p.has r));
+      whole = λ rest r. subst (λ v. HasStretch us s v image) (sym (append_assoc l.blocks p.blocks rest)) (l.whole (p.blocks ++ rest) (has_both us left (min left.count most) p.blocks rest image h (omega arith) p.has r));
       dev = l.dev;
       first = omega arith;
       few = omega arith;
@@ -143,7 +143,7 @@ breaks_off us s left piece most bad len image old mid new h z t l e p =
 pub at_last : (us : List UnitSpec) (s left : Stretch) (image : Option (List ℕ)) (bad : ℕ) (old now : Option (List ℕ)) → SoFar us s left image bad old now → left.count ≡ 0 → HasShown (lines_of us s) us s image bad old now
 at_last us s left image bad old now l e = record {
   blocks = l.blocks;
-  has = subst (λ v. HasBlocks us s v image) (append-nil l.blocks) (l.whole [] (has_none us left image e));
+  has = subst (λ v. HasStretch us s v image) (append-nil l.blocks) (l.whole [] (has_none us left image e));
   counted = l.counted;
   written = l.written;
 }

@@ -3,7 +3,7 @@ use Rattle.dix_base.specs.Told.{Appended, AppendedSome, Rose}
 use Rattle.target_answer.specs.declared.units.UnitSpec.{UnitSpec}
 use Rattle.block_lines.specs.ShowText.{block_lines, count_bad, show_text}
 use Rattle.image_blocks.specs.declared.stretch.Stretch.{Stretch}
-use Rattle.image_blocks.specs.Blocks.{HasBlocks}
+use Rattle.image_blocks.specs.Blocks.{HasStretch}
 use Rattle.image_blocks.specs.Places.{spec_of}
 use Rattle.image_walk.specs.declared.fault.WalkFault.{WalkFault}
 use Rattle.image_walk.specs.declared.fault.WalkFault.TheVariants as fault
@@ -25,14 +25,14 @@ bad_of us s blocks = count_bad (spec_of us s.dev).ty (spec_of us s.dev).size s.d
 -- What was written is the text of blocks of the stretch, so many of them at fault. Where the image is told they are the stored ones.
 pub record HasShown (text : List (List ℕ) → List ℕ) (us : List UnitSpec) (s : Stretch) (image : Option (List ℕ)) (bad : ℕ) (old new : Option (List ℕ)) : Type 0 where
   pub blocks : List (List ℕ)
-  pub has : HasBlocks us s blocks image
+  pub has : HasStretch us s blocks image
   pub counted : bad ≡ bad_of us s blocks
   pub written : Appended (text blocks) old new
 
 -- What was written is the beginning of such a text.
 pub record HasShownSome (text : List (List ℕ) → List ℕ) (us : List UnitSpec) (s : Stretch) (image : Option (List ℕ)) (old new : Option (List ℕ)) : Type 0 where
   pub blocks : List (List ℕ)
-  pub has : HasBlocks us s blocks image
+  pub has : HasStretch us s blocks image
   pub written : AppendedSome (text blocks) old new
 
 -- How the showing of a stretch ends: it was shown, or store or sink failed, whose count rose.

@@ -14,7 +14,7 @@ use Rattle.stack_ops.specs.declared.op.Op.TheVariants.{Fetch, FetchPi, Fill, Ove
 use Rattle.volume_table.specs.Places.{volume_len}
 use Rattle.block_path.specs.WayIn.{owner_says}
 use Rattle.block_path.proofs.Cells.{below}
-use Rattle.whole_run.specs.CalmRun.{AllFit, Fits, LiesIn}
+use Rattle.whole_run.specs.CalmRun.{AllFit, Fits, LiesInImage}
 use Rattle.whole_run.specs.ReadsAs.{landing, read_op}
 use Rattle.whole_run.specs.Settings.{Setting, block_of}
 use Rattle.whole_run.specs.Steps.{Reads, Seals, Step, Writes, WritesPi, body_of, each_from, frame_at, steps_of, tuple_of}
@@ -29,7 +29,7 @@ use Rattle.lab_laws.proofs.Beside.{AllFit as StepsFit, Fit}
 use Rattle.lab_laws.proofs.Listed.{app_listed, app_marked, read_either, read_listed, write_listed, write_marked}
 use Rattle.lab_laws.proofs.InOps.{Alters, Lists, MayList, OpsFit}
 
-module _ (m' : Setting) (even : m'.size % 2 ≡ 0) (image : List (List ℕ)) (lies : LiesIn (m0 m' TargetToMedium 0 0 0 0) (volume_len m'.entries) image) (op k off byte : ℕ) where
+module _ (m' : Setting) (even : m'.size % 2 ≡ 0) (image : List (List ℕ)) (lies : LiesInImage (m0 m' TargetToMedium 0 0 0 0) (volume_len m'.entries) image) (op k off byte : ℕ) where
   abbrev n : ℕ
   n = m'.size
 

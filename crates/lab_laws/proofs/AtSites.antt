@@ -12,7 +12,7 @@ use Rattle.stack_ops.specs.declared.op.Op.TheVariants.{Fetch, FetchPi, Fill, Ove
 use Rattle.target_answer.specs.declared.units.UnitSpec.{UnitSpec}
 use Rattle.volume_table.specs.Places.{place_in, volume_len}
 use Rattle.block_path.specs.Acts.{State}
-use Rattle.whole_run.specs.CalmRun.{AllFit, Fits, LiesIn}
+use Rattle.whole_run.specs.CalmRun.{AllFit, Fits, LiesInImage}
 use Rattle.whole_run.specs.Settings.{Setting}
 use Rattle.stack_ops.specs.Ops.{first_virt}
 use Rattle.run_premises.specs.Forms.{op_of}
@@ -31,7 +31,7 @@ use Rattle.lab_laws.proofs.AtOps.{app_host, app_medium, app_wire, read_host, rea
 use Rattle.lab_laws.proofs.Sited.{HoldsAt, is_read_there, op_there}
 use Rattle.lab_laws.proofs.Verdicts.{Ready, came, either_verdict, later_verdict, listed_verdict}
 
-module _ (m' : Setting) (even : m'.size % 2 ≡ 0) (image : List (List ℕ)) (lies : LiesIn (m0 m' TargetToMedium 0 0 0 0) (volume_len m'.entries) image) (units : List UnitSpec) (opening : State) (byte : ℕ) (some : 1 ≤ byte) (fits : byte < 256) where
+module _ (m' : Setting) (even : m'.size % 2 ≡ 0) (image : List (List ℕ)) (lies : LiesInImage (m0 m' TargetToMedium 0 0 0 0) (volume_len m'.entries) image) (units : List UnitSpec) (opening : State) (byte : ℕ) (some : 1 ≤ byte) (fits : byte < 256) where
   abbrev plain : Setting
   plain = m0 m' TargetToMedium 0 0 0 0
 

@@ -21,7 +21,7 @@ use Rattle.volume_table.specs.declared.device.DeviceInfo.{DeviceInfo}
 use Rattle.volume_table.proofs.Laws.{made}
 use Rattle.dix_adapter.specs.Ways.{blocks_told, cell_in, shapes_of}
 use Rattle.block_path.specs.Routes.{target}
-use Rattle.whole_run.specs.CalmRun.{LiesIn}
+use Rattle.whole_run.specs.CalmRun.{LiesInImage}
 use Rattle.whole_run.specs.Settings.{Setting}
 use Rattle.whole_run.specs.UnderMap.{home}
 use Rattle.run_laws.specs.ShownRun.{IsChecked}
@@ -144,8 +144,8 @@ module _ (w : Sweep) (h : IsGuarded w) where
   pub blocks_below : All (All (λ x. x < 256)) (blocks_told us)
   blocks_below = subst (λ us. All (All (λ x. x < 256)) (blocks_told us)) (sym (stored_back w.units h.layout)) (formatted_below w.units few)
 
-  pub lies_there : LiesIn plain (volume_len own.entries) (blocks_told us)
-  lies_there = subst (λ (m : Setting). LiesIn m (volume_len own.entries) (blocks_told us)) plain_is (lies-in s table us bound blocks_below)
+  pub lies_there : LiesInImage plain (volume_len own.entries) (blocks_told us)
+  lies_there = subst (λ (m : Setting). LiesInImage m (volume_len own.entries) (blocks_told us)) plain_is (lies-in s table us bound blocks_below)
 
   -- ---- where blocks lie
 

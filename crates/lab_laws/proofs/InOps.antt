@@ -16,7 +16,7 @@ use Rattle.volume_table.specs.Places.{volume_len}
 use Rattle.block_path.specs.Acts.{State, act}
 use Rattle.block_path.specs.Blocks.{ActAnswer}
 use Rattle.block_path.specs.Serial.{plain}
-use Rattle.whole_run.specs.CalmRun.{LiesIn}
+use Rattle.whole_run.specs.CalmRun.{LiesInImage}
 use Rattle.whole_run.specs.ScriptWalk.{acts_of, bad_from, replies_from, reply_of, request_reply, walk_from, whole_or_bad}
 use Rattle.whole_run.specs.Settings.{Setting, block_of}
 use Rattle.whole_run.specs.Steps.{Reads, Seals, Step, Writes, WritesPi, body_of, each_from, frame_at, steps_of, tuple_of}
@@ -55,7 +55,7 @@ pub record IsRequest (m : Setting) (i : ℕ) (o : Op) (n : ℕ) (f : ℕ → Ste
   pub steps : steps_of m i o ≡ each_from 0 n f
   pub reply : (answers : List ActAnswer) → reply_of (m.fails i) o answers ≡ request_reply answers
 
-module _ (m' : Setting) (even : m'.size % 2 ≡ 0) (image : List (List ℕ)) (lies : LiesIn (m0 m' TargetToMedium 0 0 0 0) (volume_len m'.entries) image) (at : Crossing) (op k off byte : ℕ) (check : Check) where
+module _ (m' : Setting) (even : m'.size % 2 ≡ 0) (image : List (List ℕ)) (lies : LiesInImage (m0 m' TargetToMedium 0 0 0 0) (volume_len m'.entries) image) (at : Crossing) (op k off byte : ℕ) (check : Check) where
   abbrev was : Setting
   was = m0 m' at op k off byte
 

@@ -20,7 +20,7 @@ use Rattle.block_path.specs.Blocks.{fetched_cell, own_cell, own_frame, stored_ce
 use Rattle.block_path.specs.WayIn.{WayIn, way_in}
 use Rattle.block_path.specs.WayOut.{Stores, WayOut, way_out}
 use Rattle.block_path.specs.declared.route.Route.{Route}
-use Rattle.whole_run.specs.CalmRun.{LiesIn}
+use Rattle.whole_run.specs.CalmRun.{LiesInImage}
 use Rattle.whole_run.specs.ScriptWalk.{act_of}
 use Rattle.whole_run.specs.Settings.{Block, Setting, route}
 use Rattle.whole_run.specs.Steps.{Reads, Step, Writes, WritesPi}
@@ -32,7 +32,7 @@ use Rattle.lab_laws.proofs.Marked.{StoredWrong, in_why, medium_out, out_why}
 use Rattle.lab_laws.proofs.Walking.{Holds, app_supplied, comes, fetched_is, goes, home_is, inside, own_supplied, read_why, written_why}
 use Rattle.lab_laws.proofs.Beside.{IsListed, Marks, MayBeListed, WasGood, spoilt}
 
-module _ (m' : Setting) (even : m'.size % 2 ≡ 0) (image : List (List ℕ)) (lies : LiesIn (m0 m' TargetToMedium 0 0 0 0) (volume_len m'.entries) image) (at : Crossing) (op k off byte : ℕ) (check : Check) where
+module _ (m' : Setting) (even : m'.size % 2 ≡ 0) (image : List (List ℕ)) (lies : LiesInImage (m0 m' TargetToMedium 0 0 0 0) (volume_len m'.entries) image) (at : Crossing) (op k off byte : ℕ) (check : Check) where
   abbrev was : Setting
   was = m0 m' at op k off byte
 
@@ -116,7 +116,7 @@ module _ (m' : Setting) (even : m'.size % 2 ≡ 0) (image : List (List ℕ)) (li
 
 -- ---- altered on its way to the medium
 
-module _ (m' : Setting) (even : m'.size % 2 ≡ 0) (image : List (List ℕ)) (lies : LiesIn (m0 m' TargetToMedium 0 0 0 0) (volume_len m'.entries) image) (op k off byte : ℕ) (check : Check)
+module _ (m' : Setting) (even : m'.size % 2 ≡ 0) (image : List (List ℕ)) (lies : LiesInImage (m0 m' TargetToMedium 0 0 0 0) (volume_len m'.entries) image) (op k off byte : ℕ) (check : Check)
     (seen : (f : ℕ → ℕ) → IsOne off byte f → IsSeenFlip m'.size f check) where
   abbrev first : Setting
   first = m0 m' TargetToMedium op k off byte

@@ -38,7 +38,7 @@ use Rattle.vector_runs.specs.Done.{answers_over, units_over, units_to}
 use Rattle.vector_runs.specs.ListText.{list_text}
 use Rattle.vector_runs.specs.RecordText.{vectors_text}
 use Rattle.vector_runs.specs.Taken.{HoldsScript}
-use Rattle.lab_laws.specs.Again.{AreAnswered, IsAnswered, ListAgain, RunAgain, TextAgain, answer_for, lines_of, room_for}
+use Rattle.lab_laws.specs.Again.{AreAnswered, IsDoneAgain, ListAgain, RunAgain, TextAgain, answer_for, lines_of, room_for}
 use Rattle.lab_laws.specs.Passing.{AreDone, IsNotCut}
 use Rattle.lab_laws.proofs.Reading.{text_reads}
 use Rattle.lab_laws.proofs.Repeats.{same_again}
@@ -75,7 +75,7 @@ module _ (s : Standing) (k : ℕ) where
     same : out_of e.what.cdb e.moved ≡ a.out
     same = decoded_moved k size (decoded e.what.cdb) e a.out (at_front (joined (by a.out).sent) zeros) a.frames a.moved whole
 
-    is_answered : IsAnswered s us e
+    is_answered : IsDoneAgain s us e
     is_answered = record {
       labels = a.labels;
       outcome = a.outcome ∙ ap (λ ys. record { done = (by ys).done; sense = (by ys).sense }) (sym same);

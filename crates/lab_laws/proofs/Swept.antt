@@ -16,7 +16,7 @@ use Rattle.volume_table.specs.Places.{place_in, volume_len}
 use Rattle.dix_adapter.specs.Ways.{blocks_told}
 use Rattle.block_path.specs.Acts.{State}
 use Rattle.block_path.proofs.Cells.{below}
-use Rattle.whole_run.specs.CalmRun.{AllFit, LiesIn}
+use Rattle.whole_run.specs.CalmRun.{AllFit, LiesInImage}
 use Rattle.whole_run.specs.Settings.{Setting}
 use Rattle.whole_run.specs.UnderMap.{NoEscape, home}
 use Rattle.whole_run.proofs.TupleFrames.{below_replicate}
@@ -70,7 +70,7 @@ module _ (w : Sweep) (h : IsQuietSweep w) where
   abbrev even : own.size % 2 ≡ 0
   even = is_even w g
 
-  abbrev lies : LiesIn plain (volume_len own.entries) (blocks_told us)
+  abbrev lies : LiesInImage plain (volume_len own.entries) (blocks_told us)
   lies = lies_there w g
 
   begins : Holds own even (blocks_told us) lies opening

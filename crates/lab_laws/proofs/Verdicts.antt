@@ -23,7 +23,7 @@ use Rattle.volume_table.specs.Places.{place_in, volume_len}
 use Rattle.volume_table.specs.Tables.{IsOn}
 use Rattle.dix_adapter.specs.Ways.{cell_in}
 use Rattle.block_path.specs.Acts.{State}
-use Rattle.whole_run.specs.CalmRun.{AllFit, LiesIn}
+use Rattle.whole_run.specs.CalmRun.{AllFit, LiesInImage}
 use Rattle.whole_run.specs.Detectable.{bears}
 use Rattle.whole_run.specs.ScriptWalk.{replies_from, walk_from}
 use Rattle.whole_run.specs.Settings.{Block, Setting}
@@ -69,7 +69,7 @@ found_there k w (suc behind) i (r ∷ was) (r' ∷ now) q f =
     let z : i + 1 + behind ≡ i + suc behind = omega arith in
     found_behind i r r' was now q.0 f.0 ∙ found_there k w behind (i + 1) was now q.1 f.1 ∙ ap (λ j. Some (Found j k w)) z
 
-module _ (m' : Setting) (even : m'.size % 2 ≡ 0) (image : List (List ℕ)) (lies : LiesIn (m0 m' TargetToMedium 0 0 0 0) (volume_len m'.entries) image) (units : List UnitSpec) (opening : State) where
+module _ (m' : Setting) (even : m'.size % 2 ≡ 0) (image : List (List ℕ)) (lies : LiesInImage (m0 m' TargetToMedium 0 0 0 0) (volume_len m'.entries) image) (units : List UnitSpec) (opening : State) where
   abbrev plain : Setting
   plain = m0 m' TargetToMedium 0 0 0 0
 

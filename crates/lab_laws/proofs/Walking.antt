@@ -19,7 +19,7 @@ use Rattle.block_path.specs.Blocks.{fetched_cell, own_cell, own_frame, own_tuple
 use Rattle.block_path.specs.WayIn.{Delivers, Spoils, Stops, WayIn, way_in}
 use Rattle.block_path.specs.WayOut.{Fails, Refuses, Stores, WayOut, adapter_finds_out, mapped_out, sent, way_out}
 use Rattle.block_path.proofs.Cells.{AllBelow, gather_length}
-use Rattle.whole_run.specs.CalmRun.{LiesIn}
+use Rattle.whole_run.specs.CalmRun.{LiesInImage}
 use Rattle.whole_run.specs.ScriptWalk.{act_of}
 use Rattle.whole_run.specs.Settings.{Block, Setting, route}
 use Rattle.whole_run.specs.Steps.{Alters, Reads, Seals, Sets, Shows, Step, Writes, WritesPi}
@@ -32,7 +32,7 @@ use Rattle.lab_laws.proofs.Ways.{fetched_home, in_by, out_by, out_of, stored_hom
 use Rattle.lab_laws.proofs.OneLine.{m0, none_altered, none_shifted, quiet_in, quiet_out}
 use Rattle.lab_laws.proofs.Marked.{in_why, mapped_whole, no_bytes, out_why, sent_whole, to_fine}
 
-module _ (m' : Setting) (even : m'.size % 2 ≡ 0) (image : List (List ℕ)) (lies : LiesIn (m0 m' TargetToMedium 0 0 0 0) (volume_len m'.entries) image) where
+module _ (m' : Setting) (even : m'.size % 2 ≡ 0) (image : List (List ℕ)) (lies : LiesInImage (m0 m' TargetToMedium 0 0 0 0) (volume_len m'.entries) image) where
   abbrev m : Setting
   m = m0 m' TargetToMedium 0 0 0 0
 

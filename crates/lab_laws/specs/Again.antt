@@ -17,8 +17,8 @@ use Rattle.rig_api.specs.State.{Exchanged, RigState}
 use Rattle.rig_api.specs.Telling.{Standing, answer_of, at_front, spec_at, specs_of, unit_at, with_blocks}
 use Rattle.rig_api.specs.declared.rig.Outcome.{Outcome}
 use Rattle.dix_adapter.specs.declared.adapter.Adapter.{Adapter}
-use Rattle.dix_adapter.specs.Carried.{Fetched, Sent, any_bad, sends}
-use Rattle.dix_adapter.specs.Groups.{IsGroup, IsProtect, blocks_in, first_of}
+use Rattle.dix_adapter.specs.Carried.{Fetched, WasSent, any_bad, sends}
+use Rattle.dix_adapter.specs.Groups.{IsCarriedGroup, IsProtect, blocks_in, first_of}
 use Rattle.dix_adapter.specs.Ways.{WentOut}
 use Rattle.vector_lines.specs.Printed.{out_of}
 use Rattle.vector_lines.specs.Texts.{list_in}
@@ -44,7 +44,7 @@ abbrev pub answer_for : Standing → List Stored → List Label → LogEntry →
 answer_for s us labels e = answer_of us [] e.what.dev e.what.cdb labels (out_of e.what.cdb e.moved) (room_for s e) None
 
 -- The record is of this answer.
-pub record IsAnswered (s : Standing) (us : List Stored) (e : LogEntry) : Type 0 where
+pub record IsDoneAgain (s : Standing) (us : List Stored) (e : LogEntry) : Type 0 where
   pub labels : List Label
   pub outcome : e.what.outcome ≡ record { done = (answer_for s us labels e).done; sense = (answer_for s us labels e).sense }
   pub moved : e.moved ≡ moved_of (spec_at s e.what.dev).size e.what.cdb e.what.outcome (out_of e.what.cdb e.moved) (at_front (joined (answer_for s us labels e).sent) (replicate (room_for s e) 0))
@@ -52,7 +52,7 @@ pub record IsAnswered (s : Standing) (us : List Stored) (e : LogEntry) : Type 0 
 -- So is each of these, one after another, and these units are left.
 abbrev pub AreAnswered : Standing → List Stored → List LogEntry → (left : List Stored) → Type 0
 AreAnswered s us [] left = left ≡ us
-AreAnswered s us (e ∷ es) left = (a : IsAnswered s us e) × AreAnswered s (with_blocks us e.what.dev (answer_for s us a.labels e).blocks) es left
+AreAnswered s us (e ∷ es) left = (a : IsDoneAgain s us e) × AreAnswered s (with_blocks us e.what.dev (answer_for s us a.labels e).blocks) es left
 
 -- What a rig that tells its blocks puts on record of one exchange, without faults and where no store call failed, is so: with room for just what the command reads, and where all that was sent was moved.
 -- Whatever stood in the buffer, and where blocks have their sizes.
@@ -60,14 +60,14 @@ abbrev pub ExchangeAnswers : Type 0
 ExchangeAnswers = (old new : RigState) (dev : ℕ) (cdb : List ℕ) (labels : List Label) (out before came : List ℕ) (o : Outcome) (us : List Stored) → Exchanged old new dev cdb labels out before came o → old.units ≡ Some us → old.armed ≡ [] → Calm old.faults new.faults →
     All (λ block. length {A = ℕ} block ≡ stored_size (unit_at us dev).ty (unit_at us dev).size) (unit_at us dev).blocks → (spec_at old.standing dev).size ≡ (unit_at us dev).size → length before ≡ room_of (spec_at old.standing dev).size cdb →
     let e = entry_of (spec_at old.standing dev).size dev cdb labels o out came in out_of cdb e.moved ≡ out →
-    (new.log ≡ old.log ++ (e ∷ [])) × ((a : IsAnswered old.standing us e) × (new.units ≡ Some (with_blocks us dev (answer_for old.standing us a.labels e).blocks)))
+    (new.log ≡ old.log ++ (e ∷ [])) × ((a : IsDoneAgain old.standing us e) × (new.units ≡ Some (with_blocks us dev (answer_for old.standing us a.labels e).blocks)))
 
 -- A group of a stack over such a rig, before and after its command: no fault is armed, an application tag is expected only where the host has tuples, no store call failed, and the unit behind it has the group's size of block.
 pub record IsToldGroup (a : Adapter) (ios : List Io) (req : List Bio) (pool : List (List ℕ)) (us : List Stored) (old new : RigState) : Type 0 where
   pub protect : IsProtect a.protect
   pub faults : a.tamper ≡ []
   pub mask : a.dix ≡ false → a.mask ≡ 0
-  pub group : IsGroup a pool (spec_at old.standing (first_of req).dev).size ios req
+  pub group : IsCarriedGroup a pool (spec_at old.standing (first_of req).dev).size ios req
   pub units : old.units ≡ Some us
   pub armed : old.armed ≡ []
   pub calm : Calm old.faults new.faults
@@ -76,12 +76,12 @@ pub record IsToldGroup (a : Adapter) (ios : List Io) (req : List Bio) (pool : Li
 
 -- One record came to the log, of an answer, and the units are as it leaves them.
 abbrev pub PutsAnswer : List Stored → (old new : RigState) → Type 0
-PutsAnswer us old new = (e : LogEntry) × ((new.log ≡ old.log ++ (e ∷ [])) × ((a : IsAnswered old.standing us e) × (new.units ≡ Some (with_blocks us e.what.dev (answer_for old.standing us a.labels e).blocks))))
+PutsAnswer us old new = (e : LogEntry) × ((new.log ≡ old.log ++ (e ∷ [])) × ((a : IsDoneAgain old.standing us e) × (new.units ≡ Some (with_blocks us e.what.dev (answer_for old.standing us a.labels e).blocks))))
 
 -- So it is of each write that the adapter passes and sends,
 abbrev pub WriteAnswers : Type 0
 WriteAnswers = (a : Adapter) (ios : List Io) (req : List Bio) (pool pool' : List (List ℕ)) (us : List Stored) (fates : List Fate) (old new : RigState) → IsToldGroup a ios req pool us old new → (first_of req).dir ≡ Write →
-    any_bad (map (sends a ios (flat pool)) (blocks_in req)) ≡ false → Sent a ios req pool pool' fates old new → WentOut a ios req (flat pool) us None fates old new → PutsAnswer us old new
+    any_bad (map (sends a ios (flat pool)) (blocks_in req)) ≡ false → WasSent a ios req pool pool' fates old new → WentOut a ios req (flat pool) us None fates old new → PutsAnswer us old new
 
 -- and of each read.
 abbrev pub ReadAnswers : Type 0

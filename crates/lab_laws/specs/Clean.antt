@@ -24,7 +24,7 @@ use Rattle.image_blocks.specs.declared.stretch.Stretch.{Stretch}
 use Rattle.image_dumps.specs.Dumps.{imported, imported_block}
 use Rattle.image_dumps.specs.Ends.{HasTaken, KeepsOutside}
 use Rattle.image_dumps.specs.declared.layout.Layout.TheVariants.{Plain}
-use Rattle.image_scripts.specs.Over.{Fits, blocks_in, setting_over, volume_over}
+use Rattle.image_scripts.specs.Over.{FitsImage, blocks_in, setting_over, volume_over}
 use Rattle.image_scripts.specs.Over as over
 
 -- What a plain import makes of a user's own data, as the premises of a run have it.
@@ -77,5 +77,5 @@ RunsOnClean = (script : Script) (table : Table) (us : List Stored) → HasTable 
 
 -- Over the bytes of an image with a right head, whose units and volume the script fits.
 abbrev pub ClaimsOnClean : Type 0
-ClaimsOnClean = (script : Script) (image text : List ℕ) → head_fault (head_of image) ≡ None → Fits script image text → script.mode.mask ≡ 0 → AreMade script.entries (own_units image) →
+ClaimsOnClean = (script : Script) (image text : List ℕ) → head_fault (head_of image) ≡ None → FitsImage script image text → script.mode.mask ≡ 0 → AreMade script.entries (own_units image) →
     AreClean (setting_over script image) (blocks_in image) × (is_zero (volume_over script image).ty ≡ false → over.IsClean script image)

@@ -25,7 +25,7 @@ use Rattle.block_path.specs.Serial.{plain_tells}
 use Rattle.block_path.specs.WayOut.{to_wire}
 use Rattle.dix_adapter.specs.declared.adapter.Adapter.{Adapter}
 use Rattle.dix_adapter.specs.Carried.{any_bad, frame_sent, sends}
-use Rattle.dix_adapter.specs.Groups.{IsGroup, blocks_in, size}
+use Rattle.dix_adapter.specs.Groups.{IsCarriedGroup, blocks_in, size}
 use Rattle.dix_adapter.specs.Ways.{WentOut}
 use Rattle.stack_ops.specs.declared.op.Op.{Op}
 use Rattle.whole_run.specs.CalmRun.{AllFit, IsCalm}
@@ -50,7 +50,7 @@ BlockPasses = (r : Route) (frame : List ℕ) → length frame ≡ host_size r �
 
 -- A write whose blocks the adapter passes, over units that are told and where no store call failed, is done whole, and the moved bytes of its record are all its frames.
 abbrev pub CommandPasses : Type 0
-CommandPasses = (a : Adapter) (ios : List Io) (req : List Bio) (pool : List (List ℕ)) (bytes : ℕ) (us : List Stored) (fates : List Fate) (old new : RigState) → a.tamper ≡ [] → (a.dix ≡ false → a.mask ≡ 0) → IsGroup a pool bytes ios req →
+CommandPasses = (a : Adapter) (ios : List Io) (req : List Bio) (pool : List (List ℕ)) (bytes : ℕ) (us : List Stored) (fates : List Fate) (old new : RigState) → a.tamper ≡ [] → (a.dix ≡ false → a.mask ≡ 0) → IsCarriedGroup a pool bytes ios req →
     let sent = map (sends a ios (flat pool)) (blocks_in req) in
     any_bad sent ≡ false → (w : WentOut a ios req (flat pool) us None fates old new) → (w.entry.what.outcome.done ≡ size req) × (w.entry.moved ≡ joined (map frame_sent sent))
 

@@ -3,7 +3,7 @@ use Rattle.std.proofs.Common.{ℕ, ◌≡◌, ◌≤◌, inl, inr, Bool, true, f
 use Rattle.std.proofs.lemmas.Bool.{eq-eqb, eqb-true}
 use Rattle.unit_words.specs.Words.{image_in}
 use Rattle.dix_base.specs.Stores.{StoreState, WasRead}
-use Rattle.image_blocks.specs.Blocks.{HasBlocks}
+use Rattle.image_blocks.specs.Blocks.{HasStretch}
 use Rattle.image_blocks.specs.Images.{units_open}
 use Rattle.image_blocks.specs.Places.{spec_of}
 use Rattle.image_blocks.specs.declared.image.Image.{Image}
@@ -166,8 +166,8 @@ has_compared words one other old mid new old_second mid_second new_second left r
   size = z;
   many = m;
   has = record {
-    one = subst (λ (x : Option (List ℕ)). HasBlocks (units_open image) at ones x) h.first.same b.one;
-    other = subst (λ (x : Option (List ℕ)). HasBlocks (units_open beside) to twos x) h.second.same b.other;
+    one = subst (λ (x : Option (List ℕ)). HasStretch (units_open image) at ones x) h.first.same b.one;
+    other = subst (λ (x : Option (List ℕ)). HasStretch (units_open beside) to twos x) h.second.same b.other;
   };
 }
 

@@ -5,7 +5,7 @@ use Rattle.std.proofs.Math.Nat.{mul-le-mul_left, mul_comm}
 use Rattle.dix_base.specs.Told.{Becomes, IsAtEnd}
 use Rattle.unit_words.specs.Words.{image_in}
 use Rattle.dix_base.specs.Stores.{StoreState, WasRead, WasWritten}
-use Rattle.image_blocks.specs.Blocks.{HasBlocks, blocks_at}
+use Rattle.image_blocks.specs.Blocks.{HasStretch, blocks_at}
 use Rattle.image_blocks.specs.Images.{units_open}
 use Rattle.image_blocks.specs.Places.{spec_of}
 use Rattle.image_blocks.specs.declared.image.Image.{Image}
@@ -137,7 +137,7 @@ shown_dump words place layout old mid new left reads rig second image at (Ok x) 
     place = place;
     named = e;
     found = record { opened = on_opened image words old mid new left reads rig second t g; there = sym p; fits = z };
-    has = subst (λ (b : Option (List ℕ)). HasBlocks (units_open image) at s.blocks b) t.same s.has;
+    has = subst (λ (b : Option (List ℕ)). HasStretch (units_open image) at s.blocks b) t.same s.has;
   };
   written = inl (inl (w, s.written));
   kept = keeps_on image words old mid new left reads rig second t g;
@@ -148,7 +148,7 @@ shown_dump words place layout old mid new left reads rig second image at (Err wa
     place = place;
     named = e;
     found = record { opened = on_opened image words old mid new left reads rig second t g; there = sym p; fits = z };
-    has = subst (λ (b : Option (List ℕ)). HasBlocks (units_open image) at s.1.blocks b) t.same s.1.has;
+    has = subst (λ (b : Option (List ℕ)). HasStretch (units_open image) at s.1.blocks b) t.same s.1.has;
   };
   written = inr (w, rose_since old.faults mid.faults new.faults t.count s.0, s.1.written);
   kept = keeps_on image words old mid new left reads rig second t g;
@@ -159,7 +159,7 @@ shown_dump words place layout old mid new left reads rig second image at (Err wa
     place = place;
     named = e;
     found = record { opened = on_opened image words old mid new left reads rig second t g; there = sym p; fits = z };
-    has = subst (λ (b : Option (List ℕ)). HasBlocks (units_open image) at s.1.blocks b) t.same s.1.has;
+    has = subst (λ (b : Option (List ℕ)). HasStretch (units_open image) at s.1.blocks b) t.same s.1.has;
   };
   written = inl (inr (w, s.0, s.1.written));
   kept = keeps_on image words old mid new left reads rig second t g;

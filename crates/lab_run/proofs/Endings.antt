@@ -5,7 +5,7 @@ use Rattle.image_layout.specs.Heads.{HasLooked, called}
 use Rattle.dix_base.specs.Told.{Rose}
 use Rattle.unit_words.specs.Words.{image_in}
 use Rattle.dix_base.specs.Stores.{StoreState, WasRead}
-use Rattle.image_blocks.specs.Blocks.{HasBlocks}
+use Rattle.image_blocks.specs.Blocks.{HasStretch}
 use Rattle.image_blocks.specs.Images.{IsJudged, units_open}
 use Rattle.image_blocks.specs.declared.image.Image.{Image}
 use Rattle.image_blocks.specs.declared.stretch.PlaceFault.{PlaceFault}
@@ -186,19 +186,19 @@ pub shown : (words : List (List ℕ)) (place : PlaceWord) (old mid new : StoreSt
     ShowEnds r (text_of (units_open image) at) (units_open image) at mid.bytes mid.faults new.faults o n taken taken' → result ≡ shown_status r → Ended (on_first words old new left reads rig second) taken taken' o n result
 shown words place old mid new left reads rig second image at (Ok bad) taken taken' o n result e t g p s w = record {
   verdict = Shown (units_open image) at s.blocks;
-  cause = record { place = place; named = e; opened = on_opened image words old mid new left reads rig second t g; there = sym p; has = subst (λ (b : Option (List ℕ)). HasBlocks (units_open image) at s.blocks b) t.same s.has };
+  cause = record { place = place; named = e; opened = on_opened image words old mid new left reads rig second t g; there = sym p; has = subst (λ (b : Option (List ℕ)). HasStretch (units_open image) at s.blocks b) t.same s.has };
   written = inl (inl (w ∙ ap (λ (k : ℕ). done_status (ltb 0 k)) s.counted, s.written));
   kept = keeps_on image words old mid new left reads rig second t g;
 }
 shown words place old mid new left reads rig second image at (Err walk.Store) taken taken' o n result e t g p s w = record {
   verdict = Shown (units_open image) at s.1.blocks;
-  cause = record { place = place; named = e; opened = on_opened image words old mid new left reads rig second t g; there = sym p; has = subst (λ (b : Option (List ℕ)). HasBlocks (units_open image) at s.1.blocks b) t.same s.1.has };
+  cause = record { place = place; named = e; opened = on_opened image words old mid new left reads rig second t g; there = sym p; has = subst (λ (b : Option (List ℕ)). HasStretch (units_open image) at s.1.blocks b) t.same s.1.has };
   written = inr (w, rose_since old.faults mid.faults new.faults t.count s.0, s.1.written);
   kept = keeps_on image words old mid new left reads rig second t g;
 }
 shown words place old mid new left reads rig second image at (Err walk.Sink) taken taken' o n result e t g p s w = record {
   verdict = Shown (units_open image) at s.1.blocks;
-  cause = record { place = place; named = e; opened = on_opened image words old mid new left reads rig second t g; there = sym p; has = subst (λ (b : Option (List ℕ)). HasBlocks (units_open image) at s.1.blocks b) t.same s.1.has };
+  cause = record { place = place; named = e; opened = on_opened image words old mid new left reads rig second t g; there = sym p; has = subst (λ (b : Option (List ℕ)). HasStretch (units_open image) at s.1.blocks b) t.same s.1.has };
   written = inl (inr (w, s.0, s.1.written));
   kept = keeps_on image words old mid new left reads rig second t g;
 }

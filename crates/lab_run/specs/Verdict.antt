@@ -4,7 +4,7 @@ use Rattle.dix_base.specs.Stores.{StoreState}
 use Rattle.dix_base.specs.Told.{Appended, AppendedSome, Becomes, Rose}
 use Rattle.unit_words.specs.Words.{image_in}
 use Rattle.block_lines.specs.UnitText.{units_text}
-use Rattle.image_blocks.specs.Blocks.{HasBlocks, with_stretch}
+use Rattle.image_blocks.specs.Blocks.{HasStretch, with_stretch}
 use Rattle.image_blocks.specs.Places.{spec_of}
 use Rattle.image_blocks.specs.declared.stretch.PlaceFault.{PlaceFault}
 use Rattle.image_blocks.specs.declared.stretch.Stretch.{Stretch}
@@ -70,7 +70,7 @@ pub record HasShown (us : List UnitSpec) (at : Stretch) (blocks : List (List ℕ
   pub named : command_in f.words ≡ Some (ShowBlocks place)
   pub opened : HasOpened us f
   pub there : stretch_in us place ≡ Ok at
-  pub has : HasBlocks us at blocks f.first.bytes
+  pub has : HasStretch us at blocks f.first.bytes
 
 -- The first image was opened, and has its place.
 pub record HasFirst (us : List UnitSpec) (at : Stretch) (place : PlaceWord) (f : Facts) : Type 0 where
@@ -113,7 +113,7 @@ pub record HasExported (us : List UnitSpec) (at : Stretch) (layout : Layout) (bl
   pub place : PlaceWord
   pub named : command_in f.words ≡ Some (Export place layout)
   pub found : HasFound us at place layout f
-  pub has : HasBlocks us at blocks f.first.bytes
+  pub has : HasStretch us at blocks f.first.bytes
 
 -- The dump of an `import` was taken so: what came of it, and what stands in the place and is left in the source. The store has the length of the units.
 pub record DumpTaken (result : Result ℕ ImportFault) (us : List UnitSpec) (at : Stretch) (place : PlaceWord) (layout : Layout) (f : Facts) : Type 0 where

@@ -34,7 +34,7 @@ use Rattle.mirror_legs.specs.MirrorScript.{IsPiece}
 use Rattle.leg_runs.specs.Asked.{bytes_after, first_listed, fresh_on0, last_listed, part_of, rest_wanted, stretches}
 use Rattle.leg_runs.specs.LegRuns.{AllWalked, LegRun}
 use Rattle.leg_runs.specs.OnOps.{FetchedBy, Sides, whole_request}
-use Rattle.leg_runs.specs.Standing.{IsOver, half_of, mirror_setting}
+use Rattle.leg_runs.specs.Standing.{IsMirrorOver, half_of, mirror_setting}
 use Rattle.leg_runs.proofs.Coming.{NeverTwo, all-data, all-listed, comes-each, each_comes, found_first, found_last, land0, land1, landed_first, why0, why1}
 use Rattle.leg_runs.proofs.Flat.{flat-zeros, long-zeros}
 use Rattle.leg_runs.proofs.Ground.{delivers, fits, legs, made-over}
@@ -69,7 +69,7 @@ walked-both t us left (r ∷ runs) later h =
     let rest = walked-both t h.0 left runs later h.1.1 in
     (rest.0, ((h.0, (h.1.0, rest.1.0)), rest.1.1))
 
-module _ (law : ReadLaw) (s : Script) (devices : List DeviceInfo) (now : List Stored) (over : IsOver s devices now) (rest : State) (old : Sides) (whole : AreWhole old.pool) (paged : length old.pool ≡ s.pages)
+module _ (law : ReadLaw) (s : Script) (devices : List DeviceInfo) (now : List Stored) (over : IsMirrorOver s devices now) (rest : State) (old : Sides) (whole : AreWhole old.pool) (paged : length old.pool ≡ s.pages)
     (count : ℕ → ℕ) (i v n : ℕ) (body : List Seg) (req : IsRequest s (half_of s devices) v n body) (counted : count i ≡ n)
     (marked : length old.marks ≡ half_of s devices) (never : (u : ℕ) → ((marks_of old.marks u).leg0 || (marks_of old.marks u).leg1) ≡ true) where
   abbrev half : ℕ

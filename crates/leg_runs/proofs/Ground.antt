@@ -19,9 +19,9 @@ use Rattle.mirror_walk.proofs.Sizes.{delivers_whole}
 use Rattle.mirror_legs.specs.MirrorScript.{IsMirrorScript}
 use Rattle.mirror_legs.proofs.Asked.{asked}
 use Rattle.mirror_legs.proofs.Renumbered.{still}
-use Rattle.leg_runs.specs.Standing.{IsOver, half_of, mirror_setting}
+use Rattle.leg_runs.specs.Standing.{IsMirrorOver, half_of, mirror_setting}
 
-module _ (s : Script) (devices : List DeviceInfo) (us : List Stored) (is : IsOver s devices us) where
+module _ (s : Script) (devices : List DeviceInfo) (us : List Stored) (is : IsMirrorOver s devices us) where
   abbrev pub m : Setting
   m = mirror_setting s devices us
 

@@ -22,7 +22,7 @@ use Rattle.script_stack.specs.Causes.{table_of}
 use Rattle.script_stack.proofs.Following.{told-shapes, told-stored}
 use Rattle.leg_runs.specs.LegRuns.{LegRun, NamesNoMedium}
 use Rattle.leg_runs.specs.OnOps.{DidOp, OpBy, OpRan, OpWalked, Sides}
-use Rattle.leg_runs.specs.Standing.{HasDevices, IsBoundMirror, KeepsToWalk, StandsAt, half_of, op_at}
+use Rattle.leg_runs.specs.Standing.{HasLegDevices, IsBoundMirror, KeepsToWalk, StandsAt, half_of, op_at}
 
 -- an overwrite that names no medium was made
 silent : (reply : Reply) → medium_lines (reply ∷ []) ≡ 0 → (reply ≡ Silent) ⊎ (reply ≡ Medium) → reply ≡ Silent
@@ -56,7 +56,7 @@ OpLaw = (s : Script) (devices : List DeviceInfo) (us now left : List Stored) (ol
 pub record IsBetween (s : Script) (devices : List DeviceInfo) (half : ℕ) (old : Sides) (replies : List Reply) (image : Option (List ℕ)) (before : RigState) : Type 0 where
   pub bound : IsBoundMirror s devices
   pub half_is : half ≡ half_of s devices
-  pub rig : HasDevices devices (is_some image) before.standing
+  pub rig : HasLegDevices devices (is_some image) before.standing
   pub laid : before.units ≡ units_told before.standing image
   pub ready : IsStanding before.standing image
   pub whole : AreWhole old.pool

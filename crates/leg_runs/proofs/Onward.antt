@@ -25,14 +25,14 @@ use Rattle.mirror_walk.proofs.OtherOps.{one_more_op}
 use Rattle.mirror_walk.proofs.Stale.{AllOnOne, all_fresh, steps_one}
 use Rattle.leg_runs.specs.LegRuns.{LegRun}
 use Rattle.leg_runs.specs.OnOps.{OpBy, OpWalked, Sides}
-use Rattle.leg_runs.specs.Standing.{IsBoundMirror, IsOver, StandsAt, half_of, mirror_setting, op_at, walked}
+use Rattle.leg_runs.specs.Standing.{IsBoundMirror, IsMirrorOver, StandsAt, half_of, mirror_setting, op_at, walked}
 use Rattle.leg_runs.proofs.OneLeg.{ReadLaw}
 use Rattle.leg_runs.proofs.Others.{next-op}
 use Rattle.leg_runs.proofs.Requests.{op-fits, op-rules}
 use Rattle.leg_runs.proofs.Wrote.{standing}
 
 module _ (law : ReadLaw) (s : Script) (devices : List DeviceInfo) (us now left : List Stored) (old new : Sides) (runs : List LegRun) (replies : List Reply) (reply : Reply)
-    (over : IsOver s devices now) (whole : AreWhole old.pool) (paged : length old.pool ≡ s.pages) (marked : length old.marks ≡ half_of s devices) (more : length replies < length s.ops)
+    (over : IsMirrorOver s devices now) (whole : AreWhole old.pool) (paged : length old.pool ≡ s.pages) (marked : length old.marks ≡ half_of s devices) (more : length replies < length s.ops)
     (stands : StandsAt s devices us old replies now) where
   abbrev half : ℕ
   half = half_of s devices

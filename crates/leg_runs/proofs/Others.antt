@@ -43,7 +43,7 @@ use Rattle.mirror_walk.specs.LegByLeg.{Leaves}
 use Rattle.mirror_walk.proofs.OtherOps.{no_request}
 use Rattle.leg_runs.specs.LegRuns.{AllWalked, LegRun}
 use Rattle.leg_runs.specs.OnOps.{OpBy, OpWalked, Sets, Sides}
-use Rattle.leg_runs.specs.Standing.{IsOver, half_of, mirror_setting}
+use Rattle.leg_runs.specs.Standing.{IsMirrorOver, half_of, mirror_setting}
 use Rattle.leg_runs.proofs.Fetched.{fetch-goes}
 use Rattle.leg_runs.proofs.OneLeg.{ReadLaw}
 use Rattle.leg_runs.proofs.Requests.{overwrite-fits, request-fits}
@@ -80,7 +80,7 @@ change-is m us dev lba (Copy from at) e h k = sym (here-is us from at (k from at
 
 -- ---- each op
 
-module _ (law : ReadLaw) (s : Script) (devices : List DeviceInfo) (now : List Stored) (over : IsOver s devices now) (rest : State) (old : Sides) (whole : AreWhole old.pool) (paged : length old.pool ≡ s.pages)
+module _ (law : ReadLaw) (s : Script) (devices : List DeviceInfo) (now : List Stored) (over : IsMirrorOver s devices now) (rest : State) (old : Sides) (whole : AreWhole old.pool) (paged : length old.pool ≡ s.pages)
     (count : ℕ → ℕ) (i : ℕ) (marked : length old.marks ≡ half_of s devices) (never : (u : ℕ) → ((marks_of old.marks u).leg0 || (marks_of old.marks u).leg1) ≡ true) where
   abbrev half : ℕ
   half = half_of s devices

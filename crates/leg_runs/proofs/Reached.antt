@@ -12,9 +12,9 @@ use Rattle.target_answer.specs.declared.units.UnitSpec.{UnitSpec}
 use Rattle.volume_table.specs.declared.device.DeviceInfo.{DeviceInfo}
 use Rattle.volume_table.specs.Faults.{device}
 use Rattle.volume_table.specs.Tables.{IsOn}
-use Rattle.stack_core.specs.Doing.{HasBlocks}
+use Rattle.stack_core.specs.Doing.{HasChangedBlocks}
 use Rattle.script_ground.proofs.Addresses.{IsChange}
-use Rattle.leg_runs.specs.Standing.{HasDevices}
+use Rattle.leg_runs.specs.Standing.{HasLegDevices}
 
 -- a block of the volume's kind, as a rig that tells its image has it
 record Stands (st : Standing) (ty : PiType) (size dev lba : ℕ) : Type 0 where
@@ -52,7 +52,7 @@ source-known : (devices : List DeviceInfo) (ty : PiType) (size dev lba : ℕ) (c
 source-known devices ty size dev lba (Flip off bytes) c = c.to.known
 source-known devices ty size dev lba (Copy from at) c = (c.copied from at refl).known
 
-pub has-blocks : (devices : List DeviceInfo) (told : Bool) (st : Standing) (ty : PiType) (size dev lba : ℕ) (change : Change) → HasDevices devices told st → IsChange devices ty size dev lba change → HasBlocks told st dev lba change
+pub has-blocks : (devices : List DeviceInfo) (told : Bool) (st : Standing) (ty : PiType) (size dev lba : ℕ) (change : Change) → HasLegDevices devices told st → IsChange devices ty size dev lba change → HasChangedBlocks told st dev lba change
 has-blocks devices told st ty size dev lba change h c =
     let here = c.to.known in
     let there = source-known devices ty size dev lba change c in

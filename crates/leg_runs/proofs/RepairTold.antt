@@ -16,7 +16,7 @@ use Rattle.script_stack.proofs.Following.{told-shapes, told-stored}
 use Rattle.leg_runs.specs.LegRuns.{AllWalked, LegRun, RanLegs}
 use Rattle.leg_runs.specs.Mending.{Mended, RepairBy, stretches_in}
 use Rattle.leg_runs.specs.OnOps.{Sides}
-use Rattle.leg_runs.specs.Standing.{HasDevices, IsBoundMirror, IsRepairedAs, RepairsAsWalk, StandsAt, half_of}
+use Rattle.leg_runs.specs.Standing.{HasLegDevices, IsBoundMirror, IsRepairedAs, RepairsAsWalk, StandsAt, half_of}
 use Rattle.stack_core.proofs.ToldOps.{is_told}
 
 -- what the law of a repair says
@@ -27,7 +27,7 @@ RepairLaw = (s : Script) (devices : List DeviceInfo) (us now left : List Stored)
     → IsRepairedAs s devices us (length replies) new.marks new.repaired new.lost left
 
 module _ (law : RepairLaw) (s : Script) (devices : List DeviceInfo) (half : ℕ) (bound : IsBoundMirror s devices) (is-half : half ≡ half_of s devices) (st : Standing) (image : Option (List ℕ))
-    (has : HasDevices devices (is_some image) st) (ready : IsStanding st image) where
+    (has : HasLegDevices devices (is_some image) st) (ready : IsStanding st image) where
   pub repair-told : (before after : RigState) (sides : Sides) (replies : List Reply) (new : Mended) (runs : List LegRun) → before.units ≡ units_told st image → length sides.marks ≡ half
       → RanLegs (table_of s devices) devices runs before after → RepairBy s half 0 (stretches_in half) (record { marks = sides.marks; repaired = 0; lost = 0 }) new runs
       → RepairsAsWalk s devices sides before after replies new.marks new.repaired new.lost runs

@@ -22,7 +22,7 @@ use Rattle.script_ground.specs.Units.{AreStored}
 use Rattle.script_stack.specs.Causes.{table_of}
 use Rattle.script_stack.specs.Followed.{none_fails, setting_of}
 use Rattle.mirror_walk.specs.Mirror.{fresh, is_none, marks_of}
-use Rattle.mirror_walk.specs.Repair.{Repair, good, mirror_repair, on_leg0, on_leg1, reading, repair_from, steady}
+use Rattle.mirror_walk.specs.Repair.{WalkedRepair, good, mirror_repair, on_leg0, on_leg1, reading, repair_from, steady}
 use Rattle.mirror_walk.specs.Sizes.{KeepsSizes}
 use Rattle.mirror_walk.specs.Stretches.{Fine, Lost, Need, On0, On1, accepted_of, after_due, good0, good1, lost_of, marks_mended, needs}
 use Rattle.mirror_walk.specs.declared.marks.Marks.{Marks}
@@ -37,7 +37,7 @@ use Rattle.leg_runs.specs.Asked.{AreOf, fresh_on0, part_of, stretches}
 use Rattle.leg_runs.specs.LegRuns.{AllWalked, LegRun}
 use Rattle.leg_runs.specs.Mending.{AreMends, Mended, RepairBy, StretchBy, fresh_on1, needs_by, stretches_in, whole_stretch, whys_by}
 use Rattle.leg_runs.specs.OnOps.{Sides}
-use Rattle.leg_runs.specs.Standing.{IsBoundMirror, IsOver, IsRepairedAs, StandsAt, half_of, mirror_setting, walked}
+use Rattle.leg_runs.specs.Standing.{IsBoundMirror, IsMirrorOver, IsRepairedAs, StandsAt, half_of, mirror_setting, walked}
 use Rattle.leg_runs.proofs.Fetched.{walked-both}
 use Rattle.leg_runs.proofs.Ground.{fits, legs, made-over, sizes}
 use Rattle.leg_runs.proofs.Looked.{IsLooked, LookLaw, each_good, looks, taken}
@@ -142,7 +142,7 @@ still-stored (u ∷ us) (v ∷ vs) s h a =
 -- ---- a stretch
 
 -- the walk's repair, as far as it came
-abbrev pub stand : List Stored → Mended → Repair
+abbrev pub stand : List Stored → Mended → WalkedRepair
 stand now d = record { blocks = blocks_told now; marks = d.marks; repaired = d.repaired; lost = d.lost }
 
 module _ (law : LookLaw) (s : Script) (devices : List DeviceInfo) (bound : IsBoundMirror s devices) where
@@ -160,7 +160,7 @@ module _ (law : LookLaw) (s : Script) (devices : List DeviceInfo) (bound : IsBou
 
   -- what a repair goes on with
   pub record IsAt (now : List Stored) (d : Mended) : Type 0 where
-    pub over : IsOver s devices now
+    pub over : IsMirrorOver s devices now
     pub marked : length d.marks ≡ half
 
   record Stretched (u n : ℕ) (now left : List Stored) (old new : Mended) : Type 0 where
@@ -175,7 +175,7 @@ module _ (law : LookLaw) (s : Script) (devices : List DeviceInfo) (bound : IsBou
     abbrev q : Setting
     q = steady m
 
-    abbrev r : Repair
+    abbrev r : WalkedRepair
     r = stand now old
 
     is-mirror : IsMirrorScript s t half
@@ -310,7 +310,7 @@ module _ (law : LookLaw) (s : Script) (devices : List DeviceInfo) (bound : IsBou
             over = record {
               bound = bound;
               units = at.over.units ∙ ap (λ (xs : List UnitSpec). map info_of xs) (sym mends.shapes);
-              stored = still-stored now left mends.shapes (subst (λ (bs : List (List ℕ)). KeepsSizes (blocks_told now) bs) (sym (ap (λ (x : Repair). x.blocks) is)) keeps) at.over.stored;
+              stored = still-stored now left mends.shapes (subst (λ (bs : List (List ℕ)). KeepsSizes (blocks_told now) bs) (sym (ap (λ (x : WalkedRepair). x.blocks) is)) keeps) at.over.stored;
             };
             marked = ap (λ (d : Mended). length d.marks) by.new_is ∙ marks-long u by.needs (whys_by by.mends) old.marks ∙ at.marked;
           };
@@ -322,7 +322,7 @@ module _ (law : LookLaw) (s : Script) (devices : List DeviceInfo) (bound : IsBou
   abbrev blocks-in : (u many : ℕ) → ℕ
   blocks-in u many = min (128 * many) (half - u)
 
-  then-more : (q : Setting) (u many : ℕ) (r : Repair) → 128 * suc many < (half - u) + 128 →
+  then-more : (q : Setting) (u many : ℕ) (r : WalkedRepair) → 128 * suc many < (half - u) + 128 →
       repair_from q half (u + 128) (blocks-in (u + 128) many) (repair_from q half u (min 128 (half - u)) r) ≡ repair_from q half u (blocks-in u (suc many)) r
   then-more q u zero r l =
       let a : blocks-in (u + 128) 0 ≡ 0 = omega arith in
@@ -370,8 +370,8 @@ module _ (law : LookLaw) (s : Script) (devices : List DeviceInfo) (bound : IsBou
       h.is ∙ (λ i. repair_from (steady (same i)) half 0 (long i) (record { blocks = stands.blocks i; marks = stands.marks i; repaired = 0; lost = 0 })) in
       record {
         shapes = h.shapes ∙ stands.shapes;
-        marks_are = ap (λ (x : Repair). x.marks) is;
-        blocks = ap (λ (x : Repair). x.blocks) is;
-        repaired_is = ap (λ (x : Repair). x.repaired) is;
-        lost_is = ap (λ (x : Repair). x.lost) is;
+        marks_are = ap (λ (x : WalkedRepair). x.marks) is;
+        blocks = ap (λ (x : WalkedRepair). x.blocks) is;
+        repaired_is = ap (λ (x : WalkedRepair). x.repaired) is;
+        lost_is = ap (λ (x : WalkedRepair). x.lost) is;
       }

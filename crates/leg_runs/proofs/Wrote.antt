@@ -38,7 +38,7 @@ use Rattle.mirror_legs.specs.MirrorScript.{IsMirrorScript, IsPiece}
 use Rattle.mirror_legs.proofs.OnLeg.{write_goes}
 use Rattle.leg_runs.specs.LegRuns.{AllWalked, LegRun, found_by, pool_of, replies_of}
 use Rattle.leg_runs.specs.OnOps.{Sides, WroteBy, whole_request}
-use Rattle.leg_runs.specs.Standing.{IsOver, half_of, mirror_setting}
+use Rattle.leg_runs.specs.Standing.{IsMirrorOver, half_of, mirror_setting}
 use Rattle.leg_runs.proofs.Ground.{fits, legs}
 use Rattle.leg_runs.proofs.Replied.{found-last}
 use Rattle.leg_runs.proofs.Requests.{IsRequest, whole-piece}
@@ -80,7 +80,7 @@ leg-wrote : (s : Script) (t : Table) (half : ℕ) (p : Piece) (app : ℕ) (bytes
 leg-wrote s t half p app bytes us left run is fit whole own w =
     write_goes s t half p is fit us app bytes whole left (pool_of run) run.records (replies_of run) (subst (λ (x : Script). HasWalked x t us left (pool_of run) run.records (replies_of run)) own w)
 
-module _ (s : Script) (devices : List DeviceInfo) (now : List Stored) (over : IsOver s devices now) (rest : State) (old : Sides) (whole : AreWhole old.pool) (paged : length old.pool ≡ s.pages)
+module _ (s : Script) (devices : List DeviceInfo) (now : List Stored) (over : IsMirrorOver s devices now) (rest : State) (old : Sides) (whole : AreWhole old.pool) (paged : length old.pool ≡ s.pages)
     (count : ℕ → ℕ) (i v n : ℕ) (body : List Seg) (req : IsRequest s (half_of s devices) v n body) (counted : count i ≡ n) where
   abbrev half : ℕ
   half = half_of s devices

@@ -72,7 +72,7 @@ pub record FetchedBy (s : Script) (half op v n : ℕ) (body : List Seg) (old new
   pub reply_is : reply ≡ whole_or_bad (bad_from 0 listed)
 
 -- pages and marks stay, and no request is run
-pub record Stays (old new : Sides) (runs : List LegRun) : Type 0 where
+pub record SidesStay (old new : Sides) (runs : List LegRun) : Type 0 where
   pub same : new ≡ old
   pub none : runs ≡ []
 
@@ -86,14 +86,14 @@ pub record Sets (seg : Seg) (bytes : List ℕ) (old new : Sides) (runs : List Le
 abbrev pub OpBy : Script → (half op : ℕ) → Op → (old new : Sides) → List LegRun → Reply → Type 0
 OpBy s half op (Fill seg byte) old new runs reply = Sets seg (replicate seg.len byte) old new runs × (reply ≡ Silent)
 OpBy s half op (Put page off bytes) old new runs reply = Sets (put_seg page off bytes) bytes old new runs × (reply ≡ Silent)
-OpBy s half op (Show seg) old new runs reply = Stays old new runs × (reply ≡ Shown (part old.pool seg))
-OpBy s half op (Seal n body tuples app rtag) old new runs reply = Stays old new runs × (reply ≡ Silent)
+OpBy s half op (Show seg) old new runs reply = SidesStay old new runs × (reply ≡ Shown (part old.pool seg))
+OpBy s half op (Seal n body tuples app rtag) old new runs reply = SidesStay old new runs × (reply ≡ Silent)
 OpBy s half op (Write v n body app) old new runs reply = (new.pool ≡ old.pool) × WroteBy s half op v n app (bytes_in old.pool body 0 (total body)) old.marks new.marks runs reply
 OpBy s half op (Fetch v n body) old new runs reply = FetchedBy s half op v n body old new runs reply
-OpBy s half op (WritePi v n body tuples) old new runs reply = Stays old new runs × (reply ≡ Silent)
-OpBy s half op (FetchPi v n body tuples) old new runs reply = Stays old new runs × (reply ≡ Silent)
-OpBy s half op (Overwrite dev lba change) old new runs reply = Stays old new runs × ((reply ≡ Silent) ⊎ (reply ≡ Medium))
-OpBy s half op Wait old new runs reply = Stays old new runs × (reply ≡ Silent)
+OpBy s half op (WritePi v n body tuples) old new runs reply = SidesStay old new runs × (reply ≡ Silent)
+OpBy s half op (FetchPi v n body tuples) old new runs reply = SidesStay old new runs × (reply ≡ Silent)
+OpBy s half op (Overwrite dev lba change) old new runs reply = SidesStay old new runs × ((reply ≡ Silent) ⊎ (reply ≡ Medium))
+OpBy s half op Wait old new runs reply = SidesStay old new runs × (reply ≡ Silent)
 
 -- What an op runs on the legs, even where memory is wanting in its middle: op number `op`, over these pages.
 abbrev pub OpAsks : Script → (half op : ℕ) → Op → (pool : List (List ℕ)) → Script → Type 0

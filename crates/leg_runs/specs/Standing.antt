@@ -37,7 +37,7 @@ pub record IsBoundMirror (s : Script) (devices : List DeviceInfo) : Type 0 where
   pub bound : mirror_fault s (table_of s devices) devices ≡ None
 
 -- The script is bound as a mirror's to the devices that these units are, each of whose blocks has the size of a stored block.
-pub record IsOver (s : Script) (devices : List DeviceInfo) (us : List Stored) : Type 0 where
+pub record IsMirrorOver (s : Script) (devices : List DeviceInfo) (us : List Stored) : Type 0 where
   pub bound : IsBoundMirror s devices
   pub units : devices ≡ map info_of (shapes_of us)
   pub stored : AreStored us
@@ -46,7 +46,7 @@ abbrev pub half_of : Script → List DeviceInfo → ℕ
 half_of s devices = volume_len (table_of s devices).entries / 2
 
 -- A rig has these devices.
-pub record HasDevices (devices : List DeviceInfo) (tells : Bool) (st : Standing) : Type 0 where
+pub record HasLegDevices (devices : List DeviceInfo) (tells : Bool) (st : Standing) : Type 0 where
   pub count : length devices ≡ st.devices
   pub sizes : SizesAre devices st
   pub told : tells ≡ true → devices ≡ map info_of (specs_of st)

@@ -12,11 +12,11 @@ use Rattle.run_command.proofs.Devices.{image_devices}
 use Rattle.run_command.specs.Verdict.{Facts, IsFromOutside, devices_of, table_over}
 use Rattle.call_refusal.specs.declared.refusal.Refusal.{Refusal}
 use Rattle.call_refusal.specs.declared.refusal.Refusal.TheVariants as refusal
-use Rattle.mirror_command.specs.Verdict.{CauseRefused, CauseStopped, HasMirroredSource, IsComplete, IsUnbound}
+use Rattle.mirror_command.specs.Verdict.{CauseRefused, CauseStopped, HasMirroredSource, IsComplete, IsMirrorUnbound}
 use Rattle.mirror_command.specs.declared.mirrored.Mirrored.{Mirrored}
 use Rattle.image_commands.proofs.Opened.{right_head, told_is_good}
 
-not_unbound : (image : List ℕ) (s : Script) (bad : ScriptFault) (name : List ℕ) (old new : RigState) → old.image ≡ Some image → mirror_fault s (table_over s.entries (devices_of image)) (devices_of image) ≡ None → IsUnbound bad s name old new → ⊥
+not_unbound : (image : List ℕ) (s : Script) (bad : ScriptFault) (name : List ℕ) (old new : RigState) → old.image ≡ Some image → mirror_fault s (table_over s.entries (devices_of image)) (devices_of image) ≡ None → IsMirrorUnbound bad s name old new → ⊥
 not_unbound image s bad name old new i b u =
     let d : u.devices ≡ devices_of image = image_devices name u.devices old new image u.asked i in
     let t : u.table ≡ table_over s.entries (devices_of image) = table_is s u.devices (devices_of image) u.table d u.made in

@@ -16,21 +16,21 @@ use Rattle.run_command.proofs.Devices.{has_device, image_holds, known_infos}
 use Rattle.run_command.specs.Verdict.{HoldsBlocks, WasAsked}
 use Rattle.leg_runs.specs.LegRuns.{NamesNoMedium}
 use Rattle.leg_runs.proofs.Unnamed.{calm-unnamed}
-use Rattle.leg_runs.specs.Standing.{HasDevices, IsBoundMirror, IsOver, IsRepairedAs}
+use Rattle.leg_runs.specs.Standing.{HasLegDevices, IsBoundMirror, IsMirrorOver, IsRepairedAs}
 use Rattle.mirror_volume.specs.declared.mirror.Mirror.{Mirror}
 use Rattle.mirror_volume.proofs.Enough.{repaired-all}
 use Rattle.mirror_volume.specs.Enough.{WasEnough}
 use Rattle.mirror_volume.specs.Premises.{HoldsBytes, IsFormedMirror, IsOneGoodRun, IsStillMirror}
-use Rattle.mirror_command.specs.Stages.{Broke, Finished, HasServed, stage_of}
+use Rattle.mirror_command.specs.Stages.{Broke, Finished, HasServedMirror, stage_of}
 use Rattle.mirror_command.specs.Verdict.{HasMirrored, IsBegun, StoppedMidway}
 use Rattle.mirror_command.specs.declared.mirrored.Mirrored.{Mirrored}
-use Rattle.mirror_walk.specs.Repair.{Repair}
+use Rattle.mirror_walk.specs.Repair.{WalkedRepair}
 use Rattle.mirror_walk.specs.declared.marks.Marks.{Marks}
 use Rattle.stack_ops.specs.declared.reply.Reply.{Reply}
 use Rattle.stack_core.proofs.ToldOps.{is_told}
 
 -- the rig has the devices that were asked
-pub has-devices : (name : List ℕ) (devices : List DeviceInfo) (old told : RigState) → WasAsked name devices old told → told.units ≡ units_told told.standing told.image → HasDevices devices (is_some told.image) told.standing
+pub has-devices : (name : List ℕ) (devices : List DeviceInfo) (old told : RigState) → WasAsked name devices old told → told.units ≡ units_told told.standing told.image → HasLegDevices devices (is_some told.image) told.standing
 has-devices name devices old told asked laid = record {
   count = asked.told.devices_are.count;
   sizes = subst (λ (st : Standing). SizesAre devices st) (sym asked.told.since.standing) (sizes-found asked.told.between.standing devices _ _ asked.told.found);
@@ -47,7 +47,7 @@ pub record IsUp (s : Script) (name : List ℕ) (devices : List DeviceInfo) (old 
   pub octets : AreOctets told.image
 
 -- over units that are told
-over-told : (s : Script) (name : List ℕ) (devices : List DeviceInfo) (old told : RigState) (begun : Mirror) (us : List Stored) → IsUp s name devices old told begun → told.units ≡ Some us → IsOver s devices us
+over-told : (s : Script) (name : List ℕ) (devices : List DeviceInfo) (old told : RigState) (begun : Mirror) (us : List Stored) → IsUp s name devices old told begun → told.units ≡ Some us → IsMirrorOver s devices us
 over-told s name devices old told begun us up e =
     let laid = sym up.laid ∙ e in
     record {
@@ -64,24 +64,24 @@ bytes-told s name devices old told begun us up e = blocks_octets told.standing t
 
 -- what the laws of `mirror_volume` say
 abbrev pub EnoughLaw : Type 0
-EnoughLaw = (s : Script) (devices : List DeviceInfo) (us left : List Stored) (marks : List Marks) (repaired lost : ℕ) → IsOver s devices us → HoldsBytes us → IsOneGoodRun s devices us → IsRepairedAs s devices us (length s.ops) marks repaired lost left → WasEnough s devices us left lost
+EnoughLaw = (s : Script) (devices : List DeviceInfo) (us left : List Stored) (marks : List Marks) (repaired lost : ℕ) → IsMirrorOver s devices us → HoldsBytes us → IsOneGoodRun s devices us → IsRepairedAs s devices us (length s.ops) marks repaired lost left → WasEnough s devices us left lost
 
 abbrev pub FormedLaw : Type 0
-FormedLaw = (s : Script) (devices : List DeviceInfo) (us : List Stored) → IsOver s devices us → HoldsBytes us → IsFormedMirror s devices us → IsOneGoodRun s devices us
+FormedLaw = (s : Script) (devices : List DeviceInfo) (us : List Stored) → IsMirrorOver s devices us → HoldsBytes us → IsFormedMirror s devices us → IsOneGoodRun s devices us
 
 abbrev pub StillLaw : Type 0
-StillLaw = (s : Script) (devices : List DeviceInfo) (us left : List Stored) (marks : List Marks) (repaired lost : ℕ) → IsOver s devices us → HoldsBytes us → IsStillMirror s devices us → IsRepairedAs s devices us (length s.ops) marks repaired lost left → WasEnough s devices us left lost
+StillLaw = (s : Script) (devices : List DeviceInfo) (us left : List Stored) (marks : List Marks) (repaired lost : ℕ) → IsMirrorOver s devices us → HoldsBytes us → IsStillMirror s devices us → IsRepairedAs s devices us (length s.ops) marks repaired lost left → WasEnough s devices us left lost
 
-as-repaired : (s : Script) (devices : List DeviceInfo) (us left : List Stored) (pool : List (List ℕ)) (replies : List Reply) (marks : List Marks) (repaired lost : ℕ) → HasServed s devices us left pool replies marks repaired lost
+as-repaired : (s : Script) (devices : List DeviceInfo) (us left : List Stored) (pool : List (List ℕ)) (replies : List Reply) (marks : List Marks) (repaired lost : ℕ) → HasServedMirror s devices us left pool replies marks repaired lost
     → IsRepairedAs s devices us (length s.ops) marks repaired lost left
 as-repaired s devices us left pool replies marks repaired lost served =
     let e = sym (repaired-all s devices us) in
     record {
       shapes = served.shapes;
-      marks_are = served.marks_are ∙ ap (λ (r : Repair). r.marks) e;
-      blocks = served.blocks ∙ ap (λ (r : Repair). r.blocks) e;
-      repaired_is = served.repaired_is ∙ ap (λ (r : Repair). r.repaired) e;
-      lost_is = served.lost_is ∙ ap (λ (r : Repair). r.lost) e;
+      marks_are = served.marks_are ∙ ap (λ (r : WalkedRepair). r.marks) e;
+      blocks = served.blocks ∙ ap (λ (r : WalkedRepair). r.blocks) e;
+      repaired_is = served.repaired_is ∙ ap (λ (r : WalkedRepair). r.repaired) e;
+      lost_is = served.lost_is ∙ ap (λ (r : WalkedRepair). r.lost) e;
     }
 
 module _ (law : EnoughLaw) (by_form : FormedLaw) (unfaulted : StillLaw) (s : Script) (name : List ℕ) (devices : List DeviceInfo) (old told new : RigState) (begun : Mirror) (up : IsUp s name devices old told begun) (tells : is_some new.image ≡ is_some told.image) (laid : new.units ≡ units_told new.standing new.image) (ready : IsStanding new.standing new.image) where
@@ -90,7 +90,7 @@ module _ (law : EnoughLaw) (by_form : FormedLaw) (unfaulted : StillLaw) (s : Scr
   holds same = image_holds told new same (has_device name devices old told up.asked) up.ready ready laid tells
 
   -- by one of the laws, what it asks being `P`
-  by-law : (P : List Stored → Type 0) → ((us left : List Stored) (marks : List Marks) (repaired lost : ℕ) → IsOver s devices us → HoldsBytes us → P us → IsRepairedAs s devices us (length s.ops) marks repaired lost left → WasEnough s devices us left lost)
+  by-law : (P : List Stored → Type 0) → ((us left : List Stored) (marks : List Marks) (repaired lost : ℕ) → IsMirrorOver s devices us → HoldsBytes us → P us → IsRepairedAs s devices us (length s.ops) marks repaired lost left → WasEnough s devices us left lost)
       → (run : Mirrored) → (ended : Finished s devices (stage_of begun [] told) run.mirror run.repair.repaired run.repair.lost new)
       → (known : KnownBlocks told new) → NamesNoMedium (ended.stage.runs ++ ended.runs) run.mirror.replies.items → P known.before → WasEnough s devices known.before known.after run.repair.lost
   by-law P says run ended known none p =

@@ -18,7 +18,7 @@ use Rattle.script_text.specs.declared.script.Script.{Script}
 use Rattle.script_stack.specs.Causes.{table_of}
 use Rattle.run_command.specs.Layers.{NamesFaults}
 use Rattle.mirror_walk.specs.Mirror.{Mirror as Walk, count_of, done, mirror_opened, replies_from}
-use Rattle.mirror_walk.specs.Repair.{Repair, mirror_repair}
+use Rattle.mirror_walk.specs.Repair.{WalkedRepair, mirror_repair}
 use Rattle.mirror_walk.specs.declared.marks.Marks.{Marks}
 use Rattle.mirror_volume.specs.declared.mirror.Mirror.{Mirror}
 use Rattle.std.specs.declared.alloc.AllocError.{AllocError}
@@ -30,12 +30,12 @@ use Rattle.mirror_volume.specs.declared.legs.Plan.{Plan}
 use Rattle.mirror_volume.specs.Enough.{opening_over}
 use Rattle.mirror_volume.specs.Plans.{IsMirror}
 use Rattle.mirror_volume.specs.Running.{CanGoOn}
-use Rattle.leg_runs.specs.Standing.{HasDevices, IsRepairedAs, KeepsToWalk, RepairsAsWalk, StandsAt, half_of, mirror_setting, op_at, walked}
+use Rattle.leg_runs.specs.Standing.{HasLegDevices, IsRepairedAs, KeepsToWalk, RepairsAsWalk, StandsAt, half_of, mirror_setting, op_at, walked}
 use Rattle.leg_runs.proofs.Lines.{lines-append, op-lines, rose-later}
 use Rattle.leg_runs.proofs.Unnamed.{unnamed-first, unnamed-last}
 use Rattle.leg_runs.proofs.Runs.{all_backed-append, all_mediums-append, all_records-append, go_on-append, rose-add}
 use Rattle.mirror_command.proofs.Naming.{op-named}
-use Rattle.mirror_command.specs.Stages.{Broke, Finished, HasServed, InStretches, OneMore, Served, Stage, repair_over, walk_over}
+use Rattle.mirror_command.specs.Stages.{Broke, Finished, HasServedMirror, InStretches, OneMore, Served, Stage, repair_over, walk_over}
 use Rattle.rig_api.specs.State.{RigState}
 
 -- an error of which this holds
@@ -88,8 +88,8 @@ pub goes-on : {old new : Mirror} {before after : RigState} → CanGoOn old befor
 goes-on {old} {new} {before} {after} h plan mirror going tells standing = record {
   mirror = mirror;
   going = going;
-  rig = subst (λ (p : Plan). HasDevices p.devices.items (is_some after.image) after.standing) (sym plan)
-      (subst (λ st. HasDevices old.plan.devices.items (is_some after.image) st) (sym standing) (subst (λ t. HasDevices old.plan.devices.items t before.standing) (sym tells) h.rig));
+  rig = subst (λ (p : Plan). HasLegDevices p.devices.items (is_some after.image) after.standing) (sym plan)
+      (subst (λ st. HasLegDevices old.plan.devices.items (is_some after.image) st) (sym standing) (subst (λ t. HasLegDevices old.plan.devices.items t before.standing) (sym tells) h.rig));
 }
 
 -- ---- op by op
@@ -183,15 +183,15 @@ module _ (s : Script) (devices : List DeviceInfo) (us : List Stored) (replies : 
   repaired-all = ap (mirror_repair (mirror_setting s devices us) (half_of s devices)) walked-all
 
   pub served-as : (sides : Sides) (between left : List Stored) (pool : List (List ℕ)) (last : List Reply) (marks : List Marks) (repaired lost : ℕ) → StandsAt s devices us sides replies between → IsRepairedAs s devices us (length replies) marks repaired lost left
-      → pool ≡ sides.pool → last ≡ replies → HasServed s devices us left pool last marks repaired lost
+      → pool ≡ sides.pool → last ≡ replies → HasServedMirror s devices us left pool last marks repaired lost
   served-as sides between left pool last marks repaired lost stands mended same kept = record {
     shapes = mended.shapes;
     replies_are = kept ∙ stands.replies_are ∙ ap (λ (ops : List Op). replies_from (mirror_setting s devices us) (half_of s devices) (count_of s.ops) 1 ops (mirror_opened (half_of s devices) (opening_over s us))) all-ops;
     pages = ap flat same ∙ stands.pages ∙ ap (λ (w : Walk). w.state.bytes) walked-all;
-    blocks = mended.blocks ∙ ap (λ (r : Repair). r.blocks) repaired-all;
-    marks_are = mended.marks_are ∙ ap (λ (r : Repair). r.marks) repaired-all;
-    repaired_is = mended.repaired_is ∙ ap (λ (r : Repair). r.repaired) repaired-all;
-    lost_is = mended.lost_is ∙ ap (λ (r : Repair). r.lost) repaired-all;
+    blocks = mended.blocks ∙ ap (λ (r : WalkedRepair). r.blocks) repaired-all;
+    marks_are = mended.marks_are ∙ ap (λ (r : WalkedRepair). r.marks) repaired-all;
+    repaired_is = mended.repaired_is ∙ ap (λ (r : WalkedRepair). r.repaired) repaired-all;
+    lost_is = mended.lost_is ∙ ap (λ (r : WalkedRepair). r.lost) repaired-all;
   }
 
 pub finishes : (s : Script) (devices : List DeviceInfo) (begun old : Stage) (new : Mirror) (repaired lost : ℕ) (after : RigState) (runs : List LegRun) → Served s devices begun (length s.ops) old → RanLegs (table_of s devices) devices runs old.outside after

@@ -11,7 +11,7 @@ use Rattle.script_stack.specs.Causes.{table_of}
 use Rattle.run_command.specs.Layers.{NamesFaults}
 use Rattle.mirror_walk.specs.declared.marks.Marks.{Marks}
 use Rattle.mirror_walk.specs.Mirror.{Mirror as Walk, mirror_replies, mirror_walk}
-use Rattle.mirror_walk.specs.Repair.{Repair, mirror_repair}
+use Rattle.mirror_walk.specs.Repair.{WalkedRepair, mirror_repair}
 use Rattle.mirror_volume.specs.declared.mirror.Mirror.{Mirror}
 use Rattle.leg_runs.specs.LegRuns.{AllBacked, AllOwn, GoOn, LegRun, NamesNoMedium, RanLegs, all_mediums, all_records}
 use Rattle.leg_runs.specs.Mending.{IsRepairOf, RepairBy, stretches_in}
@@ -33,7 +33,7 @@ abbrev pub stage_of : Mirror → List LegRun → RigState → Stage
 stage_of r runs outside = record { sides = sides_of r; used = r.state.used; replies = r.replies.items; runs = runs; outside = outside }
 
 -- None of its ops is done, and it stands at the begin of its walk, over whatever units.
-pub record IsBegun (r : Mirror) : Type 0 where
+pub record IsMirrorBegun (r : Mirror) : Type 0 where
   pub none : r.replies.items ≡ []
   pub unused : r.state.used ≡ 0
   pub stands : (us : List Stored) → StandsAt r.plan.script r.plan.devices.items us (sides_of r) [] us
@@ -100,11 +100,11 @@ pub record Broke (s : Script) (devices : List DeviceInfo) (begun : Stage) (after
 abbrev pub walk_over : Script → List DeviceInfo → List Stored → Walk
 walk_over s devices us = mirror_walk (mirror_setting s devices us) (half_of s devices) s.ops (opening_over s us)
 
-abbrev pub repair_over : Script → List DeviceInfo → List Stored → Repair
+abbrev pub repair_over : Script → List DeviceInfo → List Stored → WalkedRepair
 repair_over s devices us = mirror_repair (mirror_setting s devices us) (half_of s devices) (walk_over s devices us)
 
 -- Replies and pages are those of the mirror's walk, and marks, stored blocks and counts are those of its repair.
-pub record HasServed (s : Script) (devices : List DeviceInfo) (us left : List Stored) (pool : List (List ℕ)) (replies : List Reply) (marks : List Marks) (repaired lost : ℕ) : Type 0 where
+pub record HasServedMirror (s : Script) (devices : List DeviceInfo) (us left : List Stored) (pool : List (List ℕ)) (replies : List Reply) (marks : List Marks) (repaired lost : ℕ) : Type 0 where
   pub shapes : shapes_of left ≡ shapes_of us
   pub replies_are : replies ≡ mirror_replies (mirror_setting s devices us) (half_of s devices) s.ops (opening_over s us)
   pub pages : flat pool ≡ (walk_over s devices us).state.bytes
@@ -125,5 +125,5 @@ pub record Finished (s : Script) (devices : List DeviceInfo) (begun : Stage) (r 
   pub stretches : InStretches s devices (stage.runs ++ runs) r.state.used begun.outside after
   pub lines : RoseBy (medium_lines r.replies.items) begun.outside.faults after.faults
   pub told : (us : List Stored) → begun.outside.units ≡ Some us → NamesNoMedium (stage.runs ++ runs) r.replies.items
-      → (left : List Stored) × ((after.units ≡ Some left) × HasServed s devices us left r.state.pool r.replies.items r.state.marks.items repaired lost)
+      → (left : List Stored) × ((after.units ≡ Some left) × HasServedMirror s devices us left r.state.pool r.replies.items r.state.marks.items repaired lost)
   pub faults : (us : List Stored) → begun.outside.units ≡ Some us → All NamesFaults r.replies.items

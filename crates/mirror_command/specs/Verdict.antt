@@ -80,7 +80,7 @@ pub record HasMirroredSource (run : Mirrored) (f : Facts) : Type 0 where
 -- ---- and one that wasn't
 
 -- No entry is at fault, and the script has a fault on a mirror over its volume, the first.
-pub record IsUnbound (bad : ScriptFault) (s : Script) (name : List ℕ) (old new : RigState) : Type 0 where
+pub record IsMirrorUnbound (bad : ScriptFault) (s : Script) (name : List ℕ) (old new : RigState) : Type 0 where
   pub devices : List DeviceInfo
   pub asked : WasAsked name devices old new
   pub table : Table
@@ -101,7 +101,7 @@ pub record StoppedMidway (s : Script) (name : List ℕ) (old new : RigState) : T
 
 -- Why a script wasn't run on a mirror to its end, and what that leaves.
 abbrev pub CauseStopped : Refusal → Script → List ℕ → RigState → RigState → Type 0
-CauseStopped (refusal.Script bad) s name old new = IsUnbound bad s name old new
+CauseStopped (refusal.Script bad) s name old new = IsMirrorUnbound bad s name old new
 CauseStopped (refusal.Volume entry kind) s name old new = HasBadVolume entry kind s name old new
 CauseStopped refusal.Memory s name old new = StoppedShort name old new ⊎ StoppedMidway s name old new
 CauseStopped why s name old new = CauseUntold why name old new

@@ -22,6 +22,6 @@ CauseUnbound (refusal.Script bad) s devices = (table : Table) × HasTable s devi
 CauseUnbound why s devices = CauseNoTable why s devices
 
 -- The image was opened, its devices told what they are, and the script is bound to a mirror over them.
-pub record IsBound (s : Script) (devices : List DeviceInfo) (name : List ℕ) (old new : RigState) : Type 0 where
+pub record IsMirrorBound (s : Script) (devices : List DeviceInfo) (name : List ℕ) (old new : RigState) : Type 0 where
   pub asked : WasAsked name devices old new
   pub free : IsFree s devices

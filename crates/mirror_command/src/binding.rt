@@ -4,7 +4,7 @@ ghost use Rattle.std.specs.Prelude.{MatchResult};
 ghost use Rattle.rig_discovery.specs.Discovery.{Ends};
 ghost use Rattle.run_command.specs.Working.{IsSound};
 ghost use Rattle.mirror_command.specs.Verdict.{CauseStopped};
-ghost use Rattle.mirror_command.specs.Working.{CauseUnbound, IsBound, IsFree};
+ghost use Rattle.mirror_command.specs.Working.{CauseUnbound, IsMirrorBound, IsFree};
 
 use call_refusal::Refusal;
 use image_commands::told_devices;
@@ -36,7 +36,7 @@ pub(crate) fn bind<R: Rig>(
     requires { IsSound script.now }
     ensures { let old = R.state rig.old in
         let new = R.state rig.new in
-        MatchResult result (λ v. IsBound script.now v.items image.now old new) (λ r. CauseStopped r script.now image.now old new) }
+        MatchResult result (λ v. IsMirrorBound script.now v.items image.now old new) (λ r. CauseStopped r script.now image.now old new) }
 {
     let found = told_devices(alloc, image, rig)?;
     bind_over(alloc, script, &found)?;

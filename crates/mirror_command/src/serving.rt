@@ -4,7 +4,7 @@ ghost use Rattle.std.specs.Prelude.{◌≡◌, List, [], MatchResult, OnOk, is_s
 ghost use Rattle.leg_runs.specs.LegRuns.{LegRun};
 ghost use Rattle.mirror_volume.specs.Plans.{IsMirror};
 ghost use Rattle.mirror_volume.specs.Running.{CanGoOn};
-ghost use Rattle.mirror_command.specs.Stages.{Broke, Finished, IsBegun, Served, stage_of};
+ghost use Rattle.mirror_command.specs.Stages.{Broke, Finished, IsMirrorBegun, Served, stage_of};
 ghost use Rattle.rig_api.specs.State.{RigState};
 
 use mirror_volume::{Mirror, Repair};
@@ -19,7 +19,7 @@ fn do_ops<R: Rig>(
     rig: &mut R,
 ) -> Result<(), AllocError>
     requires ready { CanGoOn mirror.old (R.state rig.old) }
-    requires begun { IsBegun mirror.old }
+    requires begun { IsMirrorBegun mirror.old }
     requires count { count ≡ length mirror.old.plan.script.ops }
     ensures mirror { IsMirror mirror.new }
     ensures plan { mirror.new.plan ≡ mirror.old.plan }
@@ -46,7 +46,7 @@ pub(crate) fn serve<R: Rig>(
     rig: &mut R,
 ) -> Result<Repair, AllocError>
     requires ready { CanGoOn mirror.old (R.state rig.old) }
-    requires begun { IsBegun mirror.old }
+    requires begun { IsMirrorBegun mirror.old }
     requires count { count ≡ length mirror.old.plan.script.ops }
     ensures done { let before : RigState = R.state rig.old in
         let after : RigState = R.state rig.new in

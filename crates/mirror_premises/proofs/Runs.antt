@@ -14,7 +14,7 @@ use Rattle.stack_ops.specs.declared.op.Op.TheVariants.{Fetch, FetchPi, Fill, Ove
 use Rattle.volume_table.specs.Places.{volume_len}
 use Rattle.block_path.specs.Acts.{State}
 use Rattle.block_path.proofs.Cells.{AllBelow, below}
-use Rattle.whole_run.specs.CalmRun.{LiesIn}
+use Rattle.whole_run.specs.CalmRun.{LiesInImage}
 use Rattle.whole_run.specs.Detectable.{detectable}
 use Rattle.whole_run.specs.FirstLayer.{has_flip, is_flip}
 use Rattle.whole_run.specs.Past.{steps_from}
@@ -40,7 +40,7 @@ use Rattle.mirror_premises.proofs.Apart.{apart, good_apart}
 use Rattle.mirror_premises.proofs.Places.{on_leg0, on_leg1}
 
 module _ (m' : Setting) (half : ℕ) (ops : List Op) (even : m'.size % 2 ≡ 0) (flips : All (λ (line : FaultLine). IsOfBytes line.kind) m'.site.faults)
-    (form : list_all (is_good_on_legs m'.mode.kind m'.size half m'.site.faults ops) m'.site.faults ≡ true) (image : List (List ℕ)) (lies : LiesIn (checked m') (volume_len m'.entries) image) where
+    (form : list_all (is_good_on_legs m'.mode.kind m'.size half m'.site.faults ops) m'.site.faults ≡ true) (image : List (List ℕ)) (lies : LiesInImage (checked m') (volume_len m'.entries) image) where
   abbrev m : Setting
   m = checked m'
 

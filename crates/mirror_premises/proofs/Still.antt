@@ -34,7 +34,7 @@ use Rattle.run_laws.proofs.Found.{from_both, passes_if, unmasked}
 use Rattle.stack_ops.specs.Ops.{is_overwrite}
 use Rattle.mirror_walk.specs.Mirror.{Mirror, all_asked, asked, asks, count_of, done, mirror_opened, mirror_past, mirror_walk, marks_of, twin}
 use Rattle.mirror_walk.specs.OneGood.{AllBind, AreBytes, Binds, HoldsProper, IsMirrorRun, IsRepaired, ReadsLast, last_of, on_leg, script_asks}
-use Rattle.mirror_walk.specs.Repair.{Repair, mirror_repair}
+use Rattle.mirror_walk.specs.Repair.{WalkedRepair, mirror_repair}
 use Rattle.mirror_premises.specs.FormedMirror.{HasStillLegs, ServesLast}
 use Rattle.mirror_premises.proofs.Escapes.{none_supplied}
 use Rattle.mirror_premises.proofs.Legs.{one_good}
@@ -272,11 +272,11 @@ module _ (m' : Setting) (p : ℕ) (devices : List DeviceInfo) (half : ℕ) (ops 
             (reads one devices half before after v n body opening (subst (λ (list : List Op). IsMirrorRun one devices half list opening) e run)));
         repaired = record {
           holds = λ u l leg.
-              subst (λ (r : Repair). HoldsProper mp (on_leg leg u (half + u)) (last_of mp half (count_of ops) (steps_from mp 1 ops) opening u) r.blocks) (sym repair-is)
+              subst (λ (r : WalkedRepair). HoldsProper mp (on_leg leg u (half + u)) (last_of mp half (count_of ops) (steps_from mp 1 ops) opening u) r.blocks) (sym repair-is)
               (subst (λ (x : Brought). HoldsProper mp (on_leg leg u (half + u)) x (mirror_repair one half (mirror_walk one half ops opening)).blocks) (sym (last-same ops u bound is.overwrites))
               (holds-so (on_leg leg u (half + u)) (last_of one half (count_of ops) (steps_from one 1 ops) opening u) (mirror_repair one half (mirror_walk one half ops opening)).blocks (mended.holds u l leg)));
-          marks = λ u l. ap (λ (r : Repair). marks_of r.marks u) repair-is ∙ mended.marks u l;
-          lost = ap (λ (r : Repair). r.lost) repair-is ∙ mended.lost;
+          marks = λ u l. ap (λ (r : WalkedRepair). marks_of r.marks u) repair-is ∙ mended.marks u l;
+          lost = ap (λ (r : WalkedRepair). r.lost) repair-is ∙ mended.lost;
         };
       }
 

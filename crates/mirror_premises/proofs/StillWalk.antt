@@ -32,7 +32,7 @@ use Rattle.mirror_walk.specs.Mirror.{Mirror, accepted, answer, asked, asks, done
 use Rattle.mirror_walk.specs.LegByLeg.{DeliversWhole, HasLegs}
 use Rattle.mirror_walk.specs.OneGood.{AllBind, Binds}
 use Rattle.mirror_walk.proofs.Sizes.{delivers_whole}
-use Rattle.mirror_walk.specs.Repair.{Repair, good, mended, on_leg0, on_leg1, reading, repair_block, repair_from, repaired_by, writing}
+use Rattle.mirror_walk.specs.Repair.{WalkedRepair, good, mended, on_leg0, on_leg1, reading, repair_block, repair_from, repaired_by, writing}
 use Rattle.mirror_walk.specs.declared.marks.Marks.{Marks}
 use Rattle.mirror_premises.proofs.Protects.{Kept, Passes, calm_out, comes-in, goes-out, kept-out, still}
 
@@ -390,44 +390,44 @@ module _ (m' : Setting) (p : ℕ) (some : eqb p 0 ≡ false) (half : ℕ) (count
   brought-long : (frame : List ℕ) → n ≤ length frame → length (brought_by n frame).body ≡ n
   brought-long frame l = length-take-le n frame l
 
-  mended-same : (u : ℕ) (b : Block) (mark : Bool → Marks → Marks) (w : Result (List ℕ) Why) (r : Repair) → mended mp u b mark w r ≡ mended m1 u b mark w r
+  mended-same : (u : ℕ) (b : Block) (mark : Bool → Marks → Marks) (w : Result (List ℕ) Why) (r : WalkedRepair) → mended mp u b mark w r ≡ mended m1 u b mark w r
   mended-same u b mark (Ok stored) r = refl
   mended-same u b mark (Err why) r = refl
 
-  writing-same : (u : ℕ) (b : Block) (mark : Bool → Marks → Marks) (e : Brought) (r : Repair) → length e.body ≡ n → mended mp u b mark (writing mp b e) r ≡ mended m1 u b mark (writing m1 b e) r
+  writing-same : (u : ℕ) (b : Block) (mark : Bool → Marks → Marks) (e : Brought) (r : WalkedRepair) → length e.body ≡ n → mended mp u b mark (writing mp b e) r ≡ mended m1 u b mark (writing m1 b e) r
   writing-same u b mark e r l =
       let f = own_frame (route m1 b) e.app e.body in
       let k = own-long b e.app e.body l in
       ap (λ (w : WayOut). mended mp u b mark (stored_of w) r) (goes-out m' p some b f k ∙ sym (goes-out m' 1 refl b f k)) ∙ mended-same u b mark (writing m1 b e) r
 
-  mended-pass : (u : ℕ) (b : Block) (mark : Bool → Marks → Marks) (w : WayOut) (r : Repair) → b.virt < len → Kept m' b w → AllPass r.blocks → AllPass (mended m1 u b mark (stored_of w) r).blocks
+  mended-pass : (u : ℕ) (b : Block) (mark : Bool → Marks → Marks) (w : WayOut) (r : WalkedRepair) → b.virt < len → Kept m' b w → AllPass r.blocks → AllPass (mended m1 u b mark (stored_of w) r).blocks
   mended-pass u b mark (Fails why) r l k all = all
   mended-pass u b mark (Refuses why) r l k all = all
   mended-pass u b mark (Stores carried stored) r l k all = stored-pass b stored r.blocks l k all
 
-  writing-pass : (u : ℕ) (b : Block) (mark : Bool → Marks → Marks) (e : Brought) (r : Repair) → b.virt < len → length e.body ≡ n → AllPass r.blocks → AllPass (mended m1 u b mark (writing m1 b e) r).blocks
+  writing-pass : (u : ℕ) (b : Block) (mark : Bool → Marks → Marks) (e : Brought) (r : WalkedRepair) → b.virt < len → length e.body ≡ n → AllPass r.blocks → AllPass (mended m1 u b mark (writing m1 b e) r).blocks
   writing-pass u b mark e r v l all =
       let f = own_frame (route m1 b) e.app e.body in
       let k = own-long b e.app e.body l in
       subst (λ (w : WayOut). AllPass (mended m1 u b mark (stored_of w) r).blocks) (sym (goes-out m' 1 refl b f k)) (mended-pass u b mark (calm_out m' b f) r v (kept-out m' b f k) all)
 
-  by-same : (u : ℕ) (g0 g1 : Option (List ℕ)) (r : Repair) → IsLong g0 → IsLong g1 → repaired_by mp half u g0 g1 r ≡ repaired_by m1 half u g0 g1 r
+  by-same : (u : ℕ) (g0 g1 : Option (List ℕ)) (r : WalkedRepair) → IsLong g0 → IsLong g1 → repaired_by mp half u g0 g1 r ≡ repaired_by m1 half u g0 g1 r
   by-same u None None r h k = refl
   by-same u (Some frame) None r h k = writing-same u (on_leg1 half u) (λ bit old. record old { leg1 = bit }) (brought_by n frame) r (brought-long frame h)
   by-same u None (Some frame) r h k = writing-same u (on_leg0 u) (λ bit old. record old { leg0 = bit }) (brought_by n frame) r (brought-long frame k)
   by-same u (Some frame) (Some other) r h k = refl
 
-  by-pass : (u : ℕ) (g0 g1 : Option (List ℕ)) (r : Repair) → u < half → IsLong g0 → IsLong g1 → AllPass r.blocks → AllPass (repaired_by m1 half u g0 g1 r).blocks
+  by-pass : (u : ℕ) (g0 g1 : Option (List ℕ)) (r : WalkedRepair) → u < half → IsLong g0 → IsLong g1 → AllPass r.blocks → AllPass (repaired_by m1 half u g0 g1 r).blocks
   by-pass u None None r l h k all = all
   by-pass u (Some frame) None r l h k all = writing-pass u (on_leg1 half u) (λ bit old. record old { leg1 = bit }) (brought_by n frame) r (omega (arith, l, long)) (brought-long frame h) all
   by-pass u None (Some frame) r l h k all = writing-pass u (on_leg0 u) (λ bit old. record old { leg0 = bit }) (brought_by n frame) r (omega (arith, l, long)) (brought-long frame k) all
   by-pass u (Some frame) (Some other) r l h k all = all
 
-  record BlockSame (u : ℕ) (r : Repair) : Type 0 where
+  record BlockSame (u : ℕ) (r : WalkedRepair) : Type 0 where
     same : repair_block mp half u r ≡ repair_block m1 half u r
     pass : AllPass (repair_block m1 half u r).blocks
 
-  block-same : (u : ℕ) (r : Repair) → u < half → AllPass r.blocks → BlockSame u r
+  block-same : (u : ℕ) (r : WalkedRepair) → u < half → AllPass r.blocks → BlockSame u r
   block-same u r l all =
       let k0 = (marks_of r.marks u).leg0 in
       let k1 = (marks_of r.marks u).leg1 in
@@ -444,7 +444,7 @@ module _ (m' : Setting) (p : ℕ) (some : eqb p 0 ≡ false) (half : ℕ) (count
         pass = by-pass u g0 g1 r l l0 l1 all;
       }
 
-  pub repair-same : (u k : ℕ) (r : Repair) → u + k ≤ half → AllPass r.blocks → repair_from mp half u k r ≡ repair_from m1 half u k r
+  pub repair-same : (u k : ℕ) (r : WalkedRepair) → u + k ≤ half → AllPass r.blocks → repair_from mp half u k r ≡ repair_from m1 half u k r
   repair-same u zero r l all = refl
   repair-same u (suc k) r l all =
       let one = block-same u r (omega (arith, l)) all in

@@ -9,7 +9,7 @@ use Rattle.volume_table.specs.Places.{volume_len}
 use Rattle.volume_table.specs.declared.device.DeviceInfo.{DeviceInfo}
 use Rattle.block_path.specs.Acts.{State}
 use Rattle.block_path.specs.Routes.{target}
-use Rattle.whole_run.specs.CalmRun.{LiesIn}
+use Rattle.whole_run.specs.CalmRun.{LiesInImage}
 use Rattle.whole_run.specs.Past.{brought_by}
 use Rattle.whole_run.specs.Settings.{Setting}
 use Rattle.whole_run.specs.UnderMap.{AreClean, NoneEscapes, home}
@@ -47,7 +47,7 @@ pub record HasFormedLegs (m : Setting) (devices : List DeviceInfo) (half : ℕ) 
   pub flips : All (λ (line : FaultLine). IsOfBytes line.kind) m.site.faults
   pub pages : All (λ x. x < 256) opening.bytes
   pub long : volume_len m.entries ≡ half + half
-  pub lies : LiesIn m (volume_len m.entries) opening.blocks
+  pub lies : LiesInImage m (volume_len m.entries) opening.blocks
   pub clean : AreClean m opening.blocks
   pub bind : AllBind m devices half (length opening.bytes) ops
   pub puts : AllPutBytes ops

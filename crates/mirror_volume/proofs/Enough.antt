@@ -21,10 +21,10 @@ use Rattle.script_stack.proofs.Octets.{block_octets}
 use Rattle.script_text.specs.declared.script.Script.{Script}
 use Rattle.mirror_walk.specs.Mirror.{Mirror as Walk, count_of, done, mirror_opened, mirror_walk, replies_from}
 use Rattle.mirror_walk.specs.OneGood.{AreBytes, HoldsProper, IsMirrorRun, IsRepaired, ReadsLast, last_of, on_leg}
-use Rattle.mirror_walk.specs.Repair.{Repair, mirror_repair}
+use Rattle.mirror_walk.specs.Repair.{WalkedRepair, mirror_repair}
 use Rattle.mirror_walk.specs.declared.marks.Marks.{Marks}
 use Rattle.leg_runs.specs.OnOps.{Sides}
-use Rattle.leg_runs.specs.Standing.{IsOver, IsRepairedAs, StandsAt, half_of, mirror_setting, walked}
+use Rattle.leg_runs.specs.Standing.{IsMirrorOver, IsRepairedAs, StandsAt, half_of, mirror_setting, walked}
 use Rattle.mirror_volume.specs.Enough.{AllReadLast, HasReadLast, WasEnough, opening_over}
 use Rattle.mirror_volume.specs.Premises.{HoldsBytes, IsOneGoodRun}
 use Rattle.mirror_volume.proofs.Premises.{mirror-run}
@@ -59,11 +59,11 @@ enough-by s devices us left marks repaired lost reads mended done_as =
     record {
       reads = reads;
       equal = λ u l leg. subst (λ (blocks : List (List ℕ)). HoldsProper m (on_leg leg u (half + u)) (last_of m half (count_of s.ops) (steps_from m 1 s.ops) opening u) blocks)
-          (sym (done_as.blocks ∙ ap (λ (r : Repair). r.blocks) (repaired-all s devices us))) (mended.holds u l leg);
-      lost_none = done_as.lost_is ∙ ap (λ (r : Repair). r.lost) (repaired-all s devices us) ∙ mended.lost;
+          (sym (done_as.blocks ∙ ap (λ (r : WalkedRepair). r.blocks) (repaired-all s devices us))) (mended.holds u l leg);
+      lost_none = done_as.lost_is ∙ ap (λ (r : WalkedRepair). r.lost) (repaired-all s devices us) ∙ mended.lost;
     }
 
-pub reads-last : ReadsLaw → (s : Script) (devices : List DeviceInfo) (us : List Stored) → IsOver s devices us → IsOneGoodRun s devices us → AllReadLast s devices us
+pub reads-last : ReadsLaw → (s : Script) (devices : List DeviceInfo) (us : List Stored) → IsMirrorOver s devices us → IsOneGoodRun s devices us → AllReadLast s devices us
 reads-last reads s devices us over p =
     let m = mirror_setting s devices us in
     let half = half_of s devices in
@@ -72,7 +72,7 @@ reads-last reads s devices us over p =
     λ before after v n body e. subst (λ (ops : List Op). ReadsLast m half ops before v n body opening) (sym e)
     (reads m devices half before after v n body opening (subst (λ (ops : List Op). IsMirrorRun m devices half ops opening) e run))
 
-pub was-enough : ReadsLaw → EqualLaw → (s : Script) (devices : List DeviceInfo) (us left : List Stored) (marks : List Marks) (repaired lost : ℕ) → IsOver s devices us → HoldsBytes us → IsOneGoodRun s devices us
+pub was-enough : ReadsLaw → EqualLaw → (s : Script) (devices : List DeviceInfo) (us left : List Stored) (marks : List Marks) (repaired lost : ℕ) → IsMirrorOver s devices us → HoldsBytes us → IsOneGoodRun s devices us
     → IsRepairedAs s devices us (length s.ops) marks repaired lost left → WasEnough s devices us left lost
 was-enough reads equal s devices us left marks repaired lost over bytes p served =
     enough-by s devices us left marks repaired lost (reads-last reads s devices us over p)

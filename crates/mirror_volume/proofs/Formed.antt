@@ -17,7 +17,7 @@ use Rattle.script_laws.specs.Keeping.{Each, IsOp as KeepsRules}
 use Rattle.script_ground.proofs.OverUnits.{cell-there}
 use Rattle.script_ground.proofs.Calm.{are-bytes}
 use Rattle.script_stack.specs.Causes.{table_of}
-use Rattle.whole_run.specs.CalmRun.{LiesIn}
+use Rattle.whole_run.specs.CalmRun.{LiesInImage}
 use Rattle.whole_run.specs.Detectable.{detectable}
 use Rattle.whole_run.specs.Settings.{Setting}
 use Rattle.whole_run.specs.UnderMap.{AreClean, NoneEscapes, address_of, home}
@@ -28,7 +28,7 @@ use Rattle.mirror_walk.specs.OneGood.{AreBytes, OneGood, script_asks}
 use Rattle.mirror_premises.specs.Forms.{is_good_on_legs, spares_other_leg}
 use Rattle.mirror_premises.specs.FormedMirror.{AllPutBytes, HasFormedLegs, HasStillLegs, PutsBytes, ServesLast}
 use Rattle.leg_runs.proofs.Ground.{fits, legs, made-over, sizes}
-use Rattle.leg_runs.specs.Standing.{IsOver, IsRepairedAs, half_of, mirror_setting}
+use Rattle.leg_runs.specs.Standing.{IsMirrorOver, IsRepairedAs, half_of, mirror_setting}
 use Rattle.mirror_volume.specs.Enough.{AllReadLast, WasEnough, opening_over}
 use Rattle.mirror_volume.specs.Premises.{HoldsBytes, IsFormedMirror, IsOneGoodRun, IsStillMirror}
 use Rattle.mirror_volume.proofs.Enough.{enough-by}
@@ -69,11 +69,11 @@ puts-each dix pages size (op ∷ ops) h = (puts-op dix pages size op h.0, puts-e
 
 -- ---- over units
 
-module _ (s : Script) (devices : List DeviceInfo) (us : List Stored) (is : IsOver s devices us) where
+module _ (s : Script) (devices : List DeviceInfo) (us : List Stored) (is : IsMirrorOver s devices us) where
   abbrev m : Setting
   m = mirror_setting s devices us
 
-  lies-in : HoldsBytes us → LiesIn m (volume_len m.entries) (blocks_told us)
+  lies-in : HoldsBytes us → LiesInImage m (volume_len m.entries) (blocks_told us)
   lies-in bytes =
       let t = table_of s devices in
       let made = made-over s devices us is in

@@ -30,11 +30,11 @@ use Rattle.mirror_legs.proofs.Asked.{none_when}
 use Rattle.mirror_walk.specs.OneGood.{AllBind, Binds, IsMirrorRun}
 use Rattle.leg_runs.proofs.Ground.{fits, legs}
 use Rattle.leg_runs.proofs.Requests.{op-fits, overwrite-fits, request-fits}
-use Rattle.leg_runs.specs.Standing.{IsOver, half_of, mirror_setting, op_at}
+use Rattle.leg_runs.specs.Standing.{IsMirrorOver, half_of, mirror_setting, op_at}
 use Rattle.mirror_volume.specs.Enough.{opening_over}
 use Rattle.mirror_volume.specs.Premises.{IsOneGoodRun}
 
-module _ (s : Script) (devices : List DeviceInfo) (us : List Stored) (is : IsOver s devices us) where
+module _ (s : Script) (devices : List DeviceInfo) (us : List Stored) (is : IsMirrorOver s devices us) where
   abbrev m : Setting
   m = mirror_setting s devices us
 

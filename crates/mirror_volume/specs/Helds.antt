@@ -11,21 +11,21 @@ use Rattle.leg_runs.specs.Mending.{Mended, goods, tuples_after}
 use Rattle.pi_tuple.specs.declared.TheConstants.{TUPLE}
 
 -- What a leg has of n blocks of this size.
-pub record IsHeld (size n : ℕ) (h : Held) : Type 0 where
+pub record IsHeldByLeg (size n : ℕ) (h : Held) : Type 0 where
   pub good : length h.good.items ≡ n
   pub bytes : length h.bytes.items ≡ n * size
   pub tuples : length h.tuples.items ≡ n * TUPLE
 
 -- What both legs have of them.
 pub record AreHeld (size n : ℕ) (h0 h1 : Held) : Type 0 where
-  pub on0 : IsHeld size n h0
-  pub on1 : IsHeld size n h1
+  pub on0 : IsHeldByLeg size n h0
+  pub on1 : IsHeldByLeg size n h1
 
 abbrev pub goods_in : (size : ℕ) → Held → List (Option Brought)
 goods_in size h = goods size h.good.items h.bytes.items h.tuples.items
 
 -- These have room for n blocks of this size: their data, their tuples, and what is found of each.
-pub record HasRoom (size n : ℕ) (bytes tuples : List ℕ) (found : List (Option Why)) : Type 0 where
+pub record HasPieceRoom (size n : ℕ) (bytes tuples : List ℕ) (found : List (Option Why)) : Type 0 where
   pub long : length bytes ≡ n * size
   pub tuples_long : length tuples ≡ n * TUPLE
   pub found_long : length found ≡ n

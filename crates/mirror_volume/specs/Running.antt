@@ -6,7 +6,7 @@ use Rattle.script_text.specs.declared.script.Script.{Script}
 use Rattle.script_stack.specs.Causes.{table_of}
 use Rattle.leg_runs.specs.LegRuns.{AllOwn, GoOn, LegRun, RanLegs}
 use Rattle.leg_runs.specs.OnOps.{DidOp}
-use Rattle.leg_runs.specs.Standing.{HasDevices, KeepsToWalk, op_at}
+use Rattle.leg_runs.specs.Standing.{HasLegDevices, KeepsToWalk, op_at}
 use Rattle.mirror_volume.specs.declared.legs.Plan.{Plan}
 use Rattle.mirror_volume.specs.declared.mirror.Mirror.{Mirror}
 use Rattle.mirror_volume.specs.Plans.{IsMirror, IsPlan, sides_of}
@@ -14,11 +14,11 @@ use Rattle.mirror_volume.specs.Plans.{IsMirror, IsPlan, sides_of}
 -- The next request can be run: the plan is a mirror's, the rig has its devices, and no more entries of its schedule are used than there are.
 pub record CanRun (p : Plan) (used : ℕ) (outside : RigState) : Type 0 where
   pub plan : IsPlan p
-  pub rig : HasDevices p.devices.items (is_some outside.image) outside.standing
+  pub rig : HasLegDevices p.devices.items (is_some outside.image) outside.standing
   pub few : used ≤ length p.script.schedule
 
 -- Some were run: each of a script of which `Own` holds, and of all of them `Came`. They go on in the schedule, and the rig tells its image or not as before.
-pub record HasRun (p : Plan) (used used' : ℕ) (before after : RigState) (Own : Script → Type 0) (Came : List LegRun → Type 0) : Type 0 where
+pub record HasRunOnLegs (p : Plan) (used used' : ℕ) (before after : RigState) (Own : Script → Type 0) (Came : List LegRun → Type 0) : Type 0 where
   pub runs : List LegRun
   pub ran : RanLegs (table_of p.script p.devices.items) p.devices.items runs before after
   pub goes_on : GoOn p.script.schedule used runs used'
@@ -30,7 +30,7 @@ pub record HasRun (p : Plan) (used used' : ℕ) (before after : RigState) (Own :
 pub record CanGoOn (r : Mirror) (outside : RigState) : Type 0 where
   pub mirror : IsMirror r
   pub going : r.failed ≡ false
-  pub rig : HasDevices r.plan.devices.items (is_some outside.image) outside.standing
+  pub rig : HasLegDevices r.plan.devices.items (is_some outside.image) outside.standing
 
 -- The next op was done to its end by these runs: it replied, and the mirror keeps to its walk.
 pub record DidNext (old new : Mirror) (before after : RigState) (runs : List LegRun) : Type 0 where

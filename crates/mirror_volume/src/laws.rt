@@ -9,7 +9,7 @@ ghost use Rattle.target_answer.specs.Target.{Stored};
 ghost use Rattle.volume_table.specs.declared.device.DeviceInfo.{DeviceInfo as AnyDevice};
 ghost use Rattle.script_text.specs.declared.script.Script.{Script as AnyScript};
 ghost use Rattle.mirror_walk.specs.declared.marks.Marks.{Marks as AnyMarks};
-ghost use Rattle.leg_runs.specs.Standing.{IsOver, IsRepairedAs, StandsAt};
+ghost use Rattle.leg_runs.specs.Standing.{IsMirrorOver, IsRepairedAs, StandsAt};
 ghost use Rattle.leg_runs.specs.OnOps.{Sides};
 ghost use Rattle.script_stack.specs.Causes.{table_of};
 ghost use Rattle.mirror_script.specs.MirrorFaults.{mirror_fault};
@@ -28,8 +28,8 @@ use mirror_walk::{a_mirror_reads_the_last_write, a_repair_makes_both_legs_equal}
 /// walk is whole and has the data that were last accepted. And of a mirror all of whose ops are done, and which was
 /// repaired: both legs hold these, and no block is lost.
 pub fn one_good_leg_is_enough()
-    ensures reads { (s : AnyScript) (devices : List AnyDevice) (us : List Stored) → IsOver s devices us → IsOneGoodRun s devices us → AllReadLast s devices us }
-    ensures repaired { (s : AnyScript) (devices : List AnyDevice) (us left : List Stored) (marks : List AnyMarks) (repaired lost : ℕ) → IsOver s devices us → HoldsBytes us → IsOneGoodRun s devices us
+    ensures reads { (s : AnyScript) (devices : List AnyDevice) (us : List Stored) → IsMirrorOver s devices us → IsOneGoodRun s devices us → AllReadLast s devices us }
+    ensures repaired { (s : AnyScript) (devices : List AnyDevice) (us left : List Stored) (marks : List AnyMarks) (repaired lost : ℕ) → IsMirrorOver s devices us → HoldsBytes us → IsOneGoodRun s devices us
         → IsRepairedAs s devices us (length s.ops) marks repaired lost left → WasEnough s devices us left lost }
 {
     // By laws.
@@ -39,7 +39,7 @@ pub fn one_good_leg_is_enough()
 
 /// A law: what that asks of the script can be read off its lines, its ops and the mirror's length.
 pub fn a_formed_mirror_has_one_good_leg()
-    ensures { (s : AnyScript) (devices : List AnyDevice) (us : List Stored) → IsOver s devices us → HoldsBytes us → IsFormedMirror s devices us → IsOneGoodRun s devices us }
+    ensures { (s : AnyScript) (devices : List AnyDevice) (us : List Stored) → IsMirrorOver s devices us → HoldsBytes us → IsFormedMirror s devices us → IsOneGoodRun s devices us }
 {
     // By laws.
     faults_on_a_mirror_are_shown_by_their_form();
@@ -49,8 +49,8 @@ pub fn a_formed_mirror_has_one_good_leg()
 
 /// A law: without a fault line and without an overwrite it is so under any protect field.
 pub fn no_fault_is_enough_under_any_protect_field()
-    ensures reads { (s : AnyScript) (devices : List AnyDevice) (us : List Stored) → IsOver s devices us → HoldsBytes us → IsStillMirror s devices us → AllReadLast s devices us }
-    ensures repaired { (s : AnyScript) (devices : List AnyDevice) (us left : List Stored) (marks : List AnyMarks) (repaired lost : ℕ) → IsOver s devices us → HoldsBytes us → IsStillMirror s devices us
+    ensures reads { (s : AnyScript) (devices : List AnyDevice) (us : List Stored) → IsMirrorOver s devices us → HoldsBytes us → IsStillMirror s devices us → AllReadLast s devices us }
+    ensures repaired { (s : AnyScript) (devices : List AnyDevice) (us left : List Stored) (marks : List AnyMarks) (repaired lost : ℕ) → IsMirrorOver s devices us → HoldsBytes us → IsStillMirror s devices us
         → IsRepairedAs s devices us (length s.ops) marks repaired lost left → WasEnough s devices us left lost }
 {
     // By laws.

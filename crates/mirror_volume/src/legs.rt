@@ -10,9 +10,9 @@ ghost use Rattle.run_follows.specs.Requests.{requests_from};
 ghost use Rattle.stack_core.specs.Stacks.{IsStack};
 ghost use Rattle.mirror_legs.specs.Inner.{page_segs, pages_for, read_pi_script, read_script, write_script};
 ghost use Rattle.leg_runs.specs.LegRuns.{OneRun, found_by, pool_of, replies_of};
-ghost use Rattle.mirror_volume.specs.Helds.{HasRoom};
+ghost use Rattle.mirror_volume.specs.Helds.{HasPieceRoom};
 ghost use Rattle.mirror_volume.specs.Plans.{IsPieceOf};
-ghost use Rattle.mirror_volume.specs.Running.{CanRun, HasRun};
+ghost use Rattle.mirror_volume.specs.Running.{CanRun, HasRunOnLegs};
 ghost use Rattle.leg_runs.specs.Standing.{IsBoundMirror};
 ghost use Rattle.pi_tuple.specs.declared.TheConstants.{TUPLE};
 ghost use Rattle.page_pool.specs.declared.TheConstants.{PAGE};
@@ -69,7 +69,7 @@ fn run_own<R: Rig>(
     requires lines { length own.lines ≡ length own.faults + length own.ops }
     requires block { own.block ≡ plan.now.script.block }
     requires bound { binding_fault own (table_of plan.now.script plan.now.devices.items) plan.now.devices.items ≡ None }
-    ensures ran { HasRun plan.now used.old used.new (R.state rig.old) (R.state rig.new) (λ s. s ≡ own)
+    ensures ran { HasRunOnLegs plan.now used.old used.new (R.state rig.old) (R.state rig.new) (λ s. s ≡ own)
         (λ runs. IfOk result (λ stack. OneRun own (λ r. r.stack ≡ stack) runs)) }
     ensures stack { IfOk result IsStack }
     ensures ios { IfOk result (λ stack. stack.sheet.ios.items ≡ requests_from own.mode.dix own.pages own.ops) }
@@ -97,7 +97,7 @@ pub(crate) fn write_piece<R: Rig>(
     requires piece { IsPieceOf plan.now piece }
     requires long { length bytes.now ≡ piece.n * plan.now.script.block }
     requires found { length found.old ≡ piece.n }
-    ensures ran { HasRun plan.now used.old used.new (R.state rig.old) (R.state rig.new) (λ own. own ≡ write_script plan.now.script plan.now.half piece app bytes.now)
+    ensures ran { HasRunOnLegs plan.now used.old used.new (R.state rig.old) (R.state rig.new) (λ own. own ≡ write_script plan.now.script plan.now.half piece app bytes.now)
         (λ runs. IfOk result (λ u. OneRun (write_script plan.now.script plan.now.half piece app bytes.now) (λ r. found.new ≡ found_by piece.n (replies_of r)) runs)) }
     ensures found { length found.new ≡ length found.old }
     ensures ready { CanRun plan.now used.new (R.state rig.new) }
@@ -161,7 +161,7 @@ pub(crate) fn read_piece<R: Rig>(
     requires piece { IsPieceOf plan.now piece }
     requires long { length bytes.old ≡ piece.n * plan.now.script.block }
     requires found { length found.old ≡ piece.n }
-    ensures ran { HasRun plan.now used.old used.new (R.state rig.old) (R.state rig.new) (λ own. own ≡ read_script plan.now.script plan.now.half piece)
+    ensures ran { HasRunOnLegs plan.now used.old used.new (R.state rig.old) (R.state rig.new) (λ own. own ≡ read_script plan.now.script plan.now.half piece)
         (λ runs. IfOk result (λ u. OneRun (read_script plan.now.script plan.now.half piece)
         (λ r. (found.new ≡ found_by piece.n (replies_of r)) × (bytes.new ≡ take (piece.n * plan.now.script.block) (flat (pool_of r)))) runs)) }
     ensures found { length found.new ≡ length found.old }
@@ -191,12 +191,12 @@ pub(crate) fn read_pi_piece<R: Rig>(
     requires ready { CanRun plan.now used.old (R.state rig.old) }
     requires piece { IsPieceOf plan.now piece }
     requires short { piece.n ≤ 128 }
-    requires room { HasRoom plan.now.script.block piece.n bytes.old tuples.old found.old }
-    ensures ran { HasRun plan.now used.old used.new (R.state rig.old) (R.state rig.new) (λ own. own ≡ read_pi_script plan.now.script plan.now.half piece)
+    requires room { HasPieceRoom plan.now.script.block piece.n bytes.old tuples.old found.old }
+    ensures ran { HasRunOnLegs plan.now used.old used.new (R.state rig.old) (R.state rig.new) (λ own. own ≡ read_pi_script plan.now.script plan.now.half piece)
         (λ runs. IfOk result (λ u. OneRun (read_pi_script plan.now.script plan.now.half piece)
         (λ r. (found.new ≡ found_by piece.n (replies_of r)) × ((bytes.new ≡ take (piece.n * plan.now.script.block) (flat (pool_of r)))
         × (tuples.new ≡ take (piece.n * TUPLE) (drop (PAGE * pages_for (piece.n * plan.now.script.block)) (flat (pool_of r)))))) runs)) }
-    ensures room { HasRoom plan.now.script.block piece.n bytes.new tuples.new found.new }
+    ensures room { HasPieceRoom plan.now.script.block piece.n bytes.new tuples.new found.new }
     ensures ready { CanRun plan.now used.new (R.state rig.new) }
 {
     // By laws.

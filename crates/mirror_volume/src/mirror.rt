@@ -3,7 +3,7 @@
 ghost use Rattle.std.specs.Prelude.{IfErr, IfOk, IsTrue, List, Ok, [], false, is_err, length, true, ◌+◌, ◌<◌, ◌↔◌, ◌≡◌};
 ghost use Rattle.mirror_volume.specs.Helds.{none_mended, so_far};
 ghost use Rattle.mirror_volume.specs.Plans.{IsMirror, sides_of};
-ghost use Rattle.mirror_volume.specs.Running.{CanGoOn, CanRun, DidNext, HasRun};
+ghost use Rattle.mirror_volume.specs.Running.{CanGoOn, CanRun, DidNext, HasRunOnLegs};
 ghost use Rattle.target_answer.specs.Target.{Stored};
 ghost use Rattle.leg_runs.specs.OnOps.{RanOp, whole_request};
 ghost use Rattle.leg_runs.specs.Mending.{IsRepairOf, RepairBy, stretches_in};
@@ -136,7 +136,7 @@ impl Mirror {
         ensures replies { self.new.replies.items ≡ self.old.replies.items }
         ensures pages { self.new.state.pool ≡ self.old.state.pool }
         ensures failed { self.new.failed ≡ is_err result }
-        ensures ran { HasRun self.old.plan self.old.state.used self.new.state.used (R.state rig.old) (R.state rig.new)
+        ensures ran { HasRunOnLegs self.old.plan self.old.state.used self.new.state.used (R.state rig.old) (R.state rig.new)
             (IsRepairOf self.old.plan.script self.old.plan.half)
             (λ runs. IfOk result (λ done. RepairBy self.old.plan.script self.old.plan.half 0 (stretches_in self.old.plan.half)
             (none_mended self.old.state.marks.items) (so_far self.new.state.marks.items done) runs
@@ -186,7 +186,7 @@ fn repair_all<R: Rig>(
 ) -> Result<Repair, AllocError>
     requires ready { CanRun plan.now state.old.used (R.state rig.old) }
     requires marks { length state.old.marks.items ≡ plan.now.half }
-    ensures ran { HasRun plan.now state.old.used state.new.used (R.state rig.old) (R.state rig.new) (IsRepairOf plan.now.script plan.now.half)
+    ensures ran { HasRunOnLegs plan.now state.old.used state.new.used (R.state rig.old) (R.state rig.new) (IsRepairOf plan.now.script plan.now.half)
         (λ runs. IfOk result (λ done. RepairBy plan.now.script plan.now.half 0 (stretches_in plan.now.half)
         (none_mended state.old.marks.items) (so_far state.new.marks.items done) runs)) }
     ensures ready { CanRun plan.now state.new.used (R.state rig.new) }

@@ -3,7 +3,7 @@
 ghost use Rattle.std.specs.Prelude.{◌≡◌, ◌<◌, ◌+◌, ◌⊎◌, [], IfOk, is_some, length};
 ghost use Rattle.stack_ops.specs.declared.op.Op.TheVariants.{Fetch, Write};
 ghost use Rattle.stack_ops.specs.declared.reply.Reply.TheVariants.{Medium, Silent};
-ghost use Rattle.stack_core.specs.Doing.{HasBlocks};
+ghost use Rattle.stack_core.specs.Doing.{HasChangedBlocks};
 ghost use Rattle.leg_runs.specs.OnOps.{Altered, DidOp, OverwriteTells, RanOp};
 ghost use Rattle.mirror_volume.specs.Plans.{IsRequestOf, both_of};
 ghost use Rattle.mirror_volume.specs.Running.{CanRun};
@@ -79,7 +79,7 @@ fn fetch_blocks<R: Rig>(
 
 /// Changes a stored block.
 fn overwrite<R: Rig>(dev: u32, lba: u64, change: &Change, rig: &mut R) -> Reply
-    requires { HasBlocks (is_some (R.state rig.old).image) (R.state rig.old).standing dev lba change.now }
+    requires { HasChangedBlocks (is_some (R.state rig.old).image) (R.state rig.old).standing dev lba change.now }
     ensures reply { (result ≡ Silent) ⊎ (result ≡ Medium) }
     ensures altered { Altered dev lba change.now [] (R.state rig.old) (R.state rig.new) }
     ensures made { OverwriteTells dev lba change.now result (R.state rig.old) (R.state rig.new) }

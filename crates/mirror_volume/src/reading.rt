@@ -3,7 +3,7 @@
 
 ghost use Rattle.std.specs.Prelude.{◌≡◌, ◌*◌, [], ◌∷◌, IfOk, None, not, ◌&&◌, ◌||◌, if◌then◌else◌, is_none, is_some, length};
 ghost use Rattle.mirror_volume.specs.Plans.{IsPieceOf};
-ghost use Rattle.mirror_volume.specs.Running.{CanRun, HasRun};
+ghost use Rattle.mirror_volume.specs.Running.{CanRun, HasRunOnLegs};
 ghost use Rattle.mirror_legs.specs.Inner.{read_script};
 ghost use Rattle.leg_runs.specs.Asked.{AreOf, IsInside, IsReadOf, ReadOnBoth, bytes_after, first_listed, found_after, fresh_on0, last_listed, rest_wanted, stretches};
 
@@ -39,7 +39,7 @@ fn ask_stretch<R: Rig>(
     requires stretch { IsInside whole.n stretch }
     requires found { length came.old.found.items ≡ whole.n }
     requires bytes { length came.old.bytes.items ≡ whole.n * plan.now.script.block }
-    ensures ran { HasRun plan.now used.old used.new (R.state rig.old) (R.state rig.new) (IsReadOf plan.now.script plan.now.half whole)
+    ensures ran { HasRunOnLegs plan.now used.old used.new (R.state rig.old) (R.state rig.new) (IsReadOf plan.now.script plan.now.half whole)
         (λ runs. IfOk result (λ u. AreOf (read_script plan.now.script plan.now.half) whole (stretch ∷ []) runs
         × ((came.new.found.items ≡ found_after (stretch ∷ []) runs came.old.found.items) × (came.new.bytes.items ≡ bytes_after plan.now.script.block (stretch ∷ []) runs came.old.bytes.items)))) }
     ensures ready { CanRun plan.now used.new (R.state rig.new) }
@@ -76,7 +76,7 @@ fn ask<R: Rig>(
     requires wanted { length wanted.now ≡ whole.n }
     requires found { length came.old.found.items ≡ whole.n }
     requires bytes { length came.old.bytes.items ≡ whole.n * plan.now.script.block }
-    ensures ran { HasRun plan.now used.old used.new (R.state rig.old) (R.state rig.new) (IsReadOf plan.now.script plan.now.half whole)
+    ensures ran { HasRunOnLegs plan.now used.old used.new (R.state rig.old) (R.state rig.new) (IsReadOf plan.now.script plan.now.half whole)
         (λ runs. IfOk result (λ u. AreOf (read_script plan.now.script plan.now.half) whole (stretches wanted.now) runs
         × ((came.new.found.items ≡ found_after (stretches wanted.now) runs came.old.found.items)
         × (came.new.bytes.items ≡ bytes_after plan.now.script.block (stretches wanted.now) runs came.old.bytes.items)))) }
@@ -177,7 +177,7 @@ pub(crate) fn read_blocks<R: Rig>(
     requires ready { CanRun plan.now used.old (R.state rig.old) }
     requires piece { IsPieceOf plan.now on0 }
     requires marks { length marks.now ≡ on0.n }
-    ensures ran { HasRun plan.now used.old used.new (R.state rig.old) (R.state rig.new) (IsReadOf plan.now.script plan.now.half on0)
+    ensures ran { HasRunOnLegs plan.now used.old used.new (R.state rig.old) (R.state rig.new) (IsReadOf plan.now.script plan.now.half on0)
         (λ runs. IfOk result (λ v. ReadOnBoth plan.now.script plan.now.half on0 marks.now runs v.0.items v.1.items)) }
     ensures ready { CanRun plan.now used.new (R.state rig.new) }
     ensures listed { IfOk result (λ v. length v.0.items ≡ on0.n) }

@@ -4,11 +4,11 @@
 ghost use Rattle.std.specs.Prelude.{◌≡◌, ◌<◌, ◌≤◌, ◌+◌, ◌*◌, ◌^◌, ◌&&◌, [], ◌∷◌, IfOk, drop, get_or, None, is_none, length, take};
 ghost use Rattle.leg_runs.specs.LegRuns.{OneRun, found_by, replies_of};
 ghost use Rattle.mirror_volume.specs.Plans.{IsPieceOf, IsStretchOf};
-ghost use Rattle.mirror_volume.specs.Running.{CanRun, HasRun};
+ghost use Rattle.mirror_volume.specs.Running.{CanRun, HasRunOnLegs};
 ghost use Rattle.pi_tuple.specs.Tuples.{tuple_in};
 ghost use Rattle.mirror_legs.specs.Inner.{read_pi_script, write_script};
 ghost use Rattle.leg_runs.specs.Asked.{AreOf, IsInside, stretches};
-ghost use Rattle.mirror_volume.specs.Helds.{AreHeld, IsAfter, IsHeld, IsSeen, goods_in, so_far};
+ghost use Rattle.mirror_volume.specs.Helds.{AreHeld, IsAfter, IsHeldByLeg, IsSeen, goods_in, so_far};
 ghost use Rattle.leg_runs.specs.Mending.{IsRepairOf, MendsBy, StretchBy, delivered, fresh_on1, looked, need_by, needs_by};
 
 use crate::legs::{Plan, read_pi_piece, write_piece};
@@ -97,7 +97,7 @@ fn look_at_part<R: Rig>(
     requires repair { whole.op ≡ 0 }
     requires part { IsInside whole.n part }
     requires seen { IsSeen plan.now.script.block whole.n seen.old }
-    ensures ran { HasRun plan.now used.old used.new (R.state rig.old) (R.state rig.new) (IsRepairOf plan.now.script plan.now.half)
+    ensures ran { HasRunOnLegs plan.now used.old used.new (R.state rig.old) (R.state rig.new) (IsRepairOf plan.now.script plan.now.half)
         (λ runs. IfOk result (λ u. AreOf (read_pi_script plan.now.script plan.now.half) whole (part ∷ []) runs
         × IsAfter plan.now.script.block (part ∷ []) runs seen.old seen.new)) }
     ensures ready { CanRun plan.now used.new (R.state rig.new) }
@@ -135,7 +135,7 @@ fn look_at_parts<R: Rig>(
     requires repair { whole.op ≡ 0 }
     requires wanted { length wanted.now ≡ whole.n }
     requires seen { IsSeen plan.now.script.block whole.n seen.old }
-    ensures ran { HasRun plan.now used.old used.new (R.state rig.old) (R.state rig.new) (IsRepairOf plan.now.script plan.now.half)
+    ensures ran { HasRunOnLegs plan.now used.old used.new (R.state rig.old) (R.state rig.new) (IsRepairOf plan.now.script plan.now.half)
         (λ runs. IfOk result (λ u. AreOf (read_pi_script plan.now.script plan.now.half) whole (stretches wanted.now) runs
         × IsAfter plan.now.script.block (stretches wanted.now) runs seen.old seen.new)) }
     ensures ready { CanRun plan.now used.new (R.state rig.new) }
@@ -162,11 +162,11 @@ fn look<R: Rig>(
     requires short { whole.n ≤ 128 }
     requires repair { whole.op ≡ 0 }
     requires wanted { length wanted.now ≡ whole.n }
-    ensures ran { HasRun plan.now used.old used.new (R.state rig.old) (R.state rig.new) (IsRepairOf plan.now.script plan.now.half)
+    ensures ran { HasRunOnLegs plan.now used.old used.new (R.state rig.old) (R.state rig.new) (IsRepairOf plan.now.script plan.now.half)
         (λ runs. IfOk result (λ h. AreOf (read_pi_script plan.now.script plan.now.half) whole (stretches wanted.now) runs
         × (goods_in plan.now.script.block h ≡ looked plan.now.script.block whole.n wanted.now runs))) }
     ensures ready { CanRun plan.now used.new (R.state rig.new) }
-    ensures held { IfOk result (λ h. IsHeld plan.now.script.block whole.n h) }
+    ensures held { IfOk result (λ h. IsHeldByLeg plan.now.script.block whole.n h) }
 {
     let count = whole.n as usize;
     let mut seen = Seen {
@@ -197,8 +197,8 @@ fn mend<R: Rig>(
     requires piece { IsPieceOf plan.now whole }
     requires repair { whole.op ≡ 0 }
     requires block { i < whole.n }
-    requires held { IsHeld plan.now.script.block whole.n from.now }
-    ensures ran { HasRun plan.now used.old used.new (R.state rig.old) (R.state rig.new) (IsRepairOf plan.now.script plan.now.half)
+    requires held { IsHeldByLeg plan.now.script.block whole.n from.now }
+    ensures ran { HasRunOnLegs plan.now used.old used.new (R.state rig.old) (R.state rig.new) (IsRepairOf plan.now.script plan.now.half)
         (λ runs. IfOk result (λ is_accepted. OneRun (write_script plan.now.script plan.now.half (record whole { n = 1; v = whole.v + i })
         (tuple_in (drop (TUPLE * i) from.now.tuples.items)).app (take plan.now.script.block (drop (i * plan.now.script.block) from.now.bytes.items)))
         (λ r. is_accepted ≡ is_none (get_or (found_by 1 (replies_of r)) 0 None)) runs)) }
@@ -236,7 +236,7 @@ fn mend_block<R: Rig>(
     requires marks { length marks.old ≡ plan.now.half }
     requires held { AreHeld plan.now.script.block whole.n held0.now held1.now }
     requires few { done.old.repaired + (done.old.lost + 1) < 2 ^ 32 }
-    ensures ran { HasRun plan.now used.old used.new (R.state rig.old) (R.state rig.new) (IsRepairOf plan.now.script plan.now.half)
+    ensures ran { HasRunOnLegs plan.now used.old used.new (R.state rig.old) (R.state rig.new) (IsRepairOf plan.now.script plan.now.half)
         (λ runs. IfOk result (λ u. MendsBy plan.now.script plan.now.half whole.n (whole.v + i)
         (need_by (get_or (goods_in plan.now.script.block held0.now) i None) (get_or (goods_in plan.now.script.block held1.now) i None) ∷ [])
         (so_far marks.old done.old) (so_far marks.new done.new) runs)) }
@@ -284,7 +284,7 @@ fn mend_all<R: Rig>(
     requires marks { length marks.old ≡ plan.now.half }
     requires held { AreHeld plan.now.script.block whole.n held0.now held1.now }
     requires few { done.old.repaired + (done.old.lost + whole.n) < 2 ^ 32 }
-    ensures ran { HasRun plan.now used.old used.new (R.state rig.old) (R.state rig.new) (IsRepairOf plan.now.script plan.now.half)
+    ensures ran { HasRunOnLegs plan.now used.old used.new (R.state rig.old) (R.state rig.new) (IsRepairOf plan.now.script plan.now.half)
         (λ runs. IfOk result (λ u. MendsBy plan.now.script plan.now.half whole.n whole.v (needs_by (goods_in plan.now.script.block held0.now) (goods_in plan.now.script.block held1.now))
         (so_far marks.old done.old) (so_far marks.new done.new) runs)) }
     ensures ready { CanRun plan.now used.new (R.state rig.new) }
@@ -319,7 +319,7 @@ pub(crate) fn repair_stretch<R: Rig>(
     requires short { whole.n ≤ 128 }
     requires marks { length marks.old ≡ plan.now.half }
     requires few { done.old.repaired + (done.old.lost + whole.n) < 2 ^ 32 }
-    ensures ran { HasRun plan.now used.old used.new (R.state rig.old) (R.state rig.new) (IsRepairOf plan.now.script plan.now.half)
+    ensures ran { HasRunOnLegs plan.now used.old used.new (R.state rig.old) (R.state rig.new) (IsRepairOf plan.now.script plan.now.half)
         (λ runs. IfOk result (λ u. StretchBy plan.now.script plan.now.half whole.v whole.n
         (so_far marks.old done.old) (so_far marks.new done.new) runs)) }
     ensures ready { CanRun plan.now used.new (R.state rig.new) }

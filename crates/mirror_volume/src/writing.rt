@@ -2,7 +2,7 @@
 
 ghost use Rattle.std.specs.Prelude.{◌≡◌, ◌*◌, IfOk, length};
 ghost use Rattle.mirror_volume.specs.Plans.{IsPieceOf};
-ghost use Rattle.mirror_volume.specs.Running.{CanRun, HasRun};
+ghost use Rattle.mirror_volume.specs.Running.{CanRun, HasRunOnLegs};
 ghost use Rattle.leg_runs.specs.OnOps.{IsWriteOf, WroteBy, whole_request};
 
 use crate::legs::{Plan, write_piece};
@@ -30,7 +30,7 @@ pub(crate) fn write_request<R: Rig>(
     requires whole { on0 ≡ whole_request on0.op on0.v on0.n }
     requires long { length bytes.now ≡ on0.n * plan.now.script.block }
     requires marks { length marks.old ≡ plan.now.half }
-    ensures ran { HasRun plan.now used.old used.new (R.state rig.old) (R.state rig.new) (IsWriteOf plan.now.script plan.now.half on0.op on0.v on0.n app bytes.now)
+    ensures ran { HasRunOnLegs plan.now used.old used.new (R.state rig.old) (R.state rig.new) (IsWriteOf plan.now.script plan.now.half on0.op on0.v on0.n app bytes.now)
         (λ runs. IfOk result (WroteBy plan.now.script plan.now.half on0.op on0.v on0.n app bytes.now marks.old marks.new runs)) }
     ensures ready { CanRun plan.now used.new (R.state rig.new) }
     ensures marks { length marks.new ≡ length marks.old }

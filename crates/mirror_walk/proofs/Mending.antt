@@ -30,7 +30,7 @@ use Rattle.run_laws.specs.ShownRun.{HasCells, LiesOn}
 use Rattle.mirror_walk.specs.Mirror.{fresh, marks_of}
 use Rattle.mirror_walk.specs.declared.marks.Marks.{Marks}
 use Rattle.mirror_walk.specs.OneGood.{on_leg}
-use Rattle.mirror_walk.specs.Repair.{Repair, good, mended, on_leg0, on_leg1, reading, repair_block, repaired_by, steady, writing}
+use Rattle.mirror_walk.specs.Repair.{WalkedRepair, good, mended, on_leg0, on_leg1, reading, repair_block, repaired_by, steady, writing}
 use Rattle.mirror_walk.proofs.Holds.{apart as homes_apart, fetched_at, near, on_medium, on_wire, stored_at}
 use Rattle.run_laws.proofs.Layers.{Hands, IsBare, Names, Outcome, Sound, Spoilt, checked, goes_out, reads, same_brought, why_ended}
 use Rattle.mirror_walk.proofs.Ways.{free_in, free_out, unnamed_stores}
@@ -163,10 +163,10 @@ module _ (m' : Setting) (opening : State) (half : ℕ) where
     by (inr s) = inl (reads_spoilt b blocks true refl s)
 
   -- block u, its marks and its stored blocks
-  abbrev pub at0 : Repair → ℕ → List ℕ
+  abbrev pub at0 : WalkedRepair → ℕ → List ℕ
   at0 r u = get_or r.blocks (home m u) []
 
-  abbrev pub at1 : Repair → ℕ → List ℕ
+  abbrev pub at1 : WalkedRepair → ℕ → List ℕ
   at1 r u = get_or r.blocks (home m (half + u)) []
 
   pub record Before (u : ℕ) (e : Brought) (k : Marks) (x0 x1 : List ℕ) : Type 0 where
@@ -181,7 +181,7 @@ module _ (m' : Setting) (opening : State) (half : ℕ) where
     pub on1 : SoundAs (half + u) e x1
     pub marks : k ≡ fresh
 
-  pub record Mended (u : ℕ) (e : Brought) (r now : Repair) : Type 0 where
+  pub record Mended (u : ℕ) (e : Brought) (r now : WalkedRepair) : Type 0 where
     pub after : After u e (marks_of now.marks u) (at0 now u) (at1 now u)
     pub lost : now.lost ≡ r.lost
     pub size : length now.blocks ≡ length r.blocks
@@ -195,9 +195,9 @@ module _ (m' : Setting) (opening : State) (half : ℕ) where
     homes : (v w : ℕ) → v < half + half → w < half + half → (v ≡ w → ⊥) → home m v ≡ home m w → ⊥
     homes v w l k d e = homes_apart m' opening half none still devices lies cells table v w l k d e
 
-    module _ (u : ℕ) (within : u < half) (e : Brought) (r : Repair) (size : length r.blocks ≡ length opening.blocks) (long : length r.marks ≡ half) where
+    module _ (u : ℕ) (within : u < half) (e : Brought) (r : WalkedRepair) (size : length r.blocks ≡ length opening.blocks) (long : length r.marks ≡ half) where
       -- a block stored on one leg, and the marks set
-      abbrev set_at : Block → List ℕ → Marks → Repair
+      abbrev set_at : Block → List ℕ → Marks → WalkedRepair
       set_at b stored k = record { blocks = set r.blocks (stored_cell q.site (route q b)) stored; marks = set r.marks u k; repaired = suc r.repaired; lost = r.lost }
 
       inside : (v : ℕ) → v < half + half → home m v < length r.blocks
@@ -223,7 +223,7 @@ module _ (m' : Setting) (opening : State) (half : ℕ) where
         (elsewhere b stored (half + w) l (omega (arith, h)) (off w d h).1, get_or-set_other r.marks u w k fresh d),
       )
 
-      abbrev Is : Repair → Type 0
+      abbrev Is : WalkedRepair → Type 0
       Is now = Mended u e r now
 
       -- leg 1 is written

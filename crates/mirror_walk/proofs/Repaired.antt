@@ -27,7 +27,7 @@ use Rattle.whole_run.proofs.InSteps.{scatter_length}
 use Rattle.mirror_walk.specs.Mirror.{Mirror, accepted, all_asked, answer, asks, count_of, done, fresh, marks_of, mirror_opened, mirror_past, mirror_walk}
 use Rattle.mirror_walk.specs.declared.marks.Marks.{Marks}
 use Rattle.mirror_walk.specs.OneGood.{AllSpare, AreBytes, HoldsProper, IsMirrorRun, IsRepaired, last_of, on_leg}
-use Rattle.mirror_walk.specs.Repair.{Repair, mirror_repair, repair_block, repair_from, steady}
+use Rattle.mirror_walk.specs.Repair.{WalkedRepair, mirror_repair, repair_block, repair_from, steady}
 use Rattle.run_laws.proofs.Along.{begins}
 use Rattle.mirror_walk.proofs.Delivery.{AllFitIn, FitsIn, last_in, split_escapes, split_shown}
 use Rattle.mirror_walk.proofs.Holds.{refused_last}
@@ -152,10 +152,10 @@ module _ (m' : Setting) (opening : State) (half : ℕ) (count : ℕ → ℕ) (st
 
   -- block after block
   module _ (e : ℕ → Brought) where
-    abbrev IsAfter : Repair → ℕ → Type 0
+    abbrev IsAfter : WalkedRepair → ℕ → Type 0
     IsAfter r w = After m' opening half w (e w) (marks_of r.marks w) (at0 m' opening half r w) (at1 m' opening half r w)
 
-    abbrev IsBefore : Repair → ℕ → Type 0
+    abbrev IsBefore : WalkedRepair → ℕ → Type 0
     IsBefore r w = Before m' opening half w (e w) (marks_of r.marks w) (at0 m' opening half r w) (at1 m' opening half r w)
 
     after_moves : (w : ℕ) (x : Brought) (k j : Marks) (a b c d : List ℕ) → j ≡ k → b ≡ a → d ≡ c → After m' opening half w x k a c → After m' opening half w x j b d
@@ -166,11 +166,11 @@ module _ (m' : Setting) (opening : State) (half : ℕ) (count : ℕ → ℕ) (st
     before_moves w x k j a b c d p q r h =
         subst (λ j. Before m' opening half w x j b d) (sym p) (subst (λ b. Before m' opening half w x k b d) (sym q) (subst (λ d. Before m' opening half w x k a d) (sym r) h))
 
-    record AllRepaired (r now : Repair) : Type 0 where
+    record AllRepaired (r now : WalkedRepair) : Type 0 where
       after : (w : ℕ) → w < half → IsAfter now w
       lost : now.lost ≡ r.lost
 
-    all_repaired : (u c : ℕ) → u + c ≡ half → (r : Repair) → length r.blocks ≡ length opening.blocks → length r.marks ≡ half →
+    all_repaired : (u c : ℕ) → u + c ≡ half → (r : WalkedRepair) → length r.blocks ≡ length opening.blocks → length r.marks ≡ half →
         ((w : ℕ) → w < half → w < u → IsAfter r w) → ((w : ℕ) → w < half → u ≤ w → IsBefore r w) → AllRepaired r (repair_from (checked (steady m')) half u c r)
     all_repaired u zero z r size sized first rest = record { after = λ w l. first w l (omega (arith, l, z)); lost = refl }
     all_repaired u (suc c) z r size sized first rest =
@@ -219,7 +219,7 @@ module _ (m' : Setting) (devices : List DeviceInfo) (half : ℕ) (ops : List Op)
   begun u l =
       before_repair m' opening half (count_of ops) run.unshifted devices run.lies run.cells run.long u (run.one_good u l).leg now (mirror_past base half (count_of ops) (steps_from base 1 ops) (mirror_opened half opening) []) l (at_end u l)
 
-  abbrev first : Repair
+  abbrev first : WalkedRepair
   first = record { blocks = (mirror_walk base half ops opening).state.blocks; marks = (mirror_walk base half ops opening).marks; repaired = 0; lost = 0 }
 
   whole : AllRepaired m' opening half (count_of ops) run.unshifted devices run.lies run.cells run.long (λ u. last_of base half (count_of ops) (steps_from base 1 ops) opening u) first (repair_from (checked (steady m')) half 0 half first)

@@ -24,7 +24,7 @@ use Rattle.mirror_walk.specs.Mirror.{Mirror, fresh, mirror_replies, mirror_walk}
 use Rattle.mirror_walk.specs.OnLegs.{all_landed, blocks_on, come, comes_from, listed_written, marks_written, why_of, whys_written}
 use Rattle.mirror_walk.specs.LegByLeg.{brought_of}
 use Rattle.mirror_walk.specs.Stretches.{On0, good0, good1, needs}
-use Rattle.mirror_walk.specs.Repair.{Repair, mirror_repair, steady}
+use Rattle.mirror_walk.specs.Repair.{WalkedRepair, mirror_repair, steady}
 
 abbrev with_faults : List FaultLine → Setting
 with_faults faults = record {
@@ -54,7 +54,7 @@ stale_marks : (mirror_walk stale 1 ops opening).marks ≡ record { leg0 = false;
 unfolding crc ip found_in to_medium from_medium to_wire from_wire run
 stale_marks = refl
 
-abbrev stale_repair : Repair
+abbrev stale_repair : WalkedRepair
 stale_repair = mirror_repair stale 1 (mirror_walk stale 1 ops opening)
 
 stale_counts : (stale_repair.repaired ≡ 1) × ((stale_repair.lost ≡ 0) × (stale_repair.marks ≡ fresh ∷ []))
@@ -73,7 +73,7 @@ unread_replies : mirror_replies unread 1 ops opening ≡ Silent ∷ Whole ∷ Ba
 unfolding crc ip found_in to_medium from_medium to_wire from_wire run
 unread_replies = refl
 
-abbrev unread_repair : Repair
+abbrev unread_repair : WalkedRepair
 unread_repair = mirror_repair unread 1 (mirror_walk unread 1 ops opening)
 
 unread_counts : (unread_repair.repaired ≡ 0) × ((unread_repair.lost ≡ 0) × (unread_repair.marks ≡ fresh ∷ []))
@@ -116,7 +116,7 @@ first_stale : come (record { leg0 = false; leg1 = true }) (Ok (7 ∷ [])) (Err S
 first_stale = refl
 
 -- The repair writes what leg 1 has to leg 0.
-abbrev opened_repair : Repair
+abbrev opened_repair : WalkedRepair
 opened_repair = record { blocks = after.state.blocks; marks = after.marks; repaired = 0; lost = 0 }
 
 is_due : needs 512 (good0 (steady stale) 1 0 1 opened_repair) (good1 (steady stale) 1 0 1 opened_repair) ≡ On0 (brought_by 512 (get_or after.state.blocks 1 [])) ∷ []

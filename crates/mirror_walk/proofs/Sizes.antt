@@ -35,7 +35,7 @@ use Rattle.whole_run.proofs.CalmRuns.{part_length}
 use Rattle.run_laws.proofs.AtTarget.{sends_length, stores_length}
 use Rattle.mirror_walk.specs.Mirror.{Mirror, asked, done, is_none, marks_of, twin}
 use Rattle.mirror_walk.specs.declared.marks.Marks.{Marks}
-use Rattle.mirror_walk.specs.Repair.{Repair, good, mended, on_leg0, on_leg1, reading, repair_block, repair_from, repaired_by, steady, writing}
+use Rattle.mirror_walk.specs.Repair.{WalkedRepair, good, mended, on_leg0, on_leg1, reading, repair_block, repair_from, repaired_by, steady, writing}
 use Rattle.mirror_walk.specs.OnLegs.{stored_at}
 use Rattle.mirror_walk.specs.LegByLeg.{DeliversWhole, HasLegs}
 use Rattle.mirror_walk.specs.Sizes.{AllHavePlaces, HasPlace, HasSizes, KeepsSizes}
@@ -180,7 +180,7 @@ module _ (m : Setting) (half : ℕ) (opening : List (List ℕ)) (legs : HasLegs 
         (ops_keep (suc i) ops (plain (done m half count) (steps_of m i op) s) p.1 (op_keeps i op s p.0 h))
 
   -- a block that is repaired
-  mended_keeps : (u : ℕ) (b : Block) (mark : Bool → Marks → Marks) (e : Brought) (r : Repair) → b.virt < volume_len m.entries → length e.body ≡ m.size → KeepsSizes opening r.blocks → KeepsSizes opening (mended m u b mark (writing m b e) r).blocks
+  mended_keeps : (u : ℕ) (b : Block) (mark : Bool → Marks → Marks) (e : Brought) (r : WalkedRepair) → b.virt < volume_len m.entries → length e.body ≡ m.size → KeepsSizes opening r.blocks → KeepsSizes opening (mended m u b mark (writing m b e) r).blocks
   mended_keeps u b mark e r l k h = by (writing m b e) (store_keeps b e r.blocks l k h) where
     by : (came : Result (List ℕ) Why) → KeepsSizes opening (stored_at (stored_cell m.site (route m b)) came r.blocks) → KeepsSizes opening (mended m u b mark came r).blocks
     by (Ok stored) q = q
@@ -191,14 +191,14 @@ module _ (m : Setting) (half : ℕ) (opening : List (List ℕ)) (legs : HasLegs 
   IsWhole None = Unit {0}
   IsWhole (Some frame) = length (take m.size frame) ≡ m.size
 
-  good_whole : (bit : Bool) (b : Block) (r : Repair) → b.virt < volume_len m.entries → KeepsSizes opening r.blocks → IsWhole (good bit (reading m b r.blocks))
+  good_whole : (bit : Bool) (b : Block) (r : WalkedRepair) → b.virt < volume_len m.entries → KeepsSizes opening r.blocks → IsWhole (good bit (reading m b r.blocks))
   good_whole bit b r l h = by bit (reading m b r.blocks) (λ frame e. delivers_whole r.blocks h b frame l e) where
     by : (bit : Bool) (came : Result (List ℕ) Why) → ((frame : List ℕ) → came ≡ Ok frame → m.size ≤ length frame) → IsWhole (good bit came)
     by true (Ok frame) k = length-take-le m.size frame (k frame refl)
     by true (Err why) k = tt
     by false came k = tt
 
-  repaired_keeps : (u : ℕ) (one other : Option (List ℕ)) (r : Repair) → u < half → IsWhole one → IsWhole other → KeepsSizes opening r.blocks → KeepsSizes opening (repaired_by m half u one other r).blocks
+  repaired_keeps : (u : ℕ) (one other : Option (List ℕ)) (r : WalkedRepair) → u < half → IsWhole one → IsWhole other → KeepsSizes opening r.blocks → KeepsSizes opening (repaired_by m half u one other r).blocks
   repaired_keeps u None None r l p q h = h
   repaired_keeps u (Some frame) None r l p q h =
       let long = legs.long in
@@ -208,7 +208,7 @@ module _ (m : Setting) (half : ℕ) (opening : List (List ℕ)) (legs : HasLegs 
       mended_keeps u (on_leg0 u) (λ bit old. record old { leg0 = bit }) (brought_by m.size frame) r (omega (arith, l, long)) q h
   repaired_keeps u (Some frame) (Some other) r l p q h = h
 
-  pub repair_keeps : (u n : ℕ) (r : Repair) → u + n ≤ half → KeepsSizes opening r.blocks → KeepsSizes opening (repair_from m half u n r).blocks
+  pub repair_keeps : (u n : ℕ) (r : WalkedRepair) → u + n ≤ half → KeepsSizes opening r.blocks → KeepsSizes opening (repair_from m half u n r).blocks
   repair_keeps u zero r l h = h
   repair_keeps u (suc n) r l h =
       let long = legs.long in
@@ -220,5 +220,5 @@ module _ (m : Setting) (half : ℕ) (opening : List (List ℕ)) (legs : HasLegs 
 pub steady_sizes : (m : Setting) (opening : List (List ℕ)) → HasSizes m opening → HasSizes (steady m) opening
 steady_sizes m opening sizes = record { device = refl; protect = sizes.protect; stored = sizes.stored }
 
-pub steady_keeps : (m : Setting) (half : ℕ) (opening : List (List ℕ)) (u n : ℕ) (r : Repair) → HasLegs m half → HasSizes m opening → u + n ≤ half → KeepsSizes opening r.blocks → KeepsSizes opening (repair_from (steady m) half u n r).blocks
+pub steady_keeps : (m : Setting) (half : ℕ) (opening : List (List ℕ)) (u n : ℕ) (r : WalkedRepair) → HasLegs m half → HasSizes m opening → u + n ≤ half → KeepsSizes opening r.blocks → KeepsSizes opening (repair_from (steady m) half u n r).blocks
 steady_keeps m half opening u n r legs sizes l h = repair_keeps (steady m) half opening (steady_legs m half legs) (steady_sizes m opening sizes) u n r l h

@@ -17,7 +17,7 @@ abbrev pub steady : Setting → Setting
 steady m = record m { site = record m.site { faults = []; device = target [] } }
 
 -- stored blocks and marks, and how many blocks were repaired and lost so far
-pub record Repair : Type 0 where
+pub record WalkedRepair : Type 0 where
   pub blocks : List (List ℕ)
   pub marks : List Marks
   pub repaired : ℕ
@@ -45,7 +45,7 @@ module _ (m : Setting) where
   writing b e = stored_of (way_out m.site.faults m.site.device (route m b) (own_frame (route m b) e.app e.body))
 
   -- A write that is accepted repairs the block; one that isn't leaves its leg stale, and the block is neither repaired nor lost.
-  abbrev pub mended : (u : ℕ) → Block → (Bool → Marks → Marks) → Result (List ℕ) Why → Repair → Repair
+  abbrev pub mended : (u : ℕ) → Block → (Bool → Marks → Marks) → Result (List ℕ) Why → WalkedRepair → WalkedRepair
   mended u b mark (Ok stored) r = record {
     blocks = set r.blocks (stored_cell m.site (route m b)) stored;
     marks = set r.marks u (mark true (marks_of r.marks u));
@@ -55,20 +55,20 @@ module _ (m : Setting) where
   mended u b mark (Err why) r = record r { marks = set r.marks u (mark false (marks_of r.marks u)) }
 
   -- by what is good on leg 0 and on leg 1
-  abbrev pub repaired_by : (half u : ℕ) → Option (List ℕ) → Option (List ℕ) → Repair → Repair
+  abbrev pub repaired_by : (half u : ℕ) → Option (List ℕ) → Option (List ℕ) → WalkedRepair → WalkedRepair
   repaired_by half u None None r = record r { lost = suc r.lost }
   repaired_by half u (Some frame) None r = mended u (on_leg1 half u) (λ bit old. record old { leg1 = bit }) (writing (on_leg1 half u) (brought_by m.size frame)) r
   repaired_by half u None (Some frame) r = mended u (on_leg0 u) (λ bit old. record old { leg0 = bit }) (writing (on_leg0 u) (brought_by m.size frame)) r
   repaired_by half u (Some frame) (Some other) r = r
 
-  abbrev pub repair_block : (half u : ℕ) → Repair → Repair
+  abbrev pub repair_block : (half u : ℕ) → WalkedRepair → WalkedRepair
   repair_block half u r = repaired_by half u (good (marks_of r.marks u).leg0 (reading (on_leg0 u) r.blocks)) (good (marks_of r.marks u).leg1 (reading (on_leg1 half u) r.blocks)) r
 
   -- n blocks from u on
-  abbrev pub repair_from : (half u n : ℕ) → Repair → Repair
+  abbrev pub repair_from : (half u n : ℕ) → WalkedRepair → WalkedRepair
   repair_from half u zero r = r
   repair_from half u (suc n) r = repair_from half (suc u) n (repair_block half u r)
 
 -- All blocks of a mirror are looked at, without faults.
-abbrev pub mirror_repair : Setting → (half : ℕ) → Mirror → Repair
+abbrev pub mirror_repair : Setting → (half : ℕ) → Mirror → WalkedRepair
 mirror_repair m half s = repair_from (steady m) half 0 half (record { blocks = s.state.blocks; marks = s.marks; repaired = 0; lost = 0 })

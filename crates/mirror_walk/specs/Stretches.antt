@@ -6,25 +6,25 @@ use Rattle.whole_run.specs.Steps.{each_from}
 use Rattle.mirror_walk.specs.Mirror.{is_none, marks_of}
 use Rattle.mirror_walk.specs.declared.marks.Marks.{Marks}
 use Rattle.mirror_walk.specs.OnLegs.{whys_written, written}
-use Rattle.mirror_walk.specs.Repair.{Repair, good, on_leg0, on_leg1, reading, repair_from, repaired_by, steady}
+use Rattle.mirror_walk.specs.Repair.{WalkedRepair, good, on_leg0, on_leg1, reading, repair_from, repaired_by, steady}
 
 -- The repair of a stretch of blocks: all of them are read on leg 0, then on leg 1, and then each that is good on just one is written to the other, one after another.
 
 module _ (m : Setting) (half : ℕ) where
   -- what is good of each of n blocks from u on, on leg 0 and on leg 1, before any is repaired
-  abbrev pub good0 : (u n : ℕ) → Repair → List (Option (List ℕ))
+  abbrev pub good0 : (u n : ℕ) → WalkedRepair → List (Option (List ℕ))
   good0 u n r = each_from u n (λ w. good (marks_of r.marks w).leg0 (reading m (on_leg0 w) r.blocks))
 
-  abbrev pub good1 : (u n : ℕ) → Repair → List (Option (List ℕ))
+  abbrev pub good1 : (u n : ℕ) → WalkedRepair → List (Option (List ℕ))
   good1 u n r = each_from u n (λ w. good (marks_of r.marks w).leg1 (reading m (on_leg1 half w) r.blocks))
 
   -- each block repaired by what was good of it
-  abbrev pub repaired_each : (u : ℕ) → List (Option (List ℕ)) → List (Option (List ℕ)) → Repair → Repair
+  abbrev pub repaired_each : (u : ℕ) → List (Option (List ℕ)) → List (Option (List ℕ)) → WalkedRepair → WalkedRepair
   repaired_each u [] others r = r
   repaired_each u (one ∷ ones) [] r = r
   repaired_each u (one ∷ ones) (other ∷ others) r = repaired_each (suc u) ones others (repaired_by m half u one other r)
 
-  abbrev pub stretch_repaired : (u n : ℕ) → Repair → Repair
+  abbrev pub stretch_repaired : (u n : ℕ) → WalkedRepair → WalkedRepair
   stretch_repaired u n r = repaired_each u (good0 u n r) (good1 u n r) r
 
 -- ---- the same as writes, in the order of the blocks
@@ -91,7 +91,7 @@ module _ (m : Setting) (half u : ℕ) where
   whys_due ns = whys_written m (due half u ns) (due_data ns)
 
   -- what all the writes that these blocks need leave
-  abbrev pub after_due : List Need → Repair → Repair
+  abbrev pub after_due : List Need → WalkedRepair → WalkedRepair
   after_due ns r = record {
     blocks = written m (due half u ns) (due_data ns) r.blocks;
     marks = marks_mended u ns (whys_due ns) r.marks;
@@ -100,6 +100,6 @@ module _ (m : Setting) (half u : ℕ) where
   }
 
 -- What the repair of n blocks from u on leaves, block by block, is what it leaves when all are read first; and these are its writes.
-pub record ByStretch (m : Setting) (half u n : ℕ) (r : Repair) : Type 0 where
+pub record ByStretch (m : Setting) (half u n : ℕ) (r : WalkedRepair) : Type 0 where
   pub each : repair_from (steady m) half u n r ≡ stretch_repaired (steady m) half u n r
   pub writes : repair_from (steady m) half u n r ≡ after_due (steady m) half u (needs m.size (good0 (steady m) half u n r) (good1 (steady m) half u n r)) r

@@ -11,7 +11,7 @@ ghost use Rattle.block_path.specs.Serial.{plain};
 ghost use Rattle.whole_run.specs.Past.{steps_from};
 ghost use Rattle.whole_run.specs.Settings.{Setting};
 ghost use Rattle.mirror_walk.specs.Mirror.{Mirror as AnyMirror, done};
-ghost use Rattle.mirror_walk.specs.Repair.{Repair as AnyRepair, repair_from, steady};
+ghost use Rattle.mirror_walk.specs.Repair.{WalkedRepair as AnyRepair, repair_from, steady};
 ghost use Rattle.mirror_walk.specs.Stretches.{ByStretch};
 ghost use Rattle.mirror_walk.specs.Sizes.{AllHavePlaces, HasSizes, KeepsSizes};
 ghost use Rattle.mirror_walk.specs.LegByLeg.{DeliversWhole, HasLegs, NoRequest, OneMoreOp, ReadsByLegs, WritesByLegs};

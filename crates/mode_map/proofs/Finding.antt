@@ -40,7 +40,7 @@ use Rattle.whole_run.specs.PlainMap.{MapEntry, all_pass, as_expected, entry_of, 
 use Rattle.whole_run.specs.UnderMap.{stored_as}
 use Rattle.whole_run.proofs.CalmWays.{IsProper, comes_home, goes, goes_bare, goes_on, here, loud, onto_wire, proper_entry, quiet, rtag_below, unmasked, wire, onto_medium, off_medium, off_wire, new_guard}
 use Rattle.whole_run.proofs.TupleFrames.{Small, data_is, finds_none, mapped_is}
-use Rattle.mode_map.specs.Finders.{IsClean, ShowsIn, checks_stored, seen_in, finder, flip_of, flipped, is_served, seen_by, seen_in_read, seen_in_write, seen_on_way_in, seen_on_way_out}
+use Rattle.mode_map.specs.Finders.{IsCleanBlock, ShowsIn, checks_stored, seen_in, finder, flip_of, flipped, is_served, seen_by, seen_in_read, seen_in_write, seen_on_way_in, seen_on_way_out}
 use Rattle.mode_map.specs.declared.finder.Seen.{Seen}
 use Rattle.mode_map.specs.declared.finder.Seen.TheVariants.{Adapter, Target, Owner as OfOwner}
 use Rattle.mode_map.proofs.Flips.{altered-bare, altered-here, altered-there, crossed-there, flipped-below, label_of, no-shift}
@@ -586,16 +586,16 @@ wire-finder true One p = refl
 wire-finder true Two p = refl
 wire-finder true Three p = refl
 
-proper : (m : Setting) (e : MapEntry) → IsClean m e → IsProper m e
+proper : (m : Setting) (e : MapEntry) → IsCleanBlock m e → IsProper m e
 proper m e c = record { size = c.size; bytes = below 256 e.body c.bytes; app = c.app; own = c.own; expected = unmasked m e.app c.mask }
 
-turns : (m : Setting) (b : Block) (protect : 0 < m.mode.protect) (mask : m.mode.mask ≡ 0) (at : Crossing) (off : ℕ) (bytes : List ℕ) (owner : Owner) (e : MapEntry) → IsClean m e → ShowsIn m at off bytes e → Turns m b protect mask off bytes owner e
+turns : (m : Setting) (b : Block) (protect : 0 < m.mode.protect) (mask : m.mode.mask ≡ 0) (at : Crossing) (off : ℕ) (bytes : List ℕ) (owner : Owner) (e : MapEntry) → IsCleanBlock m e → ShowsIn m at off bytes e → Turns m b protect mask off bytes owner e
 turns m b protect mask at off bytes owner e c w = record {
   inside = subst (λ n. off + length bytes ≤ n) (sym c.size) w.inside;
   other = record { size = length-xored (byte_at off bytes) 0 e.body ∙ c.size; bytes = flipped-below off 0 bytes e.body (below 256 bytes w.below) (below 256 e.body c.bytes); shows = w.crc_shows };
 }
 
-pub sees : (m : Setting) (b : Block) (owner : Owner) (at : Crossing) (off : ℕ) (bytes : List ℕ) (e : MapEntry) → is_served m.mode.protect ≡ true → IsClean m e → ShowsIn m at off bytes e → seen_in m b owner at off bytes e ≡ finder m.mode m.ty at
+pub sees : (m : Setting) (b : Block) (owner : Owner) (at : Crossing) (off : ℕ) (bytes : List ℕ) (e : MapEntry) → is_served m.mode.protect ≡ true → IsCleanBlock m e → ShowsIn m at off bytes e → seen_in m b owner at off bytes e ≡ finder m.mode m.ty at
 sees m b owner HostToAdapter off bytes e v c w =
     let s = served-some m.mode.protect v in at-host m b s c.mask off bytes owner m.mode.dix m.mode.dif m.ty e (proper m e c) c.unescaped (turns m b s c.mask HostToAdapter off bytes owner e c w) (w.host_shows refl)
 sees m b owner AdapterToTarget off bytes e v c w =
@@ -609,6 +609,6 @@ sees m b owner TargetToAdapter off bytes e v c w =
 sees m b owner AdapterToHost off bytes e v c w =
     let s = served-some m.mode.protect v in at-owner m b s c.mask off bytes owner m.mode.dix m.mode.dif m.ty e (proper m e c) c.unescaped (turns m b s c.mask AdapterToHost off bytes owner e c w) (w.host_shows refl)
 
-pub sees_by : (m : Setting) (b : Block) (owner : Owner) (at : Crossing) (off : ℕ) (bytes : List ℕ) (e : MapEntry) (mode : Mode) (ty : PiType) (result : Option Seen) → is_served mode.protect ≡ true → result ≡ finder mode ty at → m.mode ≡ mode → m.ty ≡ ty → IsClean m e → ShowsIn m at off bytes e → seen_in m b owner at off bytes e ≡ result
+pub sees_by : (m : Setting) (b : Block) (owner : Owner) (at : Crossing) (off : ℕ) (bytes : List ℕ) (e : MapEntry) (mode : Mode) (ty : PiType) (result : Option Seen) → is_served mode.protect ≡ true → result ≡ finder mode ty at → m.mode ≡ mode → m.ty ≡ ty → IsCleanBlock m e → ShowsIn m at off bytes e → seen_in m b owner at off bytes e ≡ result
 sees_by m b owner at off bytes e mode ty result v is sm st c w =
     sees m b owner at off bytes e (ap (λ (x : Mode). is_served x.protect) sm ∙ v) c w ∙ ap (λ (x : Mode). finder x m.ty at) sm ∙ ap (λ x. finder mode x at) st ∙ sym is

@@ -6,13 +6,13 @@ use Rattle.fault_schedule.specs.declared.fault.Crossing.{Crossing}
 use Rattle.guard_laws.proofs.Flips.{flip_shown, flip_shown_by_each}
 use Rattle.whole_run.specs.PlainMap.{MapEntry}
 use Rattle.whole_run.specs.Settings.{Setting}
-use Rattle.mode_map.specs.Finders.{IsClean, ShowsIn}
+use Rattle.mode_map.specs.Finders.{IsCleanBlock, ShowsIn}
 use Rattle.mode_map.specs.NearFlips.{IsNearFlip}
 
 place_inside : (bytes : List ℕ) (place : ℕ) → get_or bytes place 0 ≢ 0 → place < length bytes
 place_inside bytes place n = elim (cases_lt place (length bytes)) [ inl l ↦ l | inr l ↦ absurd (n (get_or_past bytes place 0 l)) ]
 
-pub shows_near : (m : Setting) (at : Crossing) (off : ℕ) (bytes : List ℕ) (e : MapEntry) → IsClean m e → IsNearFlip m off bytes → ShowsIn m at off bytes e
+pub shows_near : (m : Setting) (at : Crossing) (off : ℕ) (bytes : List ℕ) (e : MapEntry) → IsCleanBlock m e → IsNearFlip m off bytes → ShowsIn m at off bytes e
 shows_near m at off bytes e clean h =
     let l = place_inside bytes h.place h.some in
     let inside = h.inside in

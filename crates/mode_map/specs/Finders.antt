@@ -74,7 +74,7 @@ seen_in m b owner TargetToAdapter off bytes e = seen_in_read m b owner (flip_of 
 seen_in m b owner AdapterToHost off bytes e = seen_in_read m b owner (flip_of b AdapterToHost off bytes) (stored_as m (route m b).lba e)
 
 -- A block whose tuple is no escape, in a setting whose mask is 0.
-pub record IsClean (m : Setting) (e : MapEntry) : Type 0 where
+pub record IsCleanBlock (m : Setting) (e : MapEntry) : Type 0 where
   pub size : length e.body ≡ m.size
   pub bytes : All (λ x. x < 256) e.body
   pub app : e.app < 2 ^ 16

@@ -5,7 +5,7 @@ ghost use Rattle.pi_tuple.specs.Finds.{is_zero};
 ghost use Rattle.integrity_payload.specs.declared.payload.Owner.{Owner};
 ghost use Rattle.whole_run.specs.Settings.{Block, Setting};
 ghost use Rattle.whole_run.specs.PlainMap.{MapEntry};
-ghost use Rattle.mode_map.specs.Finders.{IsClean, ShowsIn, checks_stored, finder, is_served, seen_in};
+ghost use Rattle.mode_map.specs.Finders.{IsCleanBlock, ShowsIn, checks_stored, finder, is_served, seen_in};
 ghost use Rattle.mode_map.specs.NearFlips.{IsNearFlip};
 
 use block_path::Mode;
@@ -73,9 +73,9 @@ fn finder(mode: &Mode, ty: PiType, at: Crossing) -> Option<Seen>
 pub fn first_finder(mode: &Mode, ty: PiType, at: Crossing) -> Option<Seen>
     requires { is_served mode.now.protect ≡ true }
     ensures value { result ≡ finder mode.now ty at }
-    ensures found { (m : Setting) (b : Block) (owner : Owner) (e : MapEntry) (off : ℕ) (bytes : List ℕ) → m.mode ≡ mode.now → m.ty ≡ ty → IsClean m e → ShowsIn m at off bytes e
+    ensures found { (m : Setting) (b : Block) (owner : Owner) (e : MapEntry) (off : ℕ) (bytes : List ℕ) → m.mode ≡ mode.now → m.ty ≡ ty → IsCleanBlock m e → ShowsIn m at off bytes e
         → seen_in m b owner at off bytes e ≡ result }
-    ensures near { (m : Setting) (b : Block) (owner : Owner) (e : MapEntry) (off : ℕ) (bytes : List ℕ) → m.mode ≡ mode.now → m.ty ≡ ty → IsClean m e → IsNearFlip m off bytes
+    ensures near { (m : Setting) (b : Block) (owner : Owner) (e : MapEntry) (off : ℕ) (bytes : List ℕ) → m.mode ≡ mode.now → m.ty ≡ ty → IsCleanBlock m e → IsNearFlip m off bytes
         → seen_in m b owner at off bytes e ≡ result }
 {
     finder(mode, ty, at)

@@ -26,7 +26,7 @@ use Rattle.script_text.specs.declared.fault.ScriptFault.{ScriptFault}
 use Rattle.nvme_command.specs.Causes.{CauseNotDone, CauseUndone, HasAsked, HasDoneInPart, HasLines, HasMisfit, HasNoLines, HasTold, WereDone}
 use Rattle.nvme_command.specs.Done.{AllDone}
 use Rattle.nvme_command.specs.Fits.{misfit}
-use Rattle.nvme_command.specs.Replies.{Reply}
+use Rattle.nvme_command.specs.Replies.{LineReply}
 
 not_long : (b : Bool) (x : Result (List NvmLine) ScriptFault) (e : ScriptFault) (lines : List NvmLine) → (if b then Err e else x) ≡ Ok lines → b ≡ false
 not_long true x e lines h = absurd (cc)
@@ -87,7 +87,7 @@ asked_opens name devices old new a =
 opens_on : (name : List ℕ) (old between new : Standing) → new ≡ between → OpenedOnce name old between → OpenedOnce name old new
 opens_on name old between new e o = subst (λ (s : Standing). OpenedOnce name old s) (sym e) o
 
-stands_all : (ds : List DeviceInfo) (ls : List NvmLine) (rs : List Reply) (a b : RigState) → AllDone ds ls rs a b → b.standing ≡ a.standing
+stands_all : (ds : List DeviceInfo) (ls : List NvmLine) (rs : List LineReply) (a b : RigState) → AllDone ds ls rs a b → b.standing ≡ a.standing
 stands_all ds [] [] a b d = ap (λ (v : RigState). v.standing) d
 stands_all ds [] (x ∷ rs) a b d = absurd d
 stands_all ds (x ∷ ls) [] a b d = absurd d

@@ -8,26 +8,26 @@ use Rattle.target_answer.specs.Target.{Stop, Stored}
 use Rattle.rig_api.specs.Telling.{HasCause, unit_at}
 use Rattle.rig_api.specs.State.{RigState}
 use Rattle.volume_table.specs.declared.device.DeviceInfo.{DeviceInfo}
-use Rattle.nvme_front.specs.Answers.{HasDevices, IsNvmAnswer, device_of, nvm_answer}
+use Rattle.nvme_front.specs.Answers.{HasNamespaces, IsNvmAnswer, device_of, nvm_answer}
 use Rattle.nvme_front.specs.Completions.{is_success}
 use Rattle.nvme_front.specs.Refusals.{refusal}
 use Rattle.nvme_front.specs.declared.command.NvmCommand.{NvmCommand}
 use Rattle.nvme_front.specs.declared.completion.Completion.{Completion}
 use Rattle.nvme_lines.specs.declared.line.NvmLine.{NvmLine}
 use Rattle.nvme_session.specs.declared.doing.NvmReply.{NvmReply}
-use Rattle.nvme_command.specs.Done.{Adds, AllDone, Came, CameInPart, Lacks, Stays, WasDone, body_given, dev_of, meta_given, replies_over, step_by, step_of, units_over}
+use Rattle.nvme_command.specs.Done.{Adds, AllDone, Came, CameInPart, Lacks, UnitsStay, WasDone, body_given, dev_of, meta_given, replies_over, step_by, step_of, units_over}
 use Rattle.nvme_command.specs.Fits.{command_of, device_of_line}
-use Rattle.nvme_command.specs.Replies.{Reply, has_failed, replies_text, reply_line, reply_of}
+use Rattle.nvme_command.specs.Replies.{LineReply, has_failed, replies_text, reply_line, reply_of}
 
 -- ---- one more
 
-done_more : (ds : List DeviceInfo) (ls : List NvmLine) (rs : List Reply) (l : NvmLine) (r : Reply) (a b c : RigState) → AllDone ds ls rs a b → WasDone ds l r b c → AllDone ds (ls ++ (l ∷ [])) (rs ++ (r ∷ [])) a c
+done_more : (ds : List DeviceInfo) (ls : List NvmLine) (rs : List LineReply) (l : NvmLine) (r : LineReply) (a b c : RigState) → AllDone ds ls rs a b → WasDone ds l r b c → AllDone ds (ls ++ (l ∷ [])) (rs ++ (r ∷ [])) a c
 done_more ds [] [] l r a b c d w = (c, subst (λ (v : RigState). WasDone ds l r v c) d w, refl)
 done_more ds [] (x ∷ rs) l r a b c d w = absurd d
 done_more ds (x ∷ ls) [] l r a b c d w = absurd d
 done_more ds (x ∷ ls) (y ∷ rs) l r a b c d w = (d.0, d.1, done_more ds ls rs l r d.0 b c d.2 w)
 
-text_more : (rs : List Reply) (r : Reply) → replies_text (rs ++ (r ∷ [])) ≡ replies_text rs ++ reply_line r
+text_more : (rs : List LineReply) (r : LineReply) → replies_text (rs ++ (r ∷ [])) ≡ replies_text rs ++ reply_line r
 text_more [] r = append-nil (reply_line r)
 text_more (x ∷ rs) r = ap (λ (v : List ℕ). reply_line x ++ v) (text_more rs r) ∙ sym (append_assoc (reply_line x) (replies_text rs) (reply_line r))
 
@@ -39,7 +39,7 @@ or_assoc : (a b c : Bool) → (a || (b || c)) ≡ ((a || b) || c)
 or_assoc true b c = refl
 or_assoc false b c = refl
 
-failed_more : (rs : List Reply) (r : Reply) → has_failed (rs ++ (r ∷ [])) ≡ (has_failed rs || not (is_success r.completion))
+failed_more : (rs : List LineReply) (r : LineReply) → has_failed (rs ++ (r ∷ [])) ≡ (has_failed rs || not (is_success r.completion))
 failed_more [] r = or_last (not (is_success r.completion))
 failed_more (x ∷ rs) r = ap (λ (b : Bool). not (is_success x.completion) || b) (failed_more rs r) ∙ or_assoc (not (is_success x.completion)) (has_failed rs) (not (is_success r.completion))
 
@@ -56,7 +56,7 @@ came_next : (ds : List DeviceInfo) (lines : List NvmLine) (i : ℕ) (d : NvmLine
     Came ds (take (i + 1) lines) text' bad' a c
 came_next ds lines i d text text' bad bad' a b c h x y = subst (λ (v : List NvmLine). Came ds v text' bad' a c) (sym (take_more lines i d h)) (came_more ds (take i lines) (get_or lines i d) text text' bad bad' a b c x y)
 
-stays_put : (a : RigState) → Stays a a
+stays_put : (a : RigState) → UnitsStay a a
 stays_put a = record { units = refl; armed = refl; log = refl; standing = refl; count = omega arith }
 
 -- where memory lacked at a line
@@ -85,7 +85,7 @@ lacked_step ds front lines i l text bad a b c e item h x y =
 
 -- ---- over told units
 
-rising : (ds : List DeviceInfo) (ls : List NvmLine) (rs : List Reply) (a b : RigState) → AllDone ds ls rs a b → a.faults ≤ b.faults
+rising : (ds : List DeviceInfo) (ls : List NvmLine) (rs : List LineReply) (a b : RigState) → AllDone ds ls rs a b → a.faults ≤ b.faults
 rising ds [] [] a b d = let same = ap (λ (v : RigState). v.faults) d in omega (arith, same)
 rising ds [] (x ∷ rs) a b d = absurd d
 rising ds (x ∷ ls) [] a b d = absurd d
@@ -97,10 +97,10 @@ calm_answer : (us : List Stored) (dev : ℕ) (c : NvmCommand) (b m nb nm : List 
 calm_answer us dev c b m nb nm done told n f f' None cause calm x = x
 calm_answer us dev c b m nb nm done told n f f' (Some s) cause calm x = absurd (never_rose f f' calm cause.0)
 
-abbrev made : NvmCommand → Completion → List ℕ → List ℕ → Reply
+abbrev made : NvmCommand → Completion → List ℕ → List ℕ → LineReply
 made c done b m = record { command = c; completion = done; body = b; meta = m }
 
-same_reply : (r : Reply) (c : NvmCommand) (done : Completion) (b m : List ℕ) → r.command ≡ c → r.completion ≡ done → r.body ≡ b → r.meta ≡ m → r ≡ record { command = c; completion = done; body = b; meta = m }
+same_reply : (r : LineReply) (c : NvmCommand) (done : Completion) (b m : List ℕ) → r.command ≡ c → r.completion ≡ done → r.body ≡ b → r.meta ≡ m → r ≡ record { command = c; completion = done; body = b; meta = m }
 same_reply r c done b m e1 e2 e3 e4 =
     ap (λ (x : NvmCommand). made x r.completion r.body r.meta) e1 ∙ ap (λ (x : Completion). made c x r.body r.meta) e2 ∙ ap (λ (x : List ℕ). made c done x r.meta) e3 ∙ ap (λ (x : List ℕ). made c done b x) e4
 
@@ -109,11 +109,11 @@ pub refused_reply : (r : NvmReply) (c : NvmCommand) (x : Completion) → r.compl
 refused_reply r c x e b m = same_reply (reply_of c r) c x [] [] refl e b m
 
 -- a step over units that are told
-pub record IsStep (ds : List DeviceInfo) (l : NvmLine) (r : Reply) (us : List Stored) (x : Option Completion) (units : Option (List Stored)) : Type 0 where
+pub record IsStep (ds : List DeviceInfo) (l : NvmLine) (r : LineReply) (us : List Stored) (x : Option Completion) (units : Option (List Stored)) : Type 0 where
   pub reply_is : r ≡ (step_by x (device_of_line ds l) us l).reply
   pub units_are : units ≡ Some (step_by x (device_of_line ds l) us l).units
 
-step_is : (ds : List DeviceInfo) (l : NvmLine) (r : Reply) (a b : RigState) (us : List Stored) → WasDone ds l r a b → HasDevices ds a.standing a.units → a.units ≡ Some us → Calm a.faults b.faults →
+step_is : (ds : List DeviceInfo) (l : NvmLine) (r : LineReply) (a b : RigState) (us : List Stored) → WasDone ds l r a b → HasNamespaces ds a.standing a.units → a.units ≡ Some us → Calm a.faults b.faults →
     IsStep (map device_of us) l r us (refusal (map device_of us) (command_of l)) b.units
 step_is ds l r a b us w h e calm =
     let same : ds ≡ map device_of us = h.told us e in
@@ -128,11 +128,11 @@ step_is ds l r a b us w h e calm =
         record { reply_is = same_reply r (command_of l) _ _ _ w.command_is z.completion z.body_is z.meta_is; units_are = z.units }
 
 -- replies and units after commands without a fault
-pub record AreExact (ls : List NvmLine) (rs : List Reply) (us : List Stored) (units : Option (List Stored)) : Type 0 where
+pub record AreExact (ls : List NvmLine) (rs : List LineReply) (us : List Stored) (units : Option (List Stored)) : Type 0 where
   pub replies_are : rs ≡ replies_over us ls
   pub units_are : units ≡ Some (units_over us ls)
 
-exact_over : (ds : List DeviceInfo) (ls : List NvmLine) (rs : List Reply) (a b : RigState) (us : List Stored) → AllDone ds ls rs a b → HasDevices ds a.standing a.units → a.units ≡ Some us → Calm a.faults b.faults → AreExact ls rs us b.units
+exact_over : (ds : List DeviceInfo) (ls : List NvmLine) (rs : List LineReply) (a b : RigState) (us : List Stored) → AllDone ds ls rs a b → HasNamespaces ds a.standing a.units → a.units ≡ Some us → Calm a.faults b.faults → AreExact ls rs us b.units
 exact_over ds [] [] a b us d h e calm = record { replies_are = refl; units_are = ap (λ (v : RigState). v.units) d ∙ e }
 exact_over ds [] (x ∷ rs) a b us d h e calm = absurd d
 exact_over ds (x ∷ ls) [] a b us d h e calm = absurd d
@@ -144,11 +144,11 @@ exact_over ds (l ∷ ls) (r ∷ rs) a b us d h e calm =
     let one = step_is ds l r a d.0 us d.1 h e first in
     let more = exact_over ds ls rs d.0 b (step_of us l).units d.2 d.1.devices_are one.units_are rest in
     record {
-      replies_are = ap (λ (x : Reply). x ∷ rs) one.reply_is ∙ ap (λ (v : List Reply). (step_of us l).reply ∷ v) more.replies_are;
+      replies_are = ap (λ (x : LineReply). x ∷ rs) one.reply_is ∙ ap (λ (v : List LineReply). (step_of us l).reply ∷ v) more.replies_are;
       units_are = more.units_are;
     }
 
-pub exact_came : (ds : List DeviceInfo) (ls : List NvmLine) (text : List ℕ) (bad : Bool) (a b : RigState) (us : List Stored) → Came ds ls text bad a b → HasDevices ds a.standing a.units → a.units ≡ Some us → Calm a.faults b.faults →
+pub exact_came : (ds : List DeviceInfo) (ls : List NvmLine) (text : List ℕ) (bad : Bool) (a b : RigState) (us : List Stored) → Came ds ls text bad a b → HasNamespaces ds a.standing a.units → a.units ≡ Some us → Calm a.faults b.faults →
     (text ≡ replies_text (replies_over us ls)) × (bad ≡ has_failed (replies_over us ls)) × (b.units ≡ Some (units_over us ls))
 exact_came ds ls text bad a b us came h e calm =
     let x = exact_over ds ls came.replies a b us came.done h e calm in

@@ -11,7 +11,7 @@ use Rattle.rig_discovery.specs.Discovery.{HasFound}
 use Rattle.image_commands.specs.Causes.{CauseUntold, HasOpened}
 use Rattle.call_refusal.specs.declared.refusal.Refusal.{Refusal}
 use Rattle.call_refusal.specs.declared.refusal.Refusal.TheVariants as refusal
-use Rattle.nvme_front.specs.Answers.{HasDevices}
+use Rattle.nvme_front.specs.Answers.{HasNamespaces}
 use Rattle.nvme_lines.specs.Texts.{text_in}
 use Rattle.nvme_lines.specs.declared.line.NvmLine.{NvmLine}
 use Rattle.script_text.specs.declared.fault.ScriptFault.{ScriptFault}
@@ -42,7 +42,7 @@ pub record HasAsked (name : List ℕ) (devices : List DeviceInfo) (old new : Rig
 pub record HasTold (name : List ℕ) (devices : List DeviceInfo) (old new : RigState) : Type 0 where
   pub asked : HasAsked name devices old new
   pub armed : new.armed ≡ []
-  pub devices_are : HasDevices devices new.standing new.units
+  pub devices_are : HasNamespaces devices new.standing new.units
 
 -- The metadata of this line don't fit its command, and no command was done.
 pub record HasMisfit (f : ScriptFault) (name : List ℕ) (lines : List NvmLine) (old new : RigState) : Type 0 where

@@ -11,13 +11,13 @@ use Rattle.nvme_session.specs.declared.doing.NvmReply.{NvmReply}
 -- What a command comes to, and its line.
 
 -- the command, its completion, and the buffers as it leaves them
-pub record Reply : Type 0 where
+pub record LineReply : Type 0 where
   pub command : NvmCommand
   pub completion : Completion
   pub body : List ℕ
   pub meta : List ℕ
 
-abbrev pub reply_of : NvmCommand → NvmReply → Reply
+abbrev pub reply_of : NvmCommand → NvmReply → LineReply
 reply_of c r = record { command = c; completion = r.completion; body = r.body.items; meta = r.meta.items }
 
 -- status code type and status code
@@ -37,15 +37,15 @@ brought body meta = codes " " ++ (encode_lower (to_be_bytes w16 (crc body)) ++ (
 abbrev pub brings : NvmCommand → Completion → Bool
 brings c done = is_read c && is_success done
 
-abbrev pub reply_line : Reply → List ℕ
+abbrev pub reply_line : LineReply → List ℕ
 reply_line r = completion_text r.completion ++ ((if brings r.command r.completion then brought r.body r.meta else []) ++ codes "\n")
 
 -- a line for each command
-abbrev pub replies_text : List Reply → List ℕ
+abbrev pub replies_text : List LineReply → List ℕ
 replies_text [] = []
 replies_text (r ∷ rs) = reply_line r ++ replies_text rs
 
 -- a completion isn't 0h/00h
-abbrev pub has_failed : List Reply → Bool
+abbrev pub has_failed : List LineReply → Bool
 has_failed [] = false
 has_failed (r ∷ rs) = not (is_success r.completion) || has_failed rs

@@ -1,9 +1,9 @@
 //! The commands of lines, one after another.
 
 ghost use Rattle.std.specs.Prelude.{◌≡◌, ◌||◌, [], MatchResult, not};
-ghost use Rattle.nvme_front.specs.Answers.{HasDevices};
+ghost use Rattle.nvme_front.specs.Answers.{HasNamespaces};
 ghost use Rattle.nvme_front.specs.Completions.{is_success};
-ghost use Rattle.nvme_command.specs.Done.{Adds, Came, CameInPart, Lacks, Stays, WasDone};
+ghost use Rattle.nvme_command.specs.Done.{Adds, Came, CameInPart, Lacks, UnitsStay, WasDone};
 ghost use Rattle.nvme_command.specs.Fits.{command_of};
 ghost use Rattle.nvme_command.specs.Replies.{reply_of};
 
@@ -30,12 +30,12 @@ fn answered<R: Rig>(
     line: &NvmLine,
     rig: &mut R,
 ) -> Result<NvmReply, AllocError>
-    requires devices { HasDevices front.old (R.state rig.old).standing (R.state rig.old).units }
+    requires devices { HasNamespaces front.old (R.state rig.old).standing (R.state rig.old).units }
     requires calm { (R.state rig.old).armed ≡ [] }
     ensures done { let old = R.state rig.old in
         let new = R.state rig.new in
-        MatchResult result (λ r. WasDone front.old line.now (reply_of (command_of line.now) r) old new) (λ _. Stays old new) }
-    ensures devices { HasDevices front.new (R.state rig.new).standing (R.state rig.new).units }
+        MatchResult result (λ r. WasDone front.old line.now (reply_of (command_of line.now) r) old new) (λ _. UnitsStay old new) }
+    ensures devices { HasNamespaces front.new (R.state rig.new).standing (R.state rig.new).units }
     ensures armed { (R.state rig.new).armed ≡ (R.state rig.old).armed }
     ensures front { front.new ≡ front.old }
 {
@@ -67,12 +67,12 @@ fn do_line<R: Rig>(
     rig: &mut R,
     done: &mut Done,
 ) -> Result<(), AllocError>
-    requires devices { HasDevices front.old (R.state rig.old).standing (R.state rig.old).units }
+    requires devices { HasNamespaces front.old (R.state rig.old).standing (R.state rig.old).units }
     requires calm { (R.state rig.old).armed ≡ [] }
     ensures done { let old = R.state rig.old in
         let new = R.state rig.new in
         MatchResult result (λ _. Adds front.old line.now done.old.text.items done.new.text.items done.old.bad done.new.bad old new) (λ _. Lacks front.old line.now old new) }
-    ensures devices { HasDevices front.new (R.state rig.new).standing (R.state rig.new).units }
+    ensures devices { HasNamespaces front.new (R.state rig.new).standing (R.state rig.new).units }
     ensures armed { (R.state rig.new).armed ≡ (R.state rig.old).armed }
     ensures front { front.new ≡ front.old }
 {
@@ -89,7 +89,7 @@ pub(crate) fn do_lines<R: Rig>(
     lines: &[NvmLine],
     rig: &mut R,
 ) -> Result<Done, AllocError>
-    requires devices { HasDevices front.old (R.state rig.old).standing (R.state rig.old).units }
+    requires devices { HasNamespaces front.old (R.state rig.old).standing (R.state rig.old).units }
     requires calm { (R.state rig.old).armed ≡ [] }
     ensures { let old = R.state rig.old in
         let new = R.state rig.new in

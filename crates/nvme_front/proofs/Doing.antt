@@ -11,10 +11,10 @@ use Rattle.rig_api.specs.Telling.{IsAnswer, IsStanding, answer_of, spec_at, unit
 use Rattle.rig_api.specs.declared.rig.Outcome.{Outcome}
 use Rattle.rig_api.specs.State.{Exchanged, RigState}
 use Rattle.volume_table.specs.declared.device.DeviceInfo.{DeviceInfo}
-use Rattle.nvme_front.specs.Answers.{HasDevices, Submitted, device_of}
+use Rattle.nvme_front.specs.Answers.{HasNamespaces, Submitted, device_of}
 use Rattle.nvme_front.specs.Buffers.{sent_by}
 use Rattle.nvme_front.specs.Completions.{by_end, completed, is_internal, is_of_medium, says, success}
-use Rattle.nvme_front.specs.Exchanges.{Done}
+use Rattle.nvme_front.specs.Exchanges.{ExchangeDone}
 use Rattle.nvme_front.specs.Results.{AnswersCalm, IsAnswered}
 use Rattle.nvme_front.specs.Refusals.{device_at, has_namespace}
 use Rattle.nvme_front.specs.Translation.{scsi_command}
@@ -28,7 +28,7 @@ pub with-bytes : (dev : ℕ) (cdb cdb' out out' before came : List ℕ) (o : Out
 with-bytes dev cdb cdb' out out' before came o old new e f x =
     subst (λ z. Exchanged old new dev cdb' [] z before came o) f (subst (λ z. Exchanged old new dev z [] out before came o) e x)
 
-pub submitted : (dev : ℕ) (d : DeviceInfo) (c : NvmCommand) (body meta body' meta' : List ℕ) (result : Completion) (old new : RigState) → dev ≡ c.nsid - 1 → Done dev d c body meta body' meta' result old new → Submitted d c old.standing body meta body' meta' result old.log new.log
+pub submitted : (dev : ℕ) (d : DeviceInfo) (c : NvmCommand) (body meta body' meta' : List ℕ) (result : Completion) (old new : RigState) → dev ≡ c.nsid - 1 → ExchangeDone dev d c body meta body' meta' result old new → Submitted d c old.standing body meta body' meta' result old.log new.log
 submitted dev d c body meta body' meta' result old new e r = record {
   outcome = r.outcome;
   came = r.came;
@@ -40,8 +40,8 @@ submitted dev d c body meta body' meta' result old new e r = record {
 }
 
 pub told-of : (devices : List DeviceInfo) (d : DeviceInfo) (c : NvmCommand) (body meta body' meta' : List ℕ) (result : Completion) (old new : RigState) (image : Option (List ℕ)) (us : List Stored) (stop : Option Stop) →
-    (r : Done (c.nsid - 1) d c body meta body' meta' result old new) → d ≡ device_at devices c.nsid → has_namespace devices c.nsid ≡ true → 1 ≤ c.count →
-    HasDevices devices old.standing old.units → old.units ≡ units_told old.standing image → IsStanding old.standing image → old.units ≡ Some us →
+    (r : ExchangeDone (c.nsid - 1) d c body meta body' meta' result old new) → d ≡ device_at devices c.nsid → has_namespace devices c.nsid ≡ true → 1 ≤ c.count →
+    HasNamespaces devices old.standing old.units → old.units ≡ units_told old.standing image → IsStanding old.standing image → old.units ≡ Some us →
     IsAnswer (answer_of us old.armed (c.nsid - 1) (form (scsi_command d.ty c)) [] (sent_by d.ty c d.size body meta) (length r.before) stop) us (c.nsid - 1) r.outcome new.units r.before r.came →
     Told (unit_at us (c.nsid - 1)) old.armed c body meta stop us (c.nsid - 1) result new.units body' meta'
 told-of devices d c body meta body' meta' result old new image us stop r device there some has laid ready u said =
@@ -52,8 +52,8 @@ told-of devices d c body meta body' meta' result old new image us stop r device 
     of-device us (c.nsid - 1) d c old.armed body meta body' meta' r.before r.came stop r.outcome new.units result e r.fits some whole r.out_long r.before_long r.result_is r.body_is r.meta_is said
 
 pub never-of : (devices : List DeviceInfo) (d : DeviceInfo) (c : NvmCommand) (body meta body' meta' : List ℕ) (result : Completion) (old new : RigState) (image : Option (List ℕ)) →
-    Done (c.nsid - 1) d c body meta body' meta' result old new → d ≡ device_at devices c.nsid → has_namespace devices c.nsid ≡ true → 1 ≤ c.count →
-    HasDevices devices old.standing old.units → old.units ≡ units_told old.standing image → IsStanding old.standing image → is_some old.units ≡ true → is_internal result ≡ false
+    ExchangeDone (c.nsid - 1) d c body meta body' meta' result old new → d ≡ device_at devices c.nsid → has_namespace devices c.nsid ≡ true → 1 ≤ c.count →
+    HasNamespaces devices old.standing old.units → old.units ≡ units_told old.standing image → IsStanding old.standing image → is_some old.units ≡ true → is_internal result ≡ false
 never-of devices d c body meta body' meta' result old new image r device there some has laid ready t = by old.units refl t
   where
     by : (u : Option (List Stored)) → old.units ≡ u → is_some u ≡ true → is_internal result ≡ false
@@ -101,8 +101,8 @@ pub record Clauses (devices : List DeviceInfo) (c : NvmCommand) (body meta body'
   pub calm : AnswersCalm c body meta body' meta' result old new
 
 pub all-clauses : (devices : List DeviceInfo) (d : DeviceInfo) (c : NvmCommand) (body meta body' meta' : List ℕ) (result : Completion) (old new : RigState) (image : Option (List ℕ)) →
-    Done (c.nsid - 1) d c body meta body' meta' result old new → d ≡ device_at devices c.nsid → has_namespace devices c.nsid ≡ true → 1 ≤ c.count →
-    HasDevices devices old.standing old.units → old.units ≡ units_told old.standing image → IsStanding old.standing image → Clauses devices c body meta body' meta' result old new
+    ExchangeDone (c.nsid - 1) d c body meta body' meta' result old new → d ≡ device_at devices c.nsid → has_namespace devices c.nsid ≡ true → 1 ≤ c.count →
+    HasNamespaces devices old.standing old.units → old.units ≡ units_told old.standing image → IsStanding old.standing image → Clauses devices c body meta body' meta' result old new
 all-clauses devices d c body meta body' meta' result old new image r device there some has laid ready = record {
   answered = record {
     submitted = subst (λ (x : DeviceInfo). Submitted x c old.standing body meta body' meta' result old.log new.log) device (submitted (c.nsid - 1) d c body meta body' meta' result old new refl r);

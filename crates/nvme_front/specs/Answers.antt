@@ -60,6 +60,6 @@ abbrev pub device_of : Stored → DeviceInfo
 device_of u = record { ty = u.ty; blocks = length u.blocks; size = u.size; first = u.first }
 
 -- The rig has just these devices; where it tells its blocks they are its units.
-pub record HasDevices (devices : List DeviceInfo) (s : Standing) (units : Option (List Stored)) : Type 0 where
+pub record HasNamespaces (devices : List DeviceInfo) (s : Standing) (units : Option (List Stored)) : Type 0 where
   pub count : length devices ≡ s.devices
   pub told : (us : List Stored) → units ≡ Some us → devices ≡ map device_of us

@@ -12,7 +12,7 @@ use Rattle.nvme_front.specs.declared.command.NvmCommand.{NvmCommand}
 use Rattle.nvme_front.specs.declared.completion.Completion.{Completion}
 
 -- One exchange of the translated command, and what was made of it.
-pub record Done (dev : ℕ) (d : DeviceInfo) (c : NvmCommand) (body meta body' meta' : List ℕ) (result : Completion) (old new : RigState) : Type 0 where
+pub record ExchangeDone (dev : ℕ) (d : DeviceInfo) (c : NvmCommand) (body meta body' meta' : List ℕ) (result : Completion) (old new : RigState) : Type 0 where
   pub outcome : Outcome
   pub before : List ℕ
   pub came : List ℕ

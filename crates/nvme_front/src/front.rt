@@ -6,9 +6,9 @@ ghost use Rattle.rig_api.specs.Log.{HasRoom, capacity_len};
 ghost use Rattle.rig_api.specs.Telling.{greatest_size};
 ghost use Rattle.rig_api.specs.State.{Exchanged, Stays};
 ghost use Rattle.target_answer.specs.Requests.{blocks_of};
-ghost use Rattle.nvme_front.specs.Answers.{HasDevices};
+ghost use Rattle.nvme_front.specs.Answers.{HasNamespaces};
 ghost use Rattle.nvme_front.specs.Results.{AnswersCalm, IsAnswered};
-ghost use Rattle.nvme_front.specs.Exchanges.{Done};
+ghost use Rattle.nvme_front.specs.Exchanges.{ExchangeDone};
 ghost use Rattle.nvme_front.specs.Buffers.{room_for};
 ghost use Rattle.nvme_front.specs.Commands.{HasSpan, command_in};
 ghost use Rattle.nvme_front.specs.Refusals.{body_len, device_at, has_meta, has_namespace, has_size, meta_len, refusal};
@@ -128,7 +128,7 @@ impl NvmFront {
         requires granted { refusal self.old (command_in sqe.now) ≡ None }
         requires body { length body.old ≡ body_len (device_at self.old (command_in sqe.now).nsid) (command_in sqe.now) }
         requires meta { length meta.old ≡ meta_len (device_at self.old (command_in sqe.now).nsid).ty (command_in sqe.now) }
-        requires devices { HasDevices self.old (R.state rig.old).standing (R.state rig.old).units }
+        requires devices { HasNamespaces self.old (R.state rig.old).standing (R.state rig.old).units }
         requires room { HasRoom (greatest_size (R.state rig.old).standing) 1 (command_in sqe.now).count (R.state rig.old).room }
         ensures answered { IsAnswered self.old (command_in sqe.now) body.old meta.old body.new meta.new result (R.state rig.old) (R.state rig.new) }
         ensures calm { AnswersCalm (command_in sqe.now) body.old meta.old body.new meta.new result (R.state rig.old) (R.state rig.new) }
@@ -166,7 +166,7 @@ fn run<R: Rig>(
     requires meta { length meta.old ≡ meta_len device.ty command.now }
     requires frames { length frames.old ≡ 4202496 }
     requires room { HasRoom (greatest_size (R.state rig.old).standing) 1 command.now.count (R.state rig.old).room }
-    ensures done { Done dev device command.now body.old meta.old body.new meta.new result (R.state rig.old) (R.state rig.new) }
+    ensures done { ExchangeDone dev device command.now body.old meta.old body.new meta.new result (R.state rig.old) (R.state rig.new) }
     ensures long { length frames.new ≡ length frames.old }
 {
     let size = device.size as usize;

@@ -13,7 +13,7 @@ use Rattle.rig_api.specs.Telling.{Standing, specs_of, units_told}
 use Rattle.rig_discovery.specs.Discovery.{info_of}
 use Rattle.rig_discovery.proofs.Telling.{shape_is}
 use Rattle.volume_table.specs.declared.device.DeviceInfo.{DeviceInfo}
-use Rattle.nvme_front.specs.Answers.{HasDevices, device_of}
+use Rattle.nvme_front.specs.Answers.{HasNamespaces, device_of}
 use Rattle.nvme_front.specs.Results.{IsAnswered}
 use Rattle.nvme_front.specs.declared.command.NvmCommand.{NvmCommand}
 use Rattle.nvme_front.specs.declared.completion.Completion.{Completion}
@@ -58,7 +58,7 @@ told-some : (s : Standing) (image : Option (List ℕ)) → is_some image ≡ tru
 told-some s None e = absurd (cc)
 told-some s (Some bytes) e = (units_in (specs_of s) bytes, refl)
 
-pub devices-kept : (front : List DeviceInfo) (s s' : Standing) (units units' : Option (List Stored)) (image image' : Option (List ℕ)) → HasDevices front s units → units ≡ units_told s image → units' ≡ units_told s' image' → s' ≡ s → is_some image' ≡ is_some image → HasDevices front s' units'
+pub devices-kept : (front : List DeviceInfo) (s s' : Standing) (units units' : Option (List Stored)) (image image' : Option (List ℕ)) → HasNamespaces front s units → units ≡ units_told s image → units' ≡ units_told s' image' → s' ≡ s → is_some image' ≡ is_some image → HasNamespaces front s' units'
 devices-kept front s s' units units' image image' has laid laid' same tells = record {
   count = has.count ∙ ap (λ (v : Standing). v.devices) (sym same);
   told = λ us e.

@@ -16,7 +16,7 @@ use Rattle.rig_discovery.proofs.Telling.{all_at, last_true}
 use Rattle.rig_discovery.proofs.ToldSizes.{told_size}
 use Rattle.target_answer.specs.Target.{Stored}
 use Rattle.pi_scrub.specs.Scrubbed.{HasDevices as Discovered}
-use Rattle.nvme_front.specs.Answers.{HasDevices}
+use Rattle.nvme_front.specs.Answers.{HasNamespaces}
 use Rattle.nvme_front.specs.Refusals.{has_size}
 
 good-size : (u : UnitSpec) → is_spec u ≡ true → (eqb u.size 512 || eqb u.size 4096) ≡ true
@@ -51,5 +51,5 @@ sizes-found s found old new right devices f =
     all-sizes s 0 f.answers found f.told (λ k l. ap (λ us. is_spec (slice_index_or us k no_spec)) all ∙ all_at (units_of s.head) k good (inside k l))
 
 -- the devices that were discovered are those of the front
-pub for-front : (front devices : List DeviceInfo) (s : Standing) (units : Option (List Stored)) → front ≡ devices → Discovered devices s units → HasDevices front s units
-for-front front devices s units e h = subst (λ ds. HasDevices ds s units) (sym e) (record { count = h.count; told = h.told })
+pub for-front : (front devices : List DeviceInfo) (s : Standing) (units : Option (List Stored)) → front ≡ devices → Discovered devices s units → HasNamespaces front s units
+for-front front devices s units e h = subst (λ ds. HasNamespaces ds s units) (sym e) (record { count = h.count; told = h.told })

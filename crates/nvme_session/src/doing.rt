@@ -3,7 +3,7 @@
 ghost use Rattle.std.specs.Prelude.{◌≡◌, ◌-◌, true, false, None, IfOk, OnErr, is_some, length, replicate};
 ghost use Rattle.dix_base.specs.Told.{Rose};
 ghost use Rattle.rig_api.specs.State.{Stays};
-ghost use Rattle.nvme_front.specs.Answers.{HasDevices};
+ghost use Rattle.nvme_front.specs.Answers.{HasNamespaces};
 ghost use Rattle.nvme_front.specs.Results.{IsAnswered};
 ghost use Rattle.nvme_front.specs.Commands.{command_in};
 ghost use Rattle.nvme_front.specs.Completions.{is_internal, is_of_medium};
@@ -55,7 +55,7 @@ fn do_granted<R: Rig>(
     requires granted { refusal front.old (command_in sqe.now) ≡ None }
     requires body { length body.items ≡ body_len (device_at front.old (command_in sqe.now).nsid) (command_in sqe.now) }
     requires meta { length meta.items ≡ meta_len (device_at front.old (command_in sqe.now).nsid).ty (command_in sqe.now) }
-    requires devices { HasDevices front.old (R.state rig.old).standing (R.state rig.old).units }
+    requires devices { HasNamespaces front.old (R.state rig.old).standing (R.state rig.old).units }
     ensures answered { IfOk result (λ r. IsAnswered front.old (command_in sqe.now) body.items meta.items r.body.items r.meta.items r.completion (R.state rig.old) (R.state rig.new)) }
     ensures unsent { OnErr result (R.state rig.new ≡ record (R.state rig.old) { room = (R.state rig.new).room }) }
     ensures stays { Stays (R.state rig.old) (R.state rig.new) }
@@ -82,12 +82,12 @@ pub fn do_command<R: Rig>(
     meta: &[u8],
     rig: &mut R,
 ) -> Result<NvmReply, AllocError>
-    requires devices { HasDevices front.old (R.state rig.old).standing (R.state rig.old).units }
+    requires devices { HasNamespaces front.old (R.state rig.old).standing (R.state rig.old).units }
     ensures replied { IfOk result (HasReplied front.old (command_in sqe.now) fill meta.now (R.state rig.old) (R.state rig.new)) }
     ensures never { IfOk result (λ r. is_some (R.state rig.old).units ≡ true → is_internal r.completion ≡ false) }
     ensures medium { IfOk result (λ r. is_of_medium r.completion ≡ true → Rose (R.state rig.old).faults (R.state rig.new).faults) }
     ensures unsent { OnErr result (R.state rig.new ≡ record (R.state rig.old) { room = (R.state rig.new).room }) }
-    ensures devices { HasDevices front.new (R.state rig.new).standing (R.state rig.new).units }
+    ensures devices { HasNamespaces front.new (R.state rig.new).standing (R.state rig.new).units }
     ensures stays { Stays (R.state rig.old) (R.state rig.new) }
     ensures front { front.new ≡ front.old }
 {

@@ -4,7 +4,7 @@ ghost use Rattle.std.specs.Prelude.{◌≡◌, None, IfErr, IfOk, length};
 ghost use Rattle.rig_api.specs.Head.{head_fault, units_of};
 ghost use Rattle.rig_api.specs.State.{Stays};
 ghost use Rattle.rig_discovery.specs.Discovery.{HasFound};
-ghost use Rattle.nvme_front.specs.Answers.{HasDevices};
+ghost use Rattle.nvme_front.specs.Answers.{HasNamespaces};
 ghost use Rattle.nvme_session.specs.Sessions.{CauseNoFront};
 
 use call_refusal::Refusal;
@@ -19,7 +19,7 @@ use std::alloc::Global;
 pub fn front_of<R: Rig>(alloc: Global, rig: &mut R) -> Result<NvmFront, Refusal>
     requires right { head_fault (R.state rig.old).standing.head ≡ None }
     requires devices { (R.state rig.old).standing.devices ≡ length (units_of (R.state rig.old).standing.head) }
-    ensures devices { IfOk result (λ f. HasDevices f (R.state rig.new).standing (R.state rig.new).units) }
+    ensures devices { IfOk result (λ f. HasNamespaces f (R.state rig.new).standing (R.state rig.new).units) }
     ensures found { IfOk result (λ f. HasFound (R.state rig.old).standing f (R.state rig.old).log (R.state rig.new).log) }
     ensures cause { IfErr result (λ e. CauseNoFront e (R.state rig.old).standing (R.state rig.old).units (R.state rig.old).log (R.state rig.new).log (R.state rig.old).image (R.state rig.new).image) }
     ensures units { (R.state rig.new).units ≡ (R.state rig.old).units }

@@ -15,7 +15,7 @@ use Rattle.volume_table.specs.declared.device.DeviceInfo.{DeviceInfo}
 use Rattle.block_path.specs.Senses.{is_medium_why, why_ended}
 use Rattle.whole_run.proofs.Named.{medium_is}
 use Rattle.pi_scrub.specs.Faults.{all_faults, faults_from, faults_of, listed, stored_finding}
-use Rattle.pi_scrub.specs.Looks.{AreFit, Look, Place, all_entries, all_found, all_looked, all_places, entry_of, found_at, found_by, info_at, looked_at, place_of, places, settled}
+use Rattle.pi_scrub.specs.Looks.{AreFit, Look, LookedPlace, all_entries, all_found, all_looked, all_places, entry_of, found_at, found_by, info_at, looked_at, place_of, places, settled}
 use Rattle.pi_scrub.specs.Scrubbed.{Looked, RoseBy, device_of, is_medium}
 use Rattle.pi_scrub.specs.Steps.{Did}
 use Rattle.pi_scrub.specs.declared.found.Found.{Found}
@@ -30,7 +30,7 @@ found_append (x ∷ xs) ys = ap (λ (v : List Found). found_by x ++ v) (found_ap
 
 looked_append : (xs ys : List Look) → all_looked (xs ++ ys) ≡ all_looked xs ++ all_looked ys
 looked_append [] ys = refl
-looked_append (x ∷ xs) ys = ap (λ (v : List Place). looked_at x ++ v) (looked_append xs ys) ∙ sym (append_assoc (looked_at x) (all_looked xs) (all_looked ys))
+looked_append (x ∷ xs) ys = ap (λ (v : List LookedPlace). looked_at x ++ v) (looked_append xs ys) ∙ sym (append_assoc (looked_at x) (all_looked xs) (all_looked ys))
 
 fit_append : (ds : List DeviceInfo) (xs ys : List Look) → AreFit ds xs → AreFit ds ys → AreFit ds (xs ++ ys)
 fit_append ds [] ys p q = q
@@ -39,13 +39,13 @@ fit_append ds (x ∷ xs) ys p q = (p.0, p.1, p.2, fit_append ds xs ys p.3 q)
 rose_add : (a b o m n : ℕ) → o ≤ m → m ≤ n → RoseBy a o m → RoseBy b m n → RoseBy (a + b) o n
 rose_add a b o m n p q x y = grind arith
 
-pub looked_then : (ds : List DeviceInfo) (due mid left : List Place) (a b c : List Found) (x y z : List LogEntry) (o m n : ℕ) → o ≤ m → m ≤ n → Looked ds due mid a b x y o m → Looked ds mid left b c y z m n → Looked ds due left a c x z o n
+pub looked_then : (ds : List DeviceInfo) (due mid left : List LookedPlace) (a b c : List Found) (x y z : List LogEntry) (o m n : ℕ) → o ≤ m → m ≤ n → Looked ds due mid a b x y o m → Looked ds mid left b c y z m n → Looked ds due left a c x z o n
 looked_then ds due mid left a b c x y z o m n p q u v = record {
   looks = u.looks ++ v.looks;
   fit = fit_append ds u.looks v.looks u.fit v.fit;
   log = v.log ∙ ap (λ (w : List LogEntry). w ++ all_entries v.looks) u.log ∙ append_assoc x (all_entries u.looks) (all_entries v.looks) ∙ ap (λ (w : List LogEntry). x ++ w) (sym (entries_append u.looks v.looks));
   found_is = v.found_is ∙ ap (λ (w : List Found). w ++ all_found v.looks) u.found_is ∙ append_assoc a (all_found u.looks) (all_found v.looks) ∙ ap (λ (w : List Found). a ++ w) (sym (found_append u.looks v.looks));
-  once = u.once ∙ ap (λ (w : List Place). all_looked u.looks ++ w) v.once ∙ sym (append_assoc (all_looked u.looks) (all_looked v.looks) left) ∙ ap (λ (w : List Place). w ++ left) (sym (looked_append u.looks v.looks));
+  once = u.once ∙ ap (λ (w : List LookedPlace). all_looked u.looks ++ w) v.once ∙ sym (append_assoc (all_looked u.looks) (all_looked v.looks) left) ∙ ap (λ (w : List LookedPlace). w ++ left) (sym (looked_append u.looks v.looks));
   medium =
       let e : count_by is_medium (all_found (u.looks ++ v.looks)) ≡ count_by is_medium (all_found u.looks) + count_by is_medium (all_found v.looks) =
       ap (count_by is_medium) (found_append u.looks v.looks) ∙ sum_by-append (λ t. cond (is_medium t) 1 0) (all_found u.looks) (all_found v.looks) in
@@ -53,17 +53,17 @@ looked_then ds due mid left a b c x y z o m n p q u v = record {
 }
 
 -- further blocks behind those that are due
-pub looked_wider : (ds : List DeviceInfo) (due left more : List Place) (a b : List Found) (x y : List LogEntry) (o n : ℕ) → Looked ds due left a b x y o n → Looked ds (due ++ more) (left ++ more) a b x y o n
+pub looked_wider : (ds : List DeviceInfo) (due left more : List LookedPlace) (a b : List Found) (x y : List LogEntry) (o n : ℕ) → Looked ds due left a b x y o n → Looked ds (due ++ more) (left ++ more) a b x y o n
 looked_wider ds due left more a b x y o n u = record {
   looks = u.looks;
   fit = u.fit;
   log = u.log;
   found_is = u.found_is;
-  once = ap (λ (w : List Place). w ++ more) u.once ∙ append_assoc (all_looked u.looks) left more;
+  once = ap (λ (w : List LookedPlace). w ++ more) u.once ∙ append_assoc (all_looked u.looks) left more;
   medium = u.medium;
 }
 
-pub looked_none : (ds : List DeviceInfo) (due : List Place) (a : List Found) (x : List LogEntry) (o n : ℕ) → o ≤ n → Looked ds due due a a x x o n
+pub looked_none : (ds : List DeviceInfo) (due : List LookedPlace) (a : List Found) (x : List LogEntry) (o n : ℕ) → o ≤ n → Looked ds due due a a x x o n
 looked_none ds due a x o n l = record { looks = []; fit = tt; log = sym (append-nil x); found_is = sym (append-nil a); once = refl; medium = inl (omega arith) }
 
 places_split : (dev lba a b : ℕ) → places dev lba (a + b) ≡ places dev lba a ++ places dev (lba + a) b
@@ -71,7 +71,7 @@ places_split dev lba zero b = let e : lba + 0 ≡ lba = omega arith in let f : 0
 places_split dev lba (suc a) b =
     let e : suc a + b ≡ suc (a + b) = omega arith in
     let f : lba + suc a ≡ lba + 1 + a = omega arith in
-    rw (e, f) (ap (λ (v : List Place). record { dev = dev; lba = lba } ∷ v) (places_split dev (lba + 1) a b))
+    rw (e, f) (ap (λ (v : List LookedPlace). record { dev = dev; lba = lba } ∷ v) (places_split dev (lba + 1) a b))
 
 places_of : (dev lba n : ℕ) (o : Outcome) (b : Bool) → b ≡ ltb o.done n → places dev lba (min o.done n) ++ map place_of (if b then record { dev = dev; lba = lba + o.done; why = why_ended o.sense } ∷ [] else []) ≡ places dev lba (if b then o.done + 1 else n)
 places_of dev lba n o true e =
@@ -121,7 +121,7 @@ one_look ds dev ty lba n k left a b x y units o m l p q t within d =
       fit = (p, q, t, tt);
       log = d.log;
       found_is = d.found_is ∙ ap (λ (v : List Found). a ++ v) (sym (append-nil (found_by one)));
-      once = split ∙ ap (λ (v : List Place). v ++ places dev (lba + k) (left - k)) at;
+      once = split ∙ ap (λ (v : List LookedPlace). v ++ places dev (lba + k) (left - k)) at;
       medium = rw (append-nil (found_by one)) (medium_of dev lba n o m d.outcome l d.medium);
     }
 
@@ -214,7 +214,7 @@ pub due_now : (ds : List DeviceInfo) (dev : ℕ) → dev < length ds → all_pla
 due_now ds dev l = ap (all_places dev) (drop_devices ds dev l)
 
 -- a device that was looked at whole, or in part, behind those before it
-pub next_device : (ds : List DeviceInfo) (dev : ℕ) (due left : List Place) (a b c : List Found) (x y z : List LogEntry) (o m n : ℕ) → dev < length ds → o ≤ m → m ≤ n → Looked ds due (all_places dev (drop dev ds)) a b x y o m →
+pub next_device : (ds : List DeviceInfo) (dev : ℕ) (due left : List LookedPlace) (a b c : List Found) (x y z : List LogEntry) (o m n : ℕ) → dev < length ds → o ≤ m → m ≤ n → Looked ds due (all_places dev (drop dev ds)) a b x y o m →
     Looked ds (places dev (info_at ds dev).first (info_at ds dev).blocks) left b c y z m n → Looked ds due (left ++ all_places (dev + 1) (drop (dev + 1) ds)) a c x z o n
 next_device ds dev due left a b c x y z o m n l p q u v =
     let now : Looked ds due (places dev (info_at ds dev).first (info_at ds dev).blocks ++ all_places (dev + 1) (drop (dev + 1) ds)) a b x y o m = rw (due_now ds dev l) at u in

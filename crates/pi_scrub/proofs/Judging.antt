@@ -23,7 +23,7 @@ use Rattle.rig_api.proofs.UnitLaws.{own_blocks}
 use Rattle.block_path.proofs.PathLaws.{check_named}
 use Rattle.pi_scrub.specs.Faults.{faults_from, listed, stored_finding}
 use Rattle.pi_scrub.specs.Looks.{found_at, protect_for, settled, verify_of}
-use Rattle.pi_scrub.specs.Steps.{IsWithin}
+use Rattle.pi_scrub.specs.Steps.{IsWithinUnit}
 use Rattle.pi_scrub.proofs.Joining.{settled_most}
 use Rattle.rig_discovery.proofs.Telling.{same_units}
 use Rattle.small_laws.proofs.Tests.{ltb_suc}
@@ -103,7 +103,7 @@ looked_over : (armed : List FaultLine) (u : Stored) (lba n : ℕ) (b : Bool) →
 looked_over armed u lba n true = refl
 looked_over armed u lba n false = refl
 
-answer_is : (armed : List FaultLine) (u : Stored) (lba n : ℕ) → Fits (verify_of u.ty lba n) → IsWithin u.ty lba n u → target_answer u armed (form (verify_of u.ty lba n)) [] [] 0 None
+answer_is : (armed : List FaultLine) (u : Stored) (lba n : ℕ) → Fits (verify_of u.ty lba n) → IsWithinUnit u.ty lba n u → target_answer u armed (form (verify_of u.ty lba n)) [] [] 0 None
     ≡ keeping u.blocks (whole lba (read_by (shape_of u) (untagged lba n (protect_for u.ty)) lba armed [] (stored_from u lba n)))
 unfolding target_answer
 answer_is armed u lba n f w =
@@ -112,7 +112,7 @@ answer_is armed u lba n f w =
     ∙ ap (λ (x : Option Sense). answer_unless x u (Ok (verify_of u.ty lba n)) armed [] [] None) r ∙ looked_over armed u lba n (leb (lba + n) (2 ^ 32))
 
 -- a calm look at a told unit
-unit_looked : (armed : List FaultLine) (u : Stored) (dev lba n : ℕ) (o : Outcome) → Fits (verify_of u.ty lba n) → IsWithin u.ty lba n u → o ≡ record { done = (target_answer u armed (form (verify_of u.ty lba n)) [] [] 0 None).done; sense = (target_answer u armed (form (verify_of u.ty lba n)) [] [] 0 None).sense } →
+unit_looked : (armed : List FaultLine) (u : Stored) (dev lba n : ℕ) (o : Outcome) → Fits (verify_of u.ty lba n) → IsWithinUnit u.ty lba n u → o ≡ record { done = (target_answer u armed (form (verify_of u.ty lba n)) [] [] 0 None).done; sense = (target_answer u armed (form (verify_of u.ty lba n)) [] [] 0 None).sense } →
     found_at dev lba n o ≡ faults_from u.ty u.size dev lba (take (settled n o.done) (drop (lba - u.first) u.blocks))
 unit_looked armed u dev lba n o f w e =
     let js = read_by (shape_of u) (untagged lba n (protect_for u.ty)) lba armed [] (stored_from u lba n) in
@@ -125,11 +125,11 @@ unit_looked armed u dev lba n o f w e =
     ∙ ap (faults_from u.ty u.size dev lba) (take_both (settled n (length (passed js))) n (drop (lba - u.first) u.blocks) (settled_most n (length (passed js))))
     ∙ ap (λ (v : Outcome). faults_from u.ty u.size dev lba (take (settled n v.done) (drop (lba - u.first) u.blocks))) (sym same)
 
-pub told_looked : (armed : List FaultLine) (us : List Stored) (dev lba n : ℕ) (ty : PiType) (o : Outcome) (told : Option (List Stored)) (before after : List ℕ) → Fits (verify_of ty lba n) → IsWithin ty lba n (unit_at us dev) →
+pub told_looked : (armed : List FaultLine) (us : List Stored) (dev lba n : ℕ) (ty : PiType) (o : Outcome) (told : Option (List Stored)) (before after : List ℕ) → Fits (verify_of ty lba n) → IsWithinUnit ty lba n (unit_at us dev) →
     IsAnswer (answer_of us armed dev (form (verify_of ty lba n)) [] [] 0 None) us dev o told before after → found_at dev lba n o ≡ faults_from ty (unit_at us dev).size dev lba (take (settled n o.done) (drop (lba - (unit_at us dev).first) (unit_at us dev).blocks))
 told_looked armed us dev lba n ty o told before after f w a = with_type (unit_at us dev) ty f w a.outcome
   where
-    with_type : (u : Stored) (t : PiType) → Fits (verify_of t lba n) → IsWithin t lba n u → o ≡ record { done = (target_answer u armed (form (verify_of t lba n)) [] [] 0 None).done; sense = (target_answer u armed (form (verify_of t lba n)) [] [] 0 None).sense } →
+    with_type : (u : Stored) (t : PiType) → Fits (verify_of t lba n) → IsWithinUnit t lba n u → o ≡ record { done = (target_answer u armed (form (verify_of t lba n)) [] [] 0 None).done; sense = (target_answer u armed (form (verify_of t lba n)) [] [] 0 None).sense } →
         found_at dev lba n o ≡ faults_from t u.size dev lba (take (settled n o.done) (drop (lba - u.first) u.blocks))
     with_type u t f w e =
         let P : PiType → Type 0 = λ v. (Fits (verify_of v lba n) → o ≡ record { done = (target_answer u armed (form (verify_of v lba n)) [] [] 0 None).done; sense = (target_answer u armed (form (verify_of v lba n)) [] [] 0 None).sense } →

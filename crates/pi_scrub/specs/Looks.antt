@@ -47,20 +47,20 @@ abbrev pub found_by : Look → List Found
 found_by l = found_at l.dev l.lba l.n l.outcome
 
 -- a block of a device
-pub record Place : Type 0 where
+pub record LookedPlace : Type 0 where
   pub dev : ℕ
   pub lba : ℕ
 
 -- so many blocks from this address on
-abbrev pub places : (dev lba : ℕ) → ℕ → List Place
+abbrev pub places : (dev lba : ℕ) → ℕ → List LookedPlace
 places dev lba zero = []
 places dev lba (suc n) = record { dev = dev; lba = lba } ∷ places dev (lba + 1) n
 
-abbrev pub place_of : Found → Place
+abbrev pub place_of : Found → LookedPlace
 place_of f = record { dev = f.dev; lba = f.lba }
 
 -- the blocks that it looked at: those that are done, and the one where it ended
-abbrev pub looked_at : Look → List Place
+abbrev pub looked_at : Look → List LookedPlace
 looked_at l = places l.dev l.lba (min l.outcome.done l.n) ++ map place_of (found_by l)
 
 abbrev pub all_entries : List Look → List LogEntry
@@ -71,12 +71,12 @@ abbrev pub all_found : List Look → List Found
 all_found [] = []
 all_found (l ∷ ls) = found_by l ++ all_found ls
 
-abbrev pub all_looked : List Look → List Place
+abbrev pub all_looked : List Look → List LookedPlace
 all_looked [] = []
 all_looked (l ∷ ls) = looked_at l ++ all_looked ls
 
 -- every block of the devices from this number on, by device and address
-abbrev pub all_places : ℕ → List DeviceInfo → List Place
+abbrev pub all_places : ℕ → List DeviceInfo → List LookedPlace
 all_places dev [] = []
 all_places dev (d ∷ ds) = places dev d.first d.blocks ++ all_places (dev + 1) ds
 

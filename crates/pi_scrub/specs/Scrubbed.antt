@@ -5,7 +5,7 @@ use Rattle.rig_api.specs.Telling.{Standing}
 use Rattle.rig_discovery.specs.Discovery.{Ends}
 use Rattle.volume_table.specs.declared.device.DeviceInfo.{DeviceInfo}
 use Rattle.block_path.specs.Senses.{is_medium_why}
-use Rattle.pi_scrub.specs.Looks.{AreFit, Look, Place, all_entries, all_found, all_looked}
+use Rattle.pi_scrub.specs.Looks.{AreFit, Look, LookedPlace, all_entries, all_found, all_looked}
 use Rattle.pi_scrub.specs.declared.found.Found.{Found}
 
 abbrev pub is_medium : Found → Bool
@@ -17,7 +17,7 @@ RoseBy n old new = (old + n ≤ new) ⊎ (2 ^ 64 ≤ new + 1)
 
 -- Looks were made, one record each, and what was found is what their records say: each entry has a record of its own, which ended at its block.
 -- The blocks that were to be looked at are those that these looked at, each once and in order, and then the blocks that are left. Entries of a medium are at most as many as the count of faults rose.
-pub record Looked (devices : List DeviceInfo) (due left : List Place) (found found' : List Found) (old new : List LogEntry) (f f' : ℕ) : Type 0 where
+pub record Looked (devices : List DeviceInfo) (due left : List LookedPlace) (found found' : List Found) (old new : List LogEntry) (f f' : ℕ) : Type 0 where
   pub looks : List Look
   pub fit : AreFit devices looks
   pub log : new ≡ old ++ all_entries looks

@@ -11,7 +11,7 @@ use Rattle.pi_scrub.specs.Looks.{entry_of, found_at, settled}
 use Rattle.pi_scrub.specs.declared.found.Found.{Found}
 
 -- The unit has this type, and these blocks.
-pub record IsWithin (ty : PiType) (lba n : ℕ) (u : Stored) : Type 0 where
+pub record IsWithinUnit (ty : PiType) (lba n : ℕ) (u : Stored) : Type 0 where
   pub type_is : u.ty ≡ ty
   pub above : u.first ≤ lba
   pub below : lba + n ≤ u.first + length u.blocks
@@ -19,7 +19,7 @@ pub record IsWithin (ty : PiType) (lba n : ℕ) (u : Stored) : Type 0 where
 -- What a calm look at a told unit finds are the faults among the blocks that it settles.
 abbrev pub Finds : (dev : ℕ) → PiType → (lba n : ℕ) → Outcome → Option (List Stored) → ℕ → ℕ → Type 0
 Finds dev ty lba n o units f f' =
-    (us : List Stored) → units ≡ Some us → Calm f f' → IsWithin ty lba n (unit_at us dev)
+    (us : List Stored) → units ≡ Some us → Calm f f' → IsWithinUnit ty lba n (unit_at us dev)
     → found_at dev lba n o ≡ faults_from ty (unit_at us dev).size dev lba (take (settled n o.done) (drop (lba - (unit_at us dev).first) (unit_at us dev).blocks))
 
 -- One look was made, and settled k blocks.

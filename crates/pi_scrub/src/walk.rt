@@ -6,7 +6,7 @@ ghost use Rattle.rig_api.specs.Telling.{unit_at};
 ghost use Rattle.rig_api.specs.State.{Stays};
 ghost use Rattle.target_answer.specs.Target.{Stored};
 ghost use Rattle.pi_scrub.specs.Faults.{all_faults, faults_of};
-ghost use Rattle.pi_scrub.specs.Looks.{Place, all_places, info_at, places};
+ghost use Rattle.pi_scrub.specs.Looks.{LookedPlace, all_places, info_at, places};
 ghost use Rattle.pi_scrub.specs.Scrubbed.{HasDevices, Looked};
 
 use crate::found::Found;
@@ -30,7 +30,7 @@ fn scrub_device<R: Rig>(
     requires device { dev < length devices.now }
     ensures whole { OnOk result (Looked devices.now (places dev (info_at devices.now dev).first (info_at devices.now dev).blocks) [] found.old.items found.new.items
         (R.state rig.old).log (R.state rig.new).log (R.state rig.old).faults (R.state rig.new).faults) }
-    ensures part { OnErr result ((left : List Place) × Looked devices.now (places dev (info_at devices.now dev).first (info_at devices.now dev).blocks) left found.old.items found.new.items
+    ensures part { OnErr result ((left : List LookedPlace) × Looked devices.now (places dev (info_at devices.now dev).first (info_at devices.now dev).blocks) left found.old.items found.new.items
         (R.state rig.old).log (R.state rig.new).log (R.state rig.old).faults (R.state rig.new).faults) }
     ensures told { OnOk result ((us : List Stored) → (R.state rig.old).units ≡ Some us → Calm (R.state rig.old).faults (R.state rig.new).faults
         → found.new.items ≡ found.old.items ++ faults_of dev (unit_at us dev)) }
@@ -66,7 +66,7 @@ pub fn scrub<R: Rig>(
     requires devices { HasDevices devices.now (R.state rig.old).standing (R.state rig.old).units }
     requires empty { found.old.items ≡ [] }
     ensures whole { OnOk result (Looked devices.now (all_places 0 devices.now) [] [] found.new.items (R.state rig.old).log (R.state rig.new).log (R.state rig.old).faults (R.state rig.new).faults) }
-    ensures part { OnErr result ((left : List Place) × Looked devices.now (all_places 0 devices.now) left [] found.new.items
+    ensures part { OnErr result ((left : List LookedPlace) × Looked devices.now (all_places 0 devices.now) left [] found.new.items
         (R.state rig.old).log (R.state rig.new).log (R.state rig.old).faults (R.state rig.new).faults) }
     ensures told { OnOk result ((us : List Stored) → (R.state rig.old).units ≡ Some us → Calm (R.state rig.old).faults (R.state rig.new).faults → found.new.items ≡ all_faults 0 us) }
     ensures units { (R.state rig.new).units ≡ (R.state rig.old).units }

@@ -14,19 +14,19 @@ use Rattle.range_gate.specs.declared.footprint.Reach.{Reach}
 use Rattle.range_gate.specs.declared.footprint.Touch.{Touch}
 use Rattle.range_gate.specs.declared.footprint.Footprint.{Footprint}
 use Rattle.range_gate.specs.Conflicts.{Conflict, ShareBlock, ShareByte, WritesBlock, WritesByte}
-use Rattle.range_gate.specs.Prints.{Kept, any_shared, block_shared, byte_shared, chosen, clash, is_chosen, is_same}
+use Rattle.range_gate.specs.Prints.{KeptPrint, any_shared, block_shared, byte_shared, chosen, clash, is_chosen, is_same}
 use Rattle.range_gate.specs.Gates.{conflict_at}
 use Rattle.range_gate.specs.Windows.{clashes}
 use Rattle.range_gate.specs.Layout.{AreLayoutsOf, IsLayoutOf}
 
-at_end : (ps : List Kept) (p e : Kept) → get_or (ps ++ p ∷ []) (length ps) e ≡ p
+at_end : (ps : List KeptPrint) (p e : KeptPrint) → get_or (ps ++ p ∷ []) (length ps) e ≡ p
 at_end [] p e = refl
 at_end (q ∷ ps) p e = at_end ps p e
 
 -- one more layout
-pub more : (fs : List Footprint) (ps qs : List Kept) (f : Footprint) (p : Kept) (n : ℕ) → length ps ≡ n → ((i : ℕ) (d : Footprint) (e : Kept) → i < n → IsLayoutOf (get_or fs i d) (get_or ps i e)) → n < length fs →
+pub more : (fs : List Footprint) (ps qs : List KeptPrint) (f : Footprint) (p : KeptPrint) (n : ℕ) → length ps ≡ n → ((i : ℕ) (d : Footprint) (e : KeptPrint) → i < n → IsLayoutOf (get_or fs i d) (get_or ps i e)) → n < length fs →
     f ≡ get_or fs n f → IsLayoutOf f p → qs ≡ ps ++ p ∷ [] →
-    record { count : length qs ≡ n + 1; each : (i : ℕ) (d : Footprint) (e : Kept) → i < n + 1 → IsLayoutOf (get_or fs i d) (get_or qs i e) }
+    record { count : length qs ≡ n + 1; each : (i : ℕ) (d : Footprint) (e : KeptPrint) → i < n + 1 → IsLayoutOf (get_or fs i d) (get_or qs i e) }
 more fs ps qs f p n h each l s x q = record {
   count = ap length q ∙ length-append ps (p ∷ []) ∙ omega arith;
   each = λ i d e m.
@@ -233,7 +233,7 @@ bytes_in f g h =
 
 -- ---- all of it
 
-bytes-layout : (f g : Footprint) (p q : Kept) → IsLayoutOf f p → IsLayoutOf g q → byte_shared p q ≡ Bytes f g
+bytes-layout : (f g : Footprint) (p q : KeptPrint) → IsLayoutOf f p → IsLayoutOf g q → byte_shared p q ≡ Bytes f g
 bytes-layout f g p q x y =
     let a = permuted (chosen true f.bytes) p.writes (chosen true g.bytes) q.writes x.writes y.writes in
     let b = permuted (chosen true f.bytes) p.writes (chosen false g.bytes) q.reads x.writes y.reads in
@@ -245,7 +245,7 @@ bytes-layout f g p q x y =
 abbrev Test : Footprint → Footprint → Bool
 Test f g = (f.alone || g.alone) || (block_shared f.blocks g.blocks || Bytes f g)
 
-clash-layout : (f g : Footprint) (p q : Kept) → IsLayoutOf f p → IsLayoutOf g q → clash p q ≡ Test f g
+clash-layout : (f g : Footprint) (p q : KeptPrint) → IsLayoutOf f p → IsLayoutOf g q → clash p q ≡ Test f g
 clash-layout f g p q x y =
     ap (λ z. (z || q.alone) || (block_shared p.blocks q.blocks || byte_shared p q)) x.alone
     ∙ ap (λ z. (f.alone || z) || (block_shared p.blocks q.blocks || byte_shared p q)) y.alone
@@ -270,18 +270,18 @@ test_in f g (inr (inl x)) = or_left (f.alone || g.alone) _ (or_right f.alone g.a
 test_in f g (inr (inr (inl x))) = or_right (f.alone || g.alone) _ (or_left (block_shared f.blocks g.blocks) (Bytes f g) (block_in f g x))
 test_in f g (inr (inr (inr x))) = or_right (f.alone || g.alone) _ (or_right (block_shared f.blocks g.blocks) (Bytes f g) (bytes_in f g x))
 
-pub clash_means : (f g : Footprint) (p q : Kept) → IsLayoutOf f p → IsLayoutOf g q → (clash p q ≡ true) ↔ Conflict f g
+pub clash_means : (f g : Footprint) (p q : KeptPrint) → IsLayoutOf f p → IsLayoutOf g q → (clash p q ≡ true) ↔ Conflict f g
 clash_means f g p q x y = let e = clash-layout f g p q x y in (λ h. test_out f g (sym e ∙ h), λ h. e ∙ test_in f g h)
 
-no_print : Kept
+no_print : KeptPrint
 no_print = record { alone = false; blocks = None; reads = []; writes = [] }
 
-at_both : (ps : List Kept) (i j : ℕ) → i < length ps → j < length ps → conflict_at (clashes ps) i j ≡ clash (get_or ps i no_print) (get_or ps j no_print)
+at_both : (ps : List KeptPrint) (i j : ℕ) → i < length ps → j < length ps → conflict_at (clashes ps) i j ≡ clash (get_or ps i no_print) (get_or ps j no_print)
 at_both ps i j l m =
     ap (λ row. get_or row j false) (get_or-map (λ p. map (clash p) ps) ps i no_print [] l) ∙ get_or-map (clash (get_or ps i no_print)) ps j no_print false m
 
 -- the table of a gate says which footprints conflict
-pub conflicts : (fs : List Footprint) (ps : List Kept) → AreLayoutsOf fs ps → (i j : ℕ) (d : Footprint) → i < length fs → j < length fs → (conflict_at (clashes ps) i j ≡ true) ↔ Conflict (get_or fs i d) (get_or fs j d)
+pub conflicts : (fs : List Footprint) (ps : List KeptPrint) → AreLayoutsOf fs ps → (i j : ℕ) (d : Footprint) → i < length fs → j < length fs → (conflict_at (clashes ps) i j ≡ true) ↔ Conflict (get_or fs i d) (get_or fs j d)
 conflicts fs ps a i j d l m =
     let n = a.count in
     let e = at_both ps i j (omega arith) (omega arith) in

@@ -6,7 +6,7 @@ use Rattle.page_pool.specs.Places.{shares}
 use Rattle.range_gate.specs.declared.footprint.Reach.{Reach}
 use Rattle.range_gate.specs.declared.footprint.Touch.{Touch}
 
-pub record Kept : Type 0 where
+pub record KeptPrint : Type 0 where
   pub alone : Bool
   pub blocks : Option Reach
   pub reads : List Seg
@@ -22,10 +22,10 @@ block_shared None q = false
 block_shared (Some r) None = false
 block_shared (Some r) (Some s) = (r.writes || s.writes) && nat_lt (max r.first s.first) (min (r.first + r.count) (s.first + s.count))
 
-abbrev pub byte_shared : Kept → Kept → Bool
+abbrev pub byte_shared : KeptPrint → KeptPrint → Bool
 byte_shared p q = any_shared p.writes q.writes || (any_shared p.writes q.reads || any_shared p.reads q.writes)
 
-abbrev pub clash : Kept → Kept → Bool
+abbrev pub clash : KeptPrint → KeptPrint → Bool
 clash p q = (p.alone || q.alone) || (block_shared p.blocks q.blocks || byte_shared p q)
 
 abbrev pub is_same : Bool → Bool → Bool

@@ -21,9 +21,9 @@ pub(crate) struct Print {
 }
 
 impl Model for Print {
-    ghost use Rattle.range_gate.specs.Prints.{Kept, Rises};
+    ghost use Rattle.range_gate.specs.Prints.{KeptPrint, Rises};
 
-    ghost Value = { Kept };
+    ghost Value = { KeptPrint };
 
     ghost view = { λ p. record { alone = p.alone; blocks = p.blocks; reads = p.reads.items; writes = p.writes.items } };
 

@@ -43,7 +43,7 @@ use Rattle.integrity_payload.specs.declared.payload.Owner.{Owner}
 use Rattle.whole_run.specs.ReadsAs.{ReadsRightly, read_op}
 use Rattle.run_laws.specs.ShownRun.{DevicesAreClean, IsShownRun}
 use Rattle.run_premises.specs.Forms.{escapes_none}
-use Rattle.script_premises.specs.FormedScript.{IsBoundTo, IsFormedScript}
+use Rattle.script_premises.specs.FormedScript.{IsFormedOver, IsFormedScript}
 use Rattle.whole_run.specs.Detectable.{detectable}
 use Rattle.whole_run.specs.Past.{steps_from}
 use Rattle.run_command.specs.Followed.{AllReadRightly, Followed, HasPlain, HasReadRightly, OnAnyRig, RunReadsRightly}
@@ -202,7 +202,7 @@ quiet_ends s t us left pool log replies none silent h =
 
 -- the laws of a script's form
 abbrev pub FormLaw : Type 0
-FormLaw = (s : Script) (t : Table) (us : List Stored) → IsBoundTo s t us → IsFormedScript s t us → detectable (setting_told s t us) (steps_from (setting_told s t us) 1 s.ops) (opening_told s us) ≡ true
+FormLaw = (s : Script) (t : Table) (us : List Stored) → IsFormedOver s t us → IsFormedScript s t us → detectable (setting_told s t us) (steps_from (setting_told s t us) 1 s.ops) (opening_told s us) ≡ true
 
 abbrev pub EscapeLaw : Type 0
 EscapeLaw = (s : Script) (t : Table) (us : List Stored) → escapes_none s.ops ≡ true → NoEscape (setting_told s t us) 1 s.ops (opening_told s us)

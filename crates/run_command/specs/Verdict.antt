@@ -13,7 +13,7 @@ use Rattle.script_text.specs.Language.{script_in}
 use Rattle.script_text.specs.declared.fault.ScriptFault.{ScriptFault}
 use Rattle.script_text.specs.declared.script.Script.{Script}
 use Rattle.run_follows.specs.Requests.{pages_from, requests_from}
-use Rattle.stack_core.specs.Stacks.{IsFinished, IsStack, Stays, plan_in}
+use Rattle.stack_core.specs.Stacks.{IsFinished, IsStack, StackStays, plan_in}
 use Rattle.stack_core.specs.declared.stack.Stack.{Stack}
 use Rattle.stack_steps.specs.Does.{Holds}
 use Rattle.stack_view.specs.View.{start}
@@ -114,7 +114,7 @@ pub record IsBegun (script : Script) (table : Table) (s : Stack) : Type 0 where
 -- All ops of the stack have ended, and what no step changes is as it was.
 pub record IsEnded (begun s : Stack) : Type 0 where
   pub stack : IsStack s
-  pub stays : Stays begun s
+  pub stays : StackStays begun s
   pub ended : IsFinished s
 
 -- The image was opened, its devices told what they are, the script is bound to its volume, and the stack of its ops was run to its end.

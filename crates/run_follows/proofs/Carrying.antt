@@ -19,7 +19,7 @@ use Rattle.run_laws.specs.Records.{Mixed, is_out, put_frame, put_sent, writes_at
 use Rattle.run_laws.specs.BoundRun.{fates, rooms}
 use Rattle.run_laws.specs.ScriptMoves.{by_moves, lands_in, own_at}
 use Rattle.run_follows.specs.Following.{Becomes, Follows, sents_so_far}
-use Rattle.run_follows.specs.Gate.{MayMove, Spot, number, ops_of, parts_at, place}
+use Rattle.run_follows.specs.Gate.{MayMove, BlockSpot, number, ops_of, parts_at, place}
 use Rattle.run_follows.specs.Slots.{Carried, Cut, Status, before_carrying, parts_of, write_parts}
 use Rattle.run_follows.proofs.Runs.{Done, sents_after, sents_before, sents_both}
 use Rattle.run_follows.proofs.Standing.{BlockTurns}
@@ -125,7 +125,7 @@ one_sent : (here : List ActAnswer) (t : ActAnswer) (c : ℕ) → length here ≡
 one_sent here t c l e =
     sents_both here (t ∷ []) ∙ ap (λ q. q ++ put_sent t.sent []) (e ∙ ap (λ (r : ActAnswer). put_sent r.sent []) (get_nothing here c l)) ∙ ap (λ (r : ActAnswer). put_sent r.sent []) (sym (get_last here t c l))
 
-pub carried : (m : Setting) (n : ℕ) (s : Spot) (opening now : State) (old new : ℕ → ℕ → Status) (es : List Sent) → let a = (parts_at m n s).carrying in
+pub carried : (m : Setting) (n : ℕ) (s : BlockSpot) (opening now : State) (old new : ℕ → ℕ → Status) (es : List Sent) → let a = (parts_at m n s).carrying in
     MayMove m n old s → HasLog m (length opening.logs) s.step → old (number s) (place s) ≡ Cut → Becomes (number s) (place s) (Carried (tell a now).why) old new →
     Follows m n (ops_of s) opening old now es → Follows m n (ops_of s) opening new (act a now) (es ++ put_sent (tell a now).sent [])
 carried m n s opening now old new es may has e becomes h =

@@ -20,7 +20,7 @@ use Rattle.dix_adapter.proofs.Blocks.{length-blocks}
 use Rattle.merge_queue.specs.Chains.{no_bio}
 use Rattle.merge_queue.specs.Groups.{size}
 use Rattle.merge_queue.proofs.Moves.{size-append}
-use Rattle.run_follows.specs.Settled.{AllSettled, BioSettled, Blanked, Judged, Kept, LeftBy, MappedBack, OneSettled, Settled, TupleBlanked}
+use Rattle.run_follows.specs.Settled.{AllSettled, BioSettled, Blanked, Judged, KeptFates, LeftBy, MappedBack, OneSettled, Settled, TupleBlanked}
 use Rattle.run_follows.specs.Settling.{AreFates, blocks_before}
 use Rattle.run_follows.specs.Sheets.{io_at}
 use Rattle.run_follows.proofs.Counts.{blocks-more}
@@ -68,14 +68,14 @@ keeps_settled WriteDir mode ty io k lba fate old new result h = keeps_back io.pi
 
 -- ---- one after another
 
-abbrev pub Each : Mode → PiType → List Io → (starts : List ℕ) → List Block → List Fate → (old new : Kept) → Type 0
+abbrev pub Each : Mode → PiType → List Io → (starts : List ℕ) → List Block → List Fate → (old new : KeptFates) → Type 0
 Each mode ty ios starts [] fs old new = new ≡ old
 Each mode ty ios starts (b ∷ bs) [] old new = ⊥
 Each mode ty ios starts (b ∷ bs) (f ∷ fs) old new =
-    (mid : Kept) × (OneSettled mode ty (io_at ios (b.op - 1)) (get_or starts (b.op - 1) 0) b.k b.lba f old mid × Each mode ty ios starts bs fs mid new)
+    (mid : KeptFates) × (OneSettled mode ty (io_at ios (b.op - 1)) (get_or starts (b.op - 1) 0) b.k b.lba f old mid × Each mode ty ios starts bs fs mid new)
 
 module _ (mode : Mode) (ty : PiType) (ios : List Io) (starts : List ℕ) where
-  each_join : (bs cs : List Block) (fs gs : List Fate) (old mid new : Kept) → length fs ≡ length bs → Each mode ty ios starts bs fs old mid → Each mode ty ios starts cs gs mid new → Each mode ty ios starts (bs ++ cs) (fs ++ gs) old new
+  each_join : (bs cs : List Block) (fs gs : List Fate) (old mid new : KeptFates) → length fs ≡ length bs → Each mode ty ios starts bs fs old mid → Each mode ty ios starts cs gs mid new → Each mode ty ios starts (bs ++ cs) (fs ++ gs) old new
   each_join [] cs [] gs old mid new l a b = subst (λ k. Each mode ty ios starts cs gs k new) a b
   each_join [] cs (f ∷ fs) gs old mid new l a b = absurd (omega arith)
   each_join (x ∷ bs) cs [] gs old mid new l a b = absurd a
@@ -109,7 +109,7 @@ module _ (mode : Mode) (ty : PiType) (ios : List Io) (starts : List ℕ) where
   fates_long (f ∷ fates) zero (suc n) h = ap suc (fates_long fates 0 n (omega arith))
   fates_long (f ∷ fates) (suc at) n h = fates_long fates at n (omega arith)
 
-  bio_each : (bio : Bio) (fates : List Fate) (at n : ℕ) (old new : Kept) → at + n ≤ length fates → BioSettled mode ty (io_at ios (bio.op - 1)) (get_or starts (bio.op - 1) 0) bio fates at n old new →
+  bio_each : (bio : Bio) (fates : List Fate) (at n : ℕ) (old new : KeptFates) → at + n ≤ length fates → BioSettled mode ty (io_at ios (bio.op - 1)) (get_or starts (bio.op - 1) 0) bio fates at n old new →
       Each mode ty ios starts (blocks_from bio.op bio.k bio.dev bio.lba bio.dir n) (take n (drop at fates)) old new
   bio_each bio fates at zero old new h s = s
   bio_each bio fates at (suc n) old new h s =
@@ -141,7 +141,7 @@ module _ (mode : Mode) (ty : PiType) (ios : List Io) (starts : List ℕ) where
   take_both [] (suc a) b h = absurd (omega arith)
   take_both (f ∷ fates) (suc a) b h = let z : suc a + b ≡ suc (a + b) = omega arith in rw z (ap (λ l. f ∷ l) (take_both fates a b (omega arith)))
 
-  bios_each : (bios : List Bio) (fates : List Fate) (n : ℕ) (old new : Kept) → n ≤ length bios → size bios ≡ length fates → AllSettled mode ty ios starts bios fates n old new →
+  bios_each : (bios : List Bio) (fates : List Fate) (n : ℕ) (old new : KeptFates) → n ≤ length bios → size bios ≡ length fates → AllSettled mode ty ios starts bios fates n old new →
       Each mode ty ios starts (blocks_in (take n bios)) (take (size (take n bios)) fates) old new
   bios_each bios fates zero old new h l s = s
   bios_each bios fates (suc n) old new h l s =
@@ -157,7 +157,7 @@ module _ (mode : Mode) (ty : PiType) (ios : List Io) (starts : List ℕ) where
       (each_join (blocks_in (take n bios)) (blocks_of bio) (take (size (take n bios)) fates) (take bio.count (drop (size (take n bios)) fates)) old s.0 new (omega arith) (bios_each bios fates n old s.0 (omega arith) l s.1)
       (bio_each bio fates (size (take n bios)) bio.count s.0 new (omega arith) s.2))
 
-  pub all_each : (bios : List Bio) (fates : List Fate) (old new : Kept) → size bios ≡ length fates → AllSettled mode ty ios starts bios fates (length bios) old new → Each mode ty ios starts (blocks_in bios) fates old new
+  pub all_each : (bios : List Bio) (fates : List Fate) (old new : KeptFates) → size bios ≡ length fates → AllSettled mode ty ios starts bios fates (length bios) old new → Each mode ty ios starts (blocks_in bios) fates old new
   all_each bios fates old new l s =
       let e = bios_each bios fates (length bios) old new (omega arith) l s in
       let t = take_whole bios in

@@ -18,7 +18,7 @@ use Rattle.run_laws.specs.ScriptMoves.{all_moves, answers_from, blocks_from, blo
 use Rattle.run_laws.proofs.Ordered.{once_done}
 use Rattle.run_follows.specs.Finished.{AllEnded, EndsAsWalk, HasEnded, HaveEnded, answer_of, answers_of, replies_of}
 use Rattle.run_follows.specs.Following.{AllStand, Follows, StandFrom, sents_so_far}
-use Rattle.run_follows.specs.Slots.{Done as AllDone, Parts, Settled, Status, Tells, before_carrying, done_by, moves_in, parts_of, write_parts}
+use Rattle.run_follows.specs.Slots.{Done as AllDone, StepParts, Settled, Status, Tells, before_carrying, done_by, moves_in, parts_of, write_parts}
 use Rattle.run_follows.proofs.Runs.{Done, all_both, far_whole, sents_all, sents_both}
 use Rattle.run_follows.proofs.Standing.{moves_length, parts_are}
 
@@ -76,7 +76,7 @@ step_same (WritesPi b frame) status carried joined h t = settled_same status car
 step_same (Reads b owner to) status carried joined h t = settled_same status carried joined h t
 step_same (Alters dev lba change) status carried joined h t = tt
 
-all_moved : (p : Parts) (step : Step) (status : Status) (n : ℕ) → HasEnded step status → n ≡ done_by p status → n ≡ length (moves_in p)
+all_moved : (p : StepParts) (step : Step) (status : Status) (n : ℕ) → HasEnded step status → n ≡ done_by p status → n ≡ length (moves_in p)
 all_moved p (Sets at values) status n h e = e ∙ ap (done_by p) h.1 ∙ sym (moves_length p)
 all_moved p (Shows at) status n h e = e ∙ ap (done_by p) h.1 ∙ sym (moves_length p)
 all_moved p (Seals body tuple app rtag) status n h e = e ∙ ap (done_by p) h.1 ∙ sym (moves_length p)

@@ -32,7 +32,7 @@ use Rattle.dix_adapter.specs.Carried.{frame_sent, is_bad, sends}
 use Rattle.run_follows.specs.OnRecord.{put_each}
 use Rattle.run_follows.specs.Finished.{replies_of}
 use Rattle.run_follows.specs.Following.{Follows}
-use Rattle.run_follows.specs.Gate.{BecomesDone, MayMove, Spot, ops_of, parts_at}
+use Rattle.run_follows.specs.Gate.{BecomesDone, MayMove, BlockSpot, ops_of, parts_at}
 use Rattle.run_follows.specs.Pieces.{all_cut, all_made}
 use Rattle.run_follows.specs.Sending.{AllGoOut, IsGoing, SentOut, with_status}
 use Rattle.run_follows.specs.Slots.{Admitted, Carried, Cut, Done, Settled, Status, Waits}
@@ -57,7 +57,7 @@ write = Write 0 1 (seg 0 4) 0x1234
 abbrev put : Op
 put = Put 0 600 (1 ∷ 2 ∷ [])
 
-abbrev spot : Spot
+abbrev spot : BlockSpot
 spot = record { front = []; op = write; behind = put ∷ []; before = []; step = Writes (block_of 1 0 0) 0x1234 (body_of 4 (seg 0 4) 0); after = [] }
 
 abbrev ops : List Op

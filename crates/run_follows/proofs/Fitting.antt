@@ -18,7 +18,7 @@ use Rattle.run_laws.specs.Records.{came_of, find, is_labelled, recorded, stamped
 use Rattle.run_laws.specs.ToldRun.{came_in}
 use Rattle.dix_adapter.specs.declared.adapter.Adapter.{Adapter}
 use Rattle.dix_adapter.specs.Carried.{any_bad, frame_len, frame_sent, sends}
-use Rattle.dix_adapter.specs.Groups.{IsGroup, IsProtect, blocks_in, first_of, label_of, size}
+use Rattle.dix_adapter.specs.Groups.{IsCarriedGroup, IsProtect, blocks_in, first_of, label_of, size}
 use Rattle.dix_adapter.specs.Outcomes.{done_of}
 use Rattle.dix_adapter.specs.Ways.{RecordedIn, RecordedOut}
 use Rattle.dix_adapter.proofs.Landing.{group-width}
@@ -60,7 +60,7 @@ came_fit w [] true why h = (tt, tt)
 came_fit w [] false why h = tt
 came_fit w (f ∷ frames) c why h = (h.0, came_fit w frames c why h.1)
 
-module _ (m : Setting) (a : Adapter) (ios : List Io) (req : List Bio) (pool : List (List ℕ)) (protect : IsProtect a.protect) (g : IsGroup a pool m.size ios req) where
+module _ (m : Setting) (a : Adapter) (ios : List Io) (req : List Bio) (pool : List (List ℕ)) (protect : IsProtect a.protect) (g : IsCarriedGroup a pool m.size ios req) where
   put_fits : (cames : List (Result (List ℕ) Why)) (w : ℕ) (es : List Sent) → ((b : ScriptBlock) → wire_size (route m b) ≡ w) → AllFit w cames → FramesFit m es → FramesFit m (put_each m.site (blocks_in req) cames es)
   put_fits cames w es wide f fit = λ b. subst (λ k. Fits k (came_in (find (route m b).label (put_each m.site (blocks_in req) cames es)))) (sym (wide b))
       (fit_put m.site w (route m b).label (blocks_in req) cames es f (subst (λ k. Fits k (came_in (find (route m b).label es))) (wide b) (fit b)))

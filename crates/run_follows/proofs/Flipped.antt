@@ -24,7 +24,7 @@ use Rattle.run_laws.specs.BoundRun.{AllBound, IsBound, IsBoundRun, fates, rooms}
 use Rattle.run_laws.specs.OpsApart.{IsPlaced, IsSpread, OpsConflict, is_shifted}
 use Rattle.run_laws.specs.ScriptMoves.{fates_of, own_at, room_of}
 use Rattle.dix_adapter.specs.declared.adapter.Adapter.{Adapter}
-use Rattle.run_follows.specs.Gate.{AllPlaced, AreOver, LetsIn, MayMove, Spot, number, ops_of, parts_at, place}
+use Rattle.run_follows.specs.Gate.{AllPlaced, AreOver, LetsIn, MayMove, BlockSpot, number, ops_of, parts_at, place}
 use Rattle.run_follows.specs.Pieces.{AllMayMove, IsNoneOf, all_cut, all_made, with_all}
 use Rattle.run_follows.specs.Sending.{AllGoing, carriage_of, with_status}
 use Rattle.run_follows.specs.Slots.{Status, parts_of}
@@ -131,16 +131,16 @@ spread_flip m i o op h = by (flipped o op) where
   by (inr x) = absurd (subst (IsSpread m i) x.was h)
 
 -- a block of a script, where some ops flip
-abbrev pub flip_spot : Flips → Spot → Spot
+abbrev pub flip_spot : Flips → BlockSpot → BlockSpot
 flip_spot flips s = record { front = with_flips flips 1 s.front; op = flip_op (flips (number s)) s.op; behind = with_flips flips (suc (number s)) s.behind; before = s.before; step = s.step; after = s.after }
 
-pub number_flip : (flips : Flips) (s : Spot) → number (flip_spot flips s) ≡ number s
+pub number_flip : (flips : Flips) (s : BlockSpot) → number (flip_spot flips s) ≡ number s
 number_flip flips s = ap suc (long_flips flips 1 s.front)
 
-pub ops_flip : (flips : Flips) (s : Spot) → ops_of (flip_spot flips s) ≡ with_flips flips 1 (ops_of s)
+pub ops_flip : (flips : Flips) (s : BlockSpot) → ops_of (flip_spot flips s) ≡ with_flips flips 1 (ops_of s)
 ops_flip flips s = sym (split_flips flips 1 (number s) s.front s.op s.behind (let e : suc (length s.front) ≡ 1 + length s.front = omega arith in e))
 
-pub may_flip : (m : Setting) (n : ℕ) (flips : Flips) (status : ℕ → ℕ → Status) (s : Spot) → MayMove m n status s → MayMove m n status (flip_spot flips s)
+pub may_flip : (m : Setting) (n : ℕ) (flips : Flips) (status : ℕ → ℕ → Status) (s : BlockSpot) → MayMove m n status s → MayMove m n status (flip_spot flips s)
 may_flip m n flips status s h =
     let o = flips (number s) in
     let same = spread_flip m (number s) o s.op h.spread in
@@ -154,11 +154,11 @@ may_flip m n flips status s h =
       lets = subst (λ j. LetsIn m status 1 (with_flips flips 1 s.front) j (flip_op o s.op)) e (lets_flip m status flips 1 s.front (number s) o s.op h.lets);
     }
 
-none_flip : (flips : Flips) (s : Spot) (spots : List Spot) → IsNoneOf s spots → IsNoneOf (flip_spot flips s) (map (flip_spot flips) spots)
+none_flip : (flips : Flips) (s : BlockSpot) (spots : List BlockSpot) → IsNoneOf s spots → IsNoneOf (flip_spot flips s) (map (flip_spot flips) spots)
 none_flip flips s [] h = tt
 none_flip flips s (t ∷ spots) h = ((λ p q. h.0 (sym (number_flip flips t) ∙ (p ∙ number_flip flips s)) q), none_flip flips s spots h.1)
 
-pub all_may_flip : (m : Setting) (n : ℕ) (flips : Flips) (ops : List Op) (status : ℕ → ℕ → Status) (was : Status) (spots : List Spot) → AllMayMove m n ops status was spots → AllMayMove m n (with_flips flips 1 ops) status was (map (flip_spot flips) spots)
+pub all_may_flip : (m : Setting) (n : ℕ) (flips : Flips) (ops : List Op) (status : ℕ → ℕ → Status) (was : Status) (spots : List BlockSpot) → AllMayMove m n ops status was spots → AllMayMove m n (with_flips flips 1 ops) status was (map (flip_spot flips) spots)
 all_may_flip m n flips ops status was [] h = tt
 all_may_flip m n flips ops status was (s ∷ spots) h = (
   ops_flip flips s ∙ ap (with_flips flips 1) h.0,
@@ -168,25 +168,25 @@ all_may_flip m n flips ops status was (s ∷ spots) h = (
   ),
 )
 
-pub with_all_flip : (flips : Flips) (next : Status) (spots : List Spot) (status : ℕ → ℕ → Status) → with_all (map (flip_spot flips) spots) next status ≡ with_all spots next status
+pub with_all_flip : (flips : Flips) (next : Status) (spots : List BlockSpot) (status : ℕ → ℕ → Status) → with_all (map (flip_spot flips) spots) next status ≡ with_all spots next status
 with_all_flip flips next [] status = refl
 with_all_flip flips next (s ∷ spots) status =
     ap (λ j. with_all (map (flip_spot flips) spots) next (with_status j (place s) next status)) (number_flip flips s) ∙ with_all_flip flips next spots (with_status (number s) (place s) next status)
 
-pub parts_flip : (m : Setting) (n : ℕ) (flips : Flips) (s : Spot) → parts_at m n (flip_spot flips s) ≡ parts_at m n s
+pub parts_flip : (m : Setting) (n : ℕ) (flips : Flips) (s : BlockSpot) → parts_at m n (flip_spot flips s) ≡ parts_at m n s
 parts_flip m n flips s =
     ap (λ r. parts_of m (own_at (n + r) (place s)) (fates (with_flips flips 1 s.front) + place s) s.step) (rooms_flip m flips 1 s.front)
     ∙ ap (λ f. parts_of m (own_at (n + rooms m s.front) (place s)) (f + place s) s.step) (fates_flip flips 1 s.front)
 
-pub made_flip : (m : Setting) (n : ℕ) (flips : Flips) (spots : List Spot) → all_made m n (map (flip_spot flips) spots) ≡ all_made m n spots
+pub made_flip : (m : Setting) (n : ℕ) (flips : Flips) (spots : List BlockSpot) → all_made m n (map (flip_spot flips) spots) ≡ all_made m n spots
 made_flip m n flips [] = refl
 made_flip m n flips (s ∷ spots) = ap (λ p. p.made ++ all_made m n (map (flip_spot flips) spots)) (parts_flip m n flips s) ∙ ap (λ (xs : List (Act ActAnswer)). (parts_at m n s).made ++ xs) (made_flip m n flips spots)
 
-pub cut_flip : (m : Setting) (n : ℕ) (flips : Flips) (spots : List Spot) → all_cut m n (map (flip_spot flips) spots) ≡ all_cut m n spots
+pub cut_flip : (m : Setting) (n : ℕ) (flips : Flips) (spots : List BlockSpot) → all_cut m n (map (flip_spot flips) spots) ≡ all_cut m n spots
 cut_flip m n flips [] = refl
 cut_flip m n flips (s ∷ spots) = ap (λ p. p.cut ++ all_cut m n (map (flip_spot flips) spots)) (parts_flip m n flips s) ∙ ap (λ (xs : List (Act ActAnswer)). (parts_at m n s).cut ++ xs) (cut_flip m n flips spots)
 
-pub going_flip : (m : Setting) (n : ℕ) (flips : Flips) (ops : List Op) (a : Adapter) (ios : List Io) (logs : ℕ) (status : ℕ → ℕ → Status) (bs : List Block) (spots : List Spot) → AllGoing m n ops a ios logs status bs spots →
+pub going_flip : (m : Setting) (n : ℕ) (flips : Flips) (ops : List Op) (a : Adapter) (ios : List Io) (logs : ℕ) (status : ℕ → ℕ → Status) (bs : List Block) (spots : List BlockSpot) → AllGoing m n ops a ios logs status bs spots →
     AllGoing m n (with_flips flips 1 ops) a ios logs status bs (map (flip_spot flips) spots)
 going_flip m n flips ops a ios logs status [] spots h = tt
 going_flip m n flips ops a ios logs status (b ∷ bs) [] h = absurd h

@@ -25,9 +25,9 @@ use Rattle.run_laws.specs.OpsApart.{IsPlaced, OneCellEach}
 use Rattle.run_laws.proofs.BlocksApart.{still_apart}
 use Rattle.run_follows.specs.Finished.{EndsAsWalk}
 use Rattle.run_follows.specs.Following.{Becomes, Follows}
-use Rattle.run_follows.specs.Gate.{BecomesDone, MayMove, Spot, ops_of, parts_at}
+use Rattle.run_follows.specs.Gate.{BecomesDone, MayMove, BlockSpot, ops_of, parts_at}
 use Rattle.run_follows.specs.Sending.{with_status}
-use Rattle.run_follows.specs.Slots.{Admitted, Carried, Cut, Done, Parts, Settled, Status, Waits}
+use Rattle.run_follows.specs.Slots.{Admitted, Carried, Cut, Done, StepParts, Settled, Status, Waits}
 use Rattle.run_follows.proofs.Begins.{begin_all}
 use Rattle.run_follows.proofs.Carrying.{carried}
 use Rattle.run_follows.proofs.Ends.{ends_as_walk}
@@ -51,7 +51,7 @@ write = Write 0 1 (seg 0 4) 0x1234
 abbrev put : Op
 put = Put 0 600 (1 ∷ 2 ∷ [])
 
-abbrev spot : Spot
+abbrev spot : BlockSpot
 spot = record { front = []; op = write; behind = put ∷ []; before = []; step = Writes (block_of 1 0 0) 0x1234 (body_of 4 (seg 0 4) 0); after = [] }
 
 -- one private page behind the script's
@@ -91,7 +91,7 @@ may_move status = record { one = one_cell_each; placed = tt; mine = write_placed
 pub becomes : (next : Status) (old : ℕ → ℕ → Status) → Becomes 1 0 next old (with_status 1 0 next old)
 becomes next old = record { here = with_here 1 0 1 0 next old refl refl; elsewhere = λ j l h. with_other 1 0 j l next old h }
 
-abbrev p : Parts
+abbrev p : StepParts
 p = parts_at m 1100 spot
 
 abbrev own : List ℕ

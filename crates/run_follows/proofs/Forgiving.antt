@@ -15,7 +15,7 @@ use Rattle.run_laws.specs.Records.{is_out}
 use Rattle.run_laws.specs.OpsApart.{OpsConflict}
 use Rattle.dix_adapter.specs.declared.adapter.Adapter.{Adapter}
 use Rattle.dix_adapter.specs.Groups.{label_of}
-use Rattle.run_follows.specs.Gate.{AreOver, LetsIn, MayMove, Spot, is_over, number}
+use Rattle.run_follows.specs.Gate.{AreOver, LetsIn, MayMove, BlockSpot, is_over, number}
 use Rattle.run_follows.specs.Sending.{AllGoing, Carriage, IsElsewhere, IsGoing, carriage_of, is_carried}
 use Rattle.run_follows.specs.Slots.{Admitted, Carried, Cut, Done, Settled, Status, Waits}
 use Rattle.run_follows.specs.Falls.{Falls, forgive, forgiven, is_write, left_of, writes_of}
@@ -56,7 +56,7 @@ still_lets m old new i (x ∷ ops) j op e h = (by h.0, still_lets m old new (suc
   by (inl over) = inl (still_all_over 0 (steps_of m i x) (old i) (new i) (e i) over)
   by (inr apart) = inr apart
 
-pub still_may : (m : Setting) (n : ℕ) (ops : List Op) (falls : Falls) (status : ℕ → ℕ → Status) (s : Spot) → MayMove m n status s → MayMove m n (forgiven ops falls status) s
+pub still_may : (m : Setting) (n : ℕ) (ops : List Op) (falls : Falls) (status : ℕ → ℕ → Status) (s : BlockSpot) → MayMove m n status s → MayMove m n (forgiven ops falls status) s
 still_may m n ops falls status s h = record {
   one = h.one;
   placed = h.placed;
@@ -66,7 +66,7 @@ still_may m n ops falls status s h = record {
   lets = still_lets m status (forgiven ops falls status) 1 s.front (number s) s.op (λ i l. still_over (left_of ops falls i l) (status i l)) h.lets;
 }
 
-pub still_going : (m : Setting) (n : ℕ) (script ops : List Op) (a : Adapter) (ios : List Io) (logs : ℕ) (falls : Falls) (status : ℕ → ℕ → Status) (bs : List Block) (spots : List Spot) →
+pub still_going : (m : Setting) (n : ℕ) (script ops : List Op) (a : Adapter) (ios : List Io) (logs : ℕ) (falls : Falls) (status : ℕ → ℕ → Status) (bs : List Block) (spots : List BlockSpot) →
     AllGoing m n ops a ios logs status bs spots → AllGoing m n ops a ios logs (forgiven script falls status) bs spots
 still_going m n script ops a ios logs falls status [] spots h = tt
 still_going m n script ops a ios logs falls status (b ∷ bs) [] h = absurd h
@@ -140,7 +140,7 @@ pub op_there : (front : List Op) (op : Op) (behind : List Op) → get_or (front 
 op_there [] op behind = refl
 op_there (x ∷ front) op behind = op_there front op behind
 
-pub out_is : (m : Setting) (n : ℕ) (ops : List Op) (a : Adapter) (ios : List Io) (logs : ℕ) (status : ℕ → ℕ → Status) (b : Block) (s : Spot) → IsGoing m n ops a ios logs status b s → writes_of ops b.op ≡ is_out b.dir
+pub out_is : (m : Setting) (n : ℕ) (ops : List Op) (a : Adapter) (ios : List Io) (logs : ℕ) (status : ℕ → ℕ → Status) (b : Block) (s : BlockSpot) → IsGoing m n ops a ios logs status b s → writes_of ops b.op ≡ is_out b.dir
 out_is m n ops a ios logs status b s g =
     ap (writes_of ops) (sym g.number) ∙ ap (λ o. writes_of o (number s)) (sym g.script) ∙ ap is_write (op_there s.front s.op s.behind)
     ∙ of_carriage m _ (is_write s.op) s.step _ (of_midst (is_write s.op) s.before s.step s.after (subst (AllOf (is_write s.op)) g.may.steps (op_of m (number s) s.op))) g.carriage
@@ -159,7 +159,7 @@ abbrev pub AllDir : Dir → List Block → Type 0
 AllDir dir [] = Unit {0}
 AllDir dir (b ∷ bs) = (b.dir ≡ dir) × AllDir dir bs
 
-pub are_fresh : (m : Setting) (n : ℕ) (ops : List Op) (a : Adapter) (ios : List Io) (logs : ℕ) (falls : Falls) (status : ℕ → ℕ → Status) (dir : Dir) (bs : List Block) (spots : List Spot) →
+pub are_fresh : (m : Setting) (n : ℕ) (ops : List Op) (a : Adapter) (ios : List Io) (logs : ℕ) (falls : Falls) (status : ℕ → ℕ → Status) (dir : Dir) (bs : List Block) (spots : List BlockSpot) →
     AllFallen falls status → AllDir dir bs → AllGoing m n ops a ios logs status bs spots → AreFresh falls ops (is_out dir) bs
 are_fresh m n ops a ios logs falls status dir [] spots f d h = tt
 are_fresh m n ops a ios logs falls status dir (b ∷ bs) [] f d h = absurd h

@@ -15,7 +15,7 @@ use Rattle.whole_run.specs.Steps.{Alters, Reads, Seals, Sets, Shows, Step, Write
 use Rattle.run_laws.specs.BoundRun.{fates}
 use Rattle.run_laws.specs.ScriptMoves.{all_moves, blocks_from, by_moves, fates_of, lands_in, moves_from, own_at, room_of, write_moves}
 use Rattle.run_follows.specs.Following.{AllStand, Follows, StandFrom}
-use Rattle.run_follows.specs.Slots.{Carried, Stands, Status, parts_of, so_far}
+use Rattle.run_follows.specs.Slots.{Carried, SlotStands, Status, parts_of, so_far}
 use Rattle.run_follows.specs.Spots.{IsRead, op_in, steps_in}
 use Rattle.run_follows.proofs.Spots.{steps_count}
 
@@ -141,7 +141,7 @@ one_read m r to f last (x ∷ []) s why n w l b a =
     logs_of : State → List (List (List ℕ))
     logs_of s = (seen (carry_in m.site r to f) s).logs
 
-in_block : (m : Setting) (own : List ℕ) (f : ℕ) (step : Step) (answers : List ActAnswer) (s : State) (why : Option Why) → IsRead step → Stands (parts_of m own f step) (by_moves m own f step).join (Carried why) answers → f < length s.fates →
+in_block : (m : Setting) (own : List ℕ) (f : ℕ) (step : Step) (answers : List ActAnswer) (s : State) (why : Option Why) → IsRead step → SlotStands (parts_of m own f step) (by_moves m own f step).join (Carried why) answers → f < length s.fates →
     Answered act tell (by_moves m own f step).moves (so_far (by_moves m own f step).moves answers) s → get_or (walk act (by_moves m own f step).moves (so_far (by_moves m own f step).moves answers) s).fates f None ≡ why
 in_block m own f (Sets at values) answers s why r st l a = absurd r
 in_block m own f (Shows at) answers s why r st l a = absurd r
@@ -165,7 +165,7 @@ in_steps m from fate k zero (step ∷ steps) status done rest behind s why l r s
     let ms : all_moves (blocks_from m from fate k (step ∷ steps)) ++ rest ≡ moves ++ more = append_assoc moves (all_moves (blocks_from m from fate (suc k) steps)) rest in
     let long = so_long moves st.0 in
     let all : Answered act tell (moves ++ more) (here ++ (st.1.0 ++ behind)) s = subst (λ x. Answered act tell x (here ++ (st.1.0 ++ behind)) s) ms (subst (λ x. Answered act tell (all_moves (blocks_from m from fate k (step ∷ steps)) ++ rest) x s) ds a) in
-    let stands : Stands (parts_of m (own_at from k) (fate + k) step) v.join (Carried why) st.0 = subst (λ x. Stands (parts_of m (own_at from k) (fate + k) step) v.join x st.0) (ap status (sym z) ∙ c) st.1.1.1.0 in
+    let stands : SlotStands (parts_of m (own_at from k) (fate + k) step) v.join (Carried why) st.0 = subst (λ x. SlotStands (parts_of m (own_at from k) (fate + k) step) v.join x st.0) (ap status (sym z) ∙ c) st.1.1.1.0 in
     let one = in_block m (own_at from k) (fate + k) step st.0 s why r stands (omega arith) (answered_front moves more here (st.1.0 ++ behind) s long all) in
     let up = above_join (suc (fate + k)) (all_moves (blocks_from m from fate (suc k) steps)) rest (blocks_above m from fate (suc k) (suc (fate + k)) steps (omega arith)) (subst (λ x. EachAbove (suc (fate + x)) rest) z b) in
     subst (λ x. get_or (walk act (all_moves (blocks_from m from fate k (step ∷ steps)) ++ rest) (done ++ behind) s).fates (fate + x) None ≡ why) (sym z)

@@ -12,16 +12,16 @@ use Rattle.block_path.specs.Blocks.{Sent}
 use Rattle.whole_run.specs.Settings.{Setting}
 use Rattle.dix_adapter.specs.declared.adapter.Adapter.{Adapter}
 use Rattle.dix_adapter.specs.Carried.{Unsent, sends, unsent}
-use Rattle.dix_adapter.specs.Groups.{IsGroup, blocks_in, first_of}
+use Rattle.dix_adapter.specs.Groups.{IsCarriedGroup, blocks_in, first_of}
 use Rattle.run_follows.proofs.Puts.{InTurn, bios_turn}
 use Rattle.run_follows.specs.Following.{Follows}
-use Rattle.run_follows.specs.Gate.{Spot}
+use Rattle.run_follows.specs.Gate.{BlockSpot}
 use Rattle.run_follows.specs.Sending.{AllGoing, HeldBack, with_fates}
 use Rattle.run_follows.specs.Slots.{Status}
 use Rattle.run_follows.proofs.Sends.{AllWrites, held_all}
 
-pub held_back : (m : Setting) (n : ℕ) (ops : List Op) (a : Adapter) (ios : List Io) (req : List Bio) (pool pool' : List (List ℕ)) (fates : List Fate) (opening now : State) (status : ℕ → ℕ → Status) (es : List Sent) (spots : List Spot) →
-    IsGroup a pool m.size ios req → (first_of req).dir ≡ Write → m.site.faults ≡ a.tamper → Unsent a ios req pool pool' fates → AllGoing m n ops a ios (length opening.logs) status (blocks_in req) spots → now.bytes ≡ flat pool →
+pub held_back : (m : Setting) (n : ℕ) (ops : List Op) (a : Adapter) (ios : List Io) (req : List Bio) (pool pool' : List (List ℕ)) (fates : List Fate) (opening now : State) (status : ℕ → ℕ → Status) (es : List Sent) (spots : List BlockSpot) →
+    IsCarriedGroup a pool m.size ios req → (first_of req).dir ≡ Write → m.site.faults ≡ a.tamper → Unsent a ios req pool pool' fates → AllGoing m n ops a ios (length opening.logs) status (blocks_in req) spots → now.bytes ≡ flat pool →
     Follows m n ops opening status now es → HeldBack m n ops opening now status (with_fates (blocks_in req) fates status) es
 held_back m n ops a ios req pool pool' fates opening now status es spots g w faults u going pages h =
     let first = first_of req in

@@ -9,7 +9,7 @@ use Rattle.block_path.specs.declared.mode.Mode.{Mode}
 use Rattle.merge_queue.specs.Chains.{no_bio}
 use Rattle.merge_queue.specs.Groups.{size}
 use Rattle.run_follows.specs.Sheets.{io_at, no_io}
-use Rattle.run_follows.specs.Settled.{AllSettled, BioSettled, Kept}
+use Rattle.run_follows.specs.Settled.{AllSettled, BioSettled, KeptFates}
 
 size-suc : (bios : List Bio) (n : ℕ) (d : Bio) → n < length bios → size (take (suc n) bios) ≡ size (take n bios) + (get_or bios n d).count
 size-suc [] n d h = absurd (omega arith)
@@ -20,7 +20,7 @@ pub size-more : (bios : List Bio) (n : ℕ) (d : Bio) → n < length bios → si
 size-more bios n d h = rw add-one (size-suc bios n d h)
 
 -- one bio more of a command
-pub bio-more : (mode : Mode) (ty : PiType) (ios : List Io) (starts now : List ℕ) (bios : List Bio) (fates : List Fate) (at n : ℕ) (d : Bio) (io : Io) (old between new : Kept) → now ≡ starts → n < length bios → (get_or bios n d).op - 1 < length ios →
+pub bio-more : (mode : Mode) (ty : PiType) (ios : List Io) (starts now : List ℕ) (bios : List Bio) (fates : List Fate) (at n : ℕ) (d : Bio) (io : Io) (old between new : KeptFates) → now ≡ starts → n < length bios → (get_or bios n d).op - 1 < length ios →
     io ≡ get_or ios ((get_or bios n d).op - 1) io → at ≡ size (take n bios) → AllSettled mode ty ios starts bios fates n old between →
     BioSettled mode ty io (get_or now ((get_or bios n d).op - 1) 0) (get_or bios n d) fates at (get_or bios n d).count between new → AllSettled mode ty ios starts bios fates (n + 1) old new
 bio-more mode ty ios starts now bios fates at n d io old between new s h l e a all step =

@@ -4,7 +4,7 @@ use Rattle.std.proofs.lemmas.Bool.{cases_lt}
 use Rattle.std.proofs.lemmas.List.{get_or_read}
 use Rattle.bio_core.specs.declared.request.Io.{Io}
 use Rattle.volume_table.specs.declared.entry.Entry.{Entry}
-use Rattle.volume_table.specs.Tables.{GoesOn, Table}
+use Rattle.volume_table.specs.Tables.{RunGoesOn, Table}
 use Rattle.volume_table.specs.Places.{place_in, volume_len}
 use Rattle.stack_view.specs.Plan.{no_request}
 use Rattle.run_follows.specs.Sheets.{AreInside, io_at, no_io, request_in}
@@ -20,7 +20,7 @@ inside-at ios table op k io a h e =
     omega arith
 
 -- the blocks of a run lie on one device
-pub devices-more : (entries : List Entry) (first k m run most next : ℕ) → ((n : ℕ) → n < run → GoesOn entries (first + k) n) → m ≤ run → next ≡ max ((place_in entries (first + k)).0 + 1) most →
+pub devices-more : (entries : List Entry) (first k m run most next : ℕ) → ((n : ℕ) → n < run → RunGoesOn entries (first + k) n) → m ≤ run → next ≡ max ((place_in entries (first + k)).0 + 1) most →
     ((j : ℕ) → j < k → (place_in entries (first + j)).0 < most) → (j : ℕ) → j < k + m → (place_in entries (first + j)).0 < next
 devices-more entries first k m run most next goes l e h = λ j b.
     ⊎_elim

@@ -14,8 +14,8 @@ use Rattle.run_laws.specs.OpsApart.{NoneMeet}
 use Rattle.run_laws.specs.ScriptMoves.{ByMoves, all_moves, blocks_from, blocks_of, by_moves, own_at, script_moves}
 use Rattle.run_laws.proofs.BlocksApart.{blocks_apart}
 use Rattle.run_follows.specs.Following.{AllStand, Becomes, Follows, StandFrom, sents_so_far}
-use Rattle.run_follows.specs.Gate.{MayMove, Spot, number, ops_of, parts_at, place}
-use Rattle.run_follows.specs.Slots.{Admitted, Carried, Cut, Parts, Settled, Stands, Status, Waits, before_carrying, done_by, moves_in, parts_of, so_far}
+use Rattle.run_follows.specs.Gate.{MayMove, BlockSpot, number, ops_of, parts_at, place}
+use Rattle.run_follows.specs.Slots.{Admitted, Carried, Cut, StepParts, Settled, SlotStands, Status, Waits, before_carrying, done_by, moves_in, parts_of, so_far}
 use Rattle.run_follows.proofs.Runs.{AllQuiet, Done, Moves, Turn, midst_apart, of_block, quiet_logs, quiet_sents, sents_after, sents_before, sents_both, tells_length, turn_serial}
 use Rattle.run_follows.proofs.Standing.{BlockTurns, OpTurns, gate_clears, op_turn, parts_are, step_turn}
 
@@ -50,13 +50,13 @@ split_blocks m from fate k [] step ys at e = let q : k ≡ at = omega (arith, e)
 split_blocks m from fate k (x ∷ xs) step ys at e = ap (λ rest. by_moves m (own_at from k) (fate + k) x ∷ rest) (split_blocks m from fate (suc k) xs step ys at (omega (arith, e)))
 
 -- where a block's run stands in its moves
-pub record Stretch (p : Parts) (old : Status) (run : Moves) : Type 0 where
+pub record Stretch (p : StepParts) (old : Status) (run : Moves) : Type 0 where
   pub front : Moves
   pub back : Moves
   pub is : moves_in p ≡ front ++ (run ++ back)
   pub count : done_by p old ≡ length front
 
-pub spot_turn : (m : Setting) (n : ℕ) (s : Spot) (old new : ℕ → ℕ → Status) (next : Status) (done : Done) (run : Moves) (ts : List ActAnswer) → MayMove m n old s → Becomes (number s) (place s) next old new →
+pub spot_turn : (m : Setting) (n : ℕ) (s : BlockSpot) (old new : ℕ → ℕ → Status) (next : Status) (done : Done) (run : Moves) (ts : List ActAnswer) → MayMove m n old s → Becomes (number s) (place s) next old new →
     Stretch (parts_at m n s) (old (number s) (place s)) run →
     BlockTurns m (n + rooms m s.front) (fates s.front) (place s) s.step (old (number s) (place s)) next run ts →
     AllStand m n 0 1 (ops_of s) old done → Turn (script_moves m n (ops_of s)) done run ts (AllStand m n 0 1 (ops_of s) new)
@@ -111,26 +111,26 @@ quiet_stays answers ts c q e (inr l) =
     sents_both answers ts ∙ ap (λ x. sents answers ++ x) q ∙ append-nil (sents answers) ∙ e ∙ ap (λ a. put_sent a.sent []) (get_beyond answers c (omega (arith, x, l)) ∙ sym (get_beyond (answers ++ ts) c l))
 
 pub block_turns : (m : Setting) (from fate k : ℕ) (step : Step) (old next : Status) (run : Moves) (ts : List ActAnswer) → let b = by_moves m (own_at from k) (fate + k) step in let p = parts_of m (own_at from k) (fate + k) step in
-    Stretch p old run → length ts ≡ length run → ((here : List ActAnswer) → Stands p b.join old here → Stands p b.join next (here ++ ts)) → BlockTurns m from fate k step old next run ts
+    Stretch p old run → length ts ≡ length run → ((here : List ActAnswer) → SlotStands p b.join old here → SlotStands p b.join next (here ++ ts)) → BlockTurns m from fate k step old next run ts
 block_turns m from fate k step old next run ts st l f = λ here stands.
     let b = by_moves m (own_at from k) (fate + k) step in
     let p = parts_of m (own_at from k) (fate + k) step in
     let moves : b.moves ≡ st.front ++ (run ++ st.back) = parts_are m (own_at from k) (fate + k) step ∙ st.is in
-    let P : Done → Type 0 = λ d. (here : List ActAnswer) × ((d ≡ so_far b.moves here) × Stands p b.join next here) in
+    let P : Done → Type 0 = λ d. (here : List ActAnswer) × ((d ≡ so_far b.moves here) × SlotStands p b.join next here) in
     subst (λ x. Turn x (so_far x here) run ts P) (sym moves)
     (of_block st.front run st.back here ts P (stands.count ∙ st.count) l (here ++ ts, (ap (λ x. so_far x (here ++ ts)) (sym moves), f here stands)))
 
 -- admitted, cut, settled
 
-module _ (m : Setting) (n : ℕ) (s : Spot) (opening now : State) (old new : ℕ → ℕ → Status) (es : List Sent) (may : MayMove m n old s) (h : Follows m n (ops_of s) opening old now es) where
-  abbrev p : Parts
+module _ (m : Setting) (n : ℕ) (s : BlockSpot) (opening now : State) (old new : ℕ → ℕ → Status) (es : List Sent) (may : MayMove m n old s) (h : Follows m n (ops_of s) opening old now es) where
+  abbrev p : StepParts
   p = parts_at m n s
 
   abbrev old_here : Status
   old_here = old (number s) (place s)
 
   on : (was next : Status) (run : Moves) → old_here ≡ was → Becomes (number s) (place s) next old new → AllQuiet run → Stretch p was run →
-      ((here : List ActAnswer) → let b = by_moves m (own_at (n + rooms m s.front) (place s)) (fates s.front + place s) s.step in Stands p b.join was here → Stands p b.join next (here ++ plain_tells act tell run now)) →
+      ((here : List ActAnswer) → let b = by_moves m (own_at (n + rooms m s.front) (place s)) (fates s.front + place s) s.step in SlotStands p b.join was here → SlotStands p b.join next (here ++ plain_tells act tell run now)) →
       Follows m n (ops_of s) opening new (plain act run now) es
   on was next run e becomes q st f =
       let from = n + rooms m s.front in

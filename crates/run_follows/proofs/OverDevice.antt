@@ -5,7 +5,7 @@ use Rattle.bio_core.specs.declared.request.Io.{Io}
 use Rattle.page_pool.specs.Places.{total}
 use Rattle.stack_ops.specs.declared.op.Op.{Op}
 use Rattle.stack_ops.specs.declared.op.Op.TheVariants.{Fetch, FetchPi, Fill, Overwrite, Put, Seal, Show, Wait, Write, WritePi}
-use Rattle.whole_run.specs.CalmRun.{AreBlocks}
+use Rattle.whole_run.specs.CalmRun.{AreVolumeBlocks}
 use Rattle.whole_run.specs.ScriptWalk.{act_of, acts_of}
 use Rattle.whole_run.specs.Settings.{Setting}
 use Rattle.whole_run.specs.Steps.{Alters, Reads, Seals, Sets, Shows, Step, Writes, WritesPi, body_of, each_from, steps_of, tuple_of}
@@ -14,7 +14,7 @@ use Rattle.run_laws.specs.BoundRun.{fates, rooms}
 use Rattle.run_laws.specs.OpsApart.{HasBlocks, IsPlaced, IsSpread, OpsConflict}
 use Rattle.run_laws.specs.ScriptMoves.{own_at, room_of}
 use Rattle.dix_adapter.specs.declared.adapter.Adapter.{Adapter}
-use Rattle.run_follows.specs.Gate.{AllPlaced, AreOver, IsAlone, LetsIn, MayMove, Spot, number, parts_at, place}
+use Rattle.run_follows.specs.Gate.{AllPlaced, AreOver, IsAlone, LetsIn, MayMove, BlockSpot, number, parts_at, place}
 use Rattle.run_follows.specs.Sending.{AllGoing, carriage_of}
 use Rattle.run_follows.specs.Slots.{Status, parts_of, write_parts}
 use Rattle.block_path.specs.Routes.{Device}
@@ -49,7 +49,7 @@ module _ (m : Setting) (device : Device) where
   same_rooms [] = refl
   same_rooms (op ∷ ops) = ap (λ r. r + rooms m ops) (same_room op) ∙ ap (λ r. room_of (over m device) op + r) (same_rooms ops)
 
-  blocks_over : (v n k : ℕ) → AreBlocks m v n k → AreBlocks (over m device) v n k
+  blocks_over : (v n k : ℕ) → AreVolumeBlocks m v n k → AreVolumeBlocks (over m device) v n k
   blocks_over v n k h = record { within = h.within; bytes_are = h.bytes_are }
 
   has_over : (op : Op) → HasBlocks m op → HasBlocks (over m device) op
@@ -90,7 +90,7 @@ module _ (m : Setting) (device : Device) where
     by (inl o) = inl (subst (λ steps. AreOver 0 steps (status i)) (same_steps i x) o)
     by (inr apart) = inr apart
 
-  pub may_over : (n : ℕ) (status : ℕ → ℕ → Status) (s : Spot) → MayMove m n status s → MayMove (over m device) n status s
+  pub may_over : (n : ℕ) (status : ℕ → ℕ → Status) (s : BlockSpot) → MayMove m n status s → MayMove (over m device) n status s
   may_over n status s h = record {
     one = h.one;
     placed = all_placed_over n s.front h.placed;
@@ -118,7 +118,7 @@ module _ (m : Setting) (device : Device) where
   log_over logs (Reads b owner to) h = h
   log_over logs (Alters dev lba change) h = tt
 
-  pub going_over : (n : ℕ) (ops : List Op) (a : Adapter) (ios : List Io) (logs : ℕ) (status : ℕ → ℕ → Status) (bs : List Block) (spots : List Spot) → AllGoing m n ops a ios logs status bs spots → AllGoing (over m device) n ops a ios logs status bs spots
+  pub going_over : (n : ℕ) (ops : List Op) (a : Adapter) (ios : List Io) (logs : ℕ) (status : ℕ → ℕ → Status) (bs : List Block) (spots : List BlockSpot) → AllGoing m n ops a ios logs status bs spots → AllGoing (over m device) n ops a ios logs status bs spots
   going_over n ops a ios logs status [] spots h = tt
   going_over n ops a ios logs status (b ∷ bs) [] h = absurd h
   going_over n ops a ios logs status (b ∷ bs) (s ∷ spots) h =
@@ -146,7 +146,7 @@ module _ (m : Setting) (device : Device) where
   parts_alike own fate (Reads b owner to) = record { made = refl; cut = refl; settled = refl }
   parts_alike own fate (Alters dev lba change) = record { made = refl; cut = refl; settled = refl }
 
-  pub moves_over : (n : ℕ) (s : Spot) → let p = parts_at (over m device) n s in let q = parts_at m n s in (p.made ≡ q.made) × ((p.cut ≡ q.cut) × (p.settled ≡ q.settled))
+  pub moves_over : (n : ℕ) (s : BlockSpot) → let p = parts_at (over m device) n s in let q = parts_at m n s in (p.made ≡ q.made) × ((p.cut ≡ q.cut) × (p.settled ≡ q.settled))
   moves_over n s =
       let h = parts_alike (own_at (n + rooms m s.front) (place s)) (fates s.front + place s) s.step in
       let same = λ (r : ℕ). parts_of (over m device) (own_at (n + r) (place s)) (fates s.front + place s) s.step in

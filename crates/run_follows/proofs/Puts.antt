@@ -27,7 +27,7 @@ use Rattle.whole_run.specs.Settings.{Setting}
 use Rattle.run_laws.specs.Records.{came_of, put_blocks, put_decoded, put_entries, put_request, put_rw, recorded, stamped}
 use Rattle.dix_adapter.specs.declared.adapter.Adapter.{Adapter}
 use Rattle.dix_adapter.specs.Carried.{any_bad, command_for, command_of, frame_len, frame_sent, sends, way_of}
-use Rattle.dix_adapter.specs.Groups.{Chain, IsBio, IsGroup, IsProtect, blocks_in, first_of, label_of, size}
+use Rattle.dix_adapter.specs.Groups.{Chain, IsBio, IsCarriedGroup, IsProtect, blocks_in, first_of, label_of, size}
 use Rattle.dix_adapter.specs.Outcomes.{done_of}
 use Rattle.dix_adapter.specs.Ways.{IsRecord, RecordedIn, RecordedOut}
 use Rattle.dix_adapter.proofs.Asking.{asked-for, count-is, fields_of, lba-is, protect-is}
@@ -113,7 +113,7 @@ rw_is m dir c e bs dev lba n frames es d a k labels cut turn long count =
     ∙ ap (λ i. put_blocks m.site dir dev lba (take (min (done + 1) n) (map label_of bs)) (came_of n done sense i) es) cut
     ∙ put_is m.site dir dev lba bs (min (done + 1) n) (came_of n done sense frames) es turn sizes.0 enough
 
-module _ (m : Setting) (a : Adapter) (ios : List Io) (req : List Bio) (pool : List (List ℕ)) (protect : IsProtect a.protect) (g : IsGroup a pool m.size ios req) where
+module _ (m : Setting) (a : Adapter) (ios : List Io) (req : List Bio) (pool : List (List ℕ)) (protect : IsProtect a.protect) (g : IsCarriedGroup a pool m.size ios req) where
   abbrev first : Bio
   first = first_of req
 

@@ -29,14 +29,14 @@ use Rattle.run_laws.specs.Records.{came_of, find, is_labelled, recorded, stamped
 use Rattle.run_laws.specs.ToldRun.{came_by, came_in, told}
 use Rattle.dix_adapter.specs.declared.adapter.Adapter.{Adapter}
 use Rattle.dix_adapter.specs.Carried.{any_bad, arrives, carried, fates_in, frame_len, frame_sent, is_bad, land, landed, sends}
-use Rattle.dix_adapter.specs.Groups.{IsGroup, IsProtect, blocks_in, first_of, frame_cells, frame_in, label_of, route_of, size}
+use Rattle.dix_adapter.specs.Groups.{IsCarriedGroup, IsProtect, blocks_in, first_of, frame_cells, frame_in, label_of, route_of, size}
 use Rattle.dix_adapter.specs.Outcomes.{done_of, rest_of}
 use Rattle.dix_adapter.specs.Ways.{RecordedIn, RecordedOut}
 use Rattle.dix_adapter.proofs.Blocks.{length-in}
 use Rattle.run_follows.specs.OnRecord.{put_each}
 use Rattle.run_follows.proofs.Puts.{InTurn, goes_in, goes_out as went_out, turn}
 use Rattle.run_follows.specs.Following.{Follows}
-use Rattle.run_follows.specs.Gate.{Spot}
+use Rattle.run_follows.specs.Gate.{BlockSpot}
 use Rattle.run_follows.specs.Sending.{AllComeIn, AllGoOut, AllGoing, FollowsOn, IsElsewhere, NoneBefore, in_fates, is_carried, land_all, out_fates, with_fate, with_fates, with_status}
 use Rattle.run_follows.specs.Slots.{Carried, Status}
 use Rattle.run_follows.proofs.OverDevice.{going_over}
@@ -150,7 +150,7 @@ module _ (m : Setting) (n : ℕ) (ops : List Op) (a : Adapter) (ios : List Io) (
   AllNone es [] = Unit {0}
   AllNone es (b ∷ bs) = (find (label_of b) es ≡ None) × AllNone es bs
 
-  all_none : (status : ℕ → ℕ → Status) (es : List Sent) (bs : List Block) (spots : List Spot) → AllGoing m n ops a ios logs status bs spots → NoneBefore status es → AllNone es bs
+  all_none : (status : ℕ → ℕ → Status) (es : List Sent) (bs : List Block) (spots : List BlockSpot) → AllGoing m n ops a ios logs status bs spots → NoneBefore status es → AllNone es bs
   all_none status es [] spots g h = tt
   all_none status es (b ∷ bs) [] g h = absurd g
   all_none status es (b ∷ bs) (s ∷ spots) g h = (h b.op b.k (ap is_carried g.0.is_cut), all_none status es bs spots g.1.1 h)
@@ -159,7 +159,7 @@ module _ (m : Setting) (n : ℕ) (ops : List Op) (a : Adapter) (ios : List Io) (
   none_still es b e [] q g h = tt
   none_still es b e (c ∷ bs) q g h = (find_more (label_of c) es e (rw q (unlike b.op b.k c.op c.k g.0)) ∙ h.0, none_still es b e bs q g.1 h.1)
 
-  pub each_came : (status : ℕ → ℕ → Status) (bs : List Block) (spots : List Spot) (cames : List Came) (es : List Sent) → AllGoing m n ops a ios logs status bs spots → AllNone es bs → EachCame (put_each m.site bs cames es) bs cames
+  pub each_came : (status : ℕ → ℕ → Status) (bs : List Block) (spots : List BlockSpot) (cames : List Came) (es : List Sent) → AllGoing m n ops a ios logs status bs spots → AllNone es bs → EachCame (put_each m.site bs cames es) bs cames
   each_came status [] spots cames es g h = tt
   each_came status (b ∷ bs) spots [] es g h = tt
   each_came status (b ∷ bs) [] (c ∷ cames) es g h = absurd g
@@ -170,14 +170,14 @@ module _ (m : Setting) (n : ℕ) (ops : List Op) (a : Adapter) (ios : List Io) (
         each_came status bs spots cames es' g.1.1 (none_still es b e bs refl g.1.0 h.1),
       )
 
-  carried_none : (status : ℕ → ℕ → Status) (bs : List Block) (spots : List Spot) (i k : ℕ) → AllGoing m n ops a ios logs status bs spots → is_carried (status i k) ≡ true → IsNone i k bs
+  carried_none : (status : ℕ → ℕ → Status) (bs : List Block) (spots : List BlockSpot) (i k : ℕ) → AllGoing m n ops a ios logs status bs spots → is_carried (status i k) ≡ true → IsNone i k bs
   carried_none status [] spots i k g h = tt
   carried_none status (b ∷ bs) [] i k g h = absurd g
   carried_none status (b ∷ bs) (s ∷ spots) i k g h =
       ((λ p q. false≢true (ap is_carried (sym g.0.is_cut ∙ sym (ap (λ j. status j b.k) p) ∙ sym (ap (status i) q)) ∙ h)), carried_none status bs spots i k g.1.1 h)
 
   -- what was carried before is told as before
-  pub told_before : (status : ℕ → ℕ → Status) (bs : List Block) (spots : List Spot) (cames : List Came) (es : List Sent) → AllGoing m n ops a ios logs status bs spots → (i k : ℕ) → is_carried (status i k) ≡ true →
+  pub told_before : (status : ℕ → ℕ → Status) (bs : List Block) (spots : List BlockSpot) (cames : List Came) (es : List Sent) → AllGoing m n ops a ios logs status bs spots → (i k : ℕ) → is_carried (status i k) ≡ true →
       came_by es (label_at i k) ≡ came_by (put_each m.site bs cames es) (label_at i k)
   told_before status bs spots cames es g i k h = sym (ap came_in (find_put m.site i k bs cames es (carried_none status bs spots i k g h)))
 
@@ -296,7 +296,7 @@ module _ (m : Setting) (a : Adapter) (ios : List Io) (faults : m.site.faults ≡
 
 -- a command
 
-module _ (m : Setting) (n : ℕ) (ops : List Op) (a : Adapter) (ios : List Io) (req : List Bio) (pool : List (List ℕ)) (protect : IsProtect a.protect) (g : IsGroup a pool m.size ios req) (faults : m.site.faults ≡ a.tamper) where
+module _ (m : Setting) (n : ℕ) (ops : List Op) (a : Adapter) (ios : List Io) (req : List Bio) (pool : List (List ℕ)) (protect : IsProtect a.protect) (g : IsCarriedGroup a pool m.size ios req) (faults : m.site.faults ≡ a.tamper) where
   abbrev bs : List Block
   bs = blocks_in req
 
@@ -336,7 +336,7 @@ module _ (m : Setting) (n : ℕ) (ops : List Op) (a : Adapter) (ios : List Io) (
       subst (λ x. NoneBefore (with_fates bs fates status) x) (sym put) (subst (λ f. NoneBefore (with_fates bs f status) (put_each m.site bs cames es)) fate
       (none_after m n ops a ios 0 bs cames (out_fates bs cames) status es (out_are m n ops a ios 0 bs cames) none))
 
-  pub sent_in : (pool' : List (List ℕ)) (fates : List Fate) (old new : RigState) (opening now : State) (status : ℕ → ℕ → Status) (spots : List Spot) → (first_of req).dir ≡ Read → RecordedIn a ios req pool pool' fates old new →
+  pub sent_in : (pool' : List (List ℕ)) (fates : List Fate) (old new : RigState) (opening now : State) (status : ℕ → ℕ → Status) (spots : List BlockSpot) → (first_of req).dir ≡ Read → RecordedIn a ios req pool pool' fates old new →
       AllGoing m n ops a ios (length opening.logs) status bs spots → now.bytes ≡ flat pool → NoneBefore status (recorded m old.log) → Follows (told m (recorded m old.log)) n ops opening status now (recorded m old.log) →
       FollowsOn m n ops opening (with_fates bs fates status) (flat pool') new.log
   sent_in pool' fates old new opening now status spots w r going pages none h =
@@ -361,7 +361,7 @@ module _ (m : Setting) (n : ℕ) (ops : List Op) (a : Adapter) (ios : List Io) (
         none_before = none_in pool' fates old new status w r none;
       }
 
-  pub sent_out : (fates : List Fate) (old new : RigState) (opening now : State) (status : ℕ → ℕ → Status) (spots : List Spot) → (first_of req).dir ≡ Write → any_bad (map (sends a ios (flat pool)) bs) ≡ false → RecordedOut a ios req (flat pool) fates old new →
+  pub sent_out : (fates : List Fate) (old new : RigState) (opening now : State) (status : ℕ → ℕ → Status) (spots : List BlockSpot) → (first_of req).dir ≡ Write → any_bad (map (sends a ios (flat pool)) bs) ≡ false → RecordedOut a ios req (flat pool) fates old new →
       AllGoing m n ops a ios (length opening.logs) status bs spots → now.bytes ≡ flat pool → NoneBefore status (recorded m old.log) → Follows (told m (recorded m old.log)) n ops opening status now (recorded m old.log) →
       FollowsOn m n ops opening (with_fates bs fates status) (flat pool) new.log
   sent_out fates old new opening now status spots w good r going pages none h =

@@ -7,14 +7,14 @@ use Rattle.whole_run.specs.Settings.{Setting}
 use Rattle.whole_run.specs.Steps.{Step, steps_of}
 use Rattle.run_laws.specs.ScriptMoves.{by_moves, fates_of, own_at, room_of}
 use Rattle.run_follows.specs.Following.{AllStand, Follows, StandFrom}
-use Rattle.run_follows.specs.Slots.{Stands, Status, parts_of}
+use Rattle.run_follows.specs.Slots.{SlotStands, Status, parts_of}
 
 stand_same : (m : Setting) (from fate k : ℕ) (steps : List Step) (old new : ℕ → Status) (done : List (Option ActAnswer)) → ((l : ℕ) → new l ≡ old l) → StandFrom m from fate k steps old done → StandFrom m from fate k steps new done
 stand_same m from fate k [] old new done e h = h
 stand_same m from fate k (step ∷ steps) old new done e h =
     let b = by_moves m (own_at from k) (fate + k) step in
     let p = parts_of m (own_at from k) (fate + k) step in
-    (h.0, (h.1.0, (h.1.1.0, (subst (λ (s : Status). Stands p b.join s h.0) (sym (e k)) h.1.1.1.0, stand_same m from fate (suc k) steps old new h.1.0 e h.1.1.1.1))))
+    (h.0, (h.1.0, (h.1.1.0, (subst (λ (s : Status). SlotStands p b.join s h.0) (sym (e k)) h.1.1.1.0, stand_same m from fate (suc k) steps old new h.1.0 e h.1.1.1.1))))
 
 all_same : (m : Setting) (from fate i : ℕ) (ops : List Op) (old new : ℕ → ℕ → Status) (done : List (Option ActAnswer)) → ((j l : ℕ) → new j l ≡ old j l) → AllStand m from fate i ops old done → AllStand m from fate i ops new done
 all_same m from fate i [] old new done e h = h

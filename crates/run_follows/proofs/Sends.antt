@@ -29,7 +29,7 @@ use Rattle.dix_adapter.specs.Groups.{frame_cells, frame_in, label_of, route_of}
 use Rattle.dix_adapter.proofs.GoingIn.{scatter-none}
 use Rattle.run_follows.specs.OnRecord.{put_each}
 use Rattle.run_follows.specs.Following.{Becomes, Follows}
-use Rattle.run_follows.specs.Gate.{AreOver, LetsIn, Spot, is_over, number, ops_of, parts_at, place}
+use Rattle.run_follows.specs.Gate.{AreOver, LetsIn, BlockSpot, is_over, number, ops_of, parts_at, place}
 use Rattle.run_follows.specs.Sending.{AllComeIn, AllGoOut, AllGoing, Carriage, HeldBack, IsElsewhere, IsGoing, NoneBefore, SentIn, SentOut, carriage_of, fate_in, in_fates, is_carried, out_fates, land_all, land_one, with_fate, with_fates, with_status}
 use Rattle.run_follows.specs.Slots.{Carried, Cut, Status, parts_of, write_parts}
 use Rattle.run_follows.proofs.Carrying.{carried}
@@ -122,7 +122,7 @@ module _ (m : Setting) (r : Route) (now : State) (es : List Sent) (logs : (c : �
 
 -- one block of a group
 
-going_rest : (m : Setting) (n : ℕ) (ops : List Op) (a : Adapter) (ios : List Io) (logs : ℕ) (status : ℕ → ℕ → Status) (b : Block) (next : Status) (bs : List Block) (spots : List Spot) → status b.op b.k ≡ Cut → IsElsewhere b bs →
+going_rest : (m : Setting) (n : ℕ) (ops : List Op) (a : Adapter) (ios : List Io) (logs : ℕ) (status : ℕ → ℕ → Status) (b : Block) (next : Status) (bs : List Block) (spots : List BlockSpot) → status b.op b.k ≡ Cut → IsElsewhere b bs →
     AllGoing m n ops a ios logs status bs spots → AllGoing m n ops a ios logs (with_status b.op b.k next status) bs spots
 going_rest m n ops a ios logs status b next [] spots c e h = tt
 going_rest m n ops a ios logs status b next (x ∷ bs) [] c e h = absurd h
@@ -144,7 +144,7 @@ going_rest m n ops a ios logs status b next (x ∷ bs) (s ∷ spots) c e h =
     )
 
 -- whatever it puts on record
-put_block : (m : Setting) (n : ℕ) (ops : List Op) (a : Adapter) (ios : List Io) (opening now : State) (status : ℕ → ℕ → Status) (es : List Sent) (b : Block) (s : Spot) (c : Act ActAnswer) (o : Option Sent) (why : Option Why) →
+put_block : (m : Setting) (n : ℕ) (ops : List Op) (a : Adapter) (ios : List Io) (opening now : State) (status : ℕ → ℕ → Status) (es : List Sent) (b : Block) (s : BlockSpot) (c : Act ActAnswer) (o : Option Sent) (why : Option Why) →
     IsGoing m n ops a ios (length opening.logs) status b s → (parts_at m n s).carrying ≡ c → (tell c now).sent ≡ o → (tell c now).why ≡ why → Follows m n ops opening status now es →
     Follows m n ops opening (with_status b.op b.k (Carried why) status) (act c now) (es ++ put_sent o [])
 put_block m n ops a ios opening now status es b s c o why g q put found h =
@@ -163,7 +163,7 @@ put_block m n ops a ios opening now status es b s c o why g q put found h =
     (subst (λ x. Follows m n (ops_of s) opening new (act x now) (es ++ put_sent o [])) q
     (subst (λ e. Follows m n (ops_of s) opening new (act k now) (es ++ put_sent e [])) sent done))
 
-one_block : (m : Setting) (n : ℕ) (ops : List Op) (a : Adapter) (ios : List Io) (opening now : State) (status : ℕ → ℕ → Status) (es : List Sent) (b : Block) (s : Spot) (c : Act ActAnswer) (e : Sent) (why : Option Why) →
+one_block : (m : Setting) (n : ℕ) (ops : List Op) (a : Adapter) (ios : List Io) (opening now : State) (status : ℕ → ℕ → Status) (es : List Sent) (b : Block) (s : BlockSpot) (c : Act ActAnswer) (e : Sent) (why : Option Why) →
     IsGoing m n ops a ios (length opening.logs) status b s → (parts_at m n s).carrying ≡ c → Tells m c now e why → Follows m n ops opening status now es →
     Follows m n ops opening (with_status b.op b.k (Carried why) status) (act c now) (es ++ (e ∷ []))
 one_block m n ops a ios opening now status es b s c e why g q t h = put_block m n ops a ios opening now status es b s c (Some e) why g q t.sent t.why_is h
@@ -175,7 +175,7 @@ put_nothing m [] es = refl
 put_nothing m (b ∷ bs) es = refl
 
 module _ (m : Setting) (n : ℕ) (ops : List Op) (a : Adapter) (ios : List Io) (opening : State) where
-  pub out_all : (bs : List Block) (spots : List Spot) (cames : List (Result (List ℕ) Why)) (now : State) (status : ℕ → ℕ → Status) (es : List Sent) → AllGoing m n ops a ios (length opening.logs) status bs spots →
+  pub out_all : (bs : List Block) (spots : List BlockSpot) (cames : List (Result (List ℕ) Why)) (now : State) (status : ℕ → ℕ → Status) (es : List Sent) → AllGoing m n ops a ios (length opening.logs) status bs spots →
       AllGoOut m a ios now.bytes bs cames → Follows m n ops opening status now es → SentOut m n ops a ios opening now bs cames status es
   out_all [] spots cames now status es g w h = record { after = now; follows = h; bytes = refl; blocks = refl }
   out_all (b ∷ bs) spots [] now status es g w h = record {
@@ -252,7 +252,7 @@ module _ (m : Setting) (n : ℕ) (ops : List Op) (a : Adapter) (ios : List Io) (
         fate = λ status. ap (λ x. with_fate b (fate_of x) status) e;
       }
 
-  pub in_all : (bs : List Block) (spots : List Spot) (cames : List (Result (List ℕ) Why)) (now : State) (status : ℕ → ℕ → Status) (es : List Sent) → AllGoing m n ops a ios (length opening.logs) status bs spots →
+  pub in_all : (bs : List Block) (spots : List BlockSpot) (cames : List (Result (List ℕ) Why)) (now : State) (status : ℕ → ℕ → Status) (es : List Sent) → AllGoing m n ops a ios (length opening.logs) status bs spots →
       AllComeIn m a ios now.blocks bs cames → Follows m n ops opening status now es → SentIn m n ops a ios opening now bs cames status es
   in_all [] spots cames now status es g w h = record { after = now; follows = h; bytes = refl; blocks = refl }
   in_all (b ∷ bs) spots [] now status es g w h = record {
@@ -299,7 +299,7 @@ module _ (m : Setting) (n : ℕ) (ops : List Op) (a : Adapter) (ios : List Io) (
   AllWrites [] = Unit {0}
   AllWrites (b ∷ bs) = (b.dir ≡ Write) × AllWrites bs
 
-  pub held_all : (bs : List Block) (spots : List Spot) (now : State) (status : ℕ → ℕ → Status) (es : List Sent) → AllGoing m n ops a ios (length opening.logs) status bs spots → AllWrites bs →
+  pub held_all : (bs : List Block) (spots : List BlockSpot) (now : State) (status : ℕ → ℕ → Status) (es : List Sent) → AllGoing m n ops a ios (length opening.logs) status bs spots → AllWrites bs →
       Follows m n ops opening status now es → HeldBack m n ops opening now status (with_fates bs (map unsent (map (sends a ios now.bytes) bs)) status) es
   held_all [] spots now status es g w h = record { after = now; follows = h; bytes = refl; blocks = refl; none_before = λ k. k }
   held_all (b ∷ bs) [] now status es g w h = absurd g

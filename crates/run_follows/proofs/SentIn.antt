@@ -21,7 +21,7 @@ use Rattle.whole_run.specs.Settings.{Setting}
 use Rattle.run_laws.specs.Records.{came_of, recorded}
 use Rattle.dix_adapter.specs.declared.adapter.Adapter.{Adapter}
 use Rattle.dix_adapter.specs.Carried.{frame_len}
-use Rattle.dix_adapter.specs.Groups.{IsGroup, IsProtect, blocks_in, first_of, size}
+use Rattle.dix_adapter.specs.Groups.{IsCarriedGroup, IsProtect, blocks_in, first_of, size}
 use Rattle.dix_adapter.specs.Outcomes.{done_of}
 use Rattle.dix_adapter.specs.Ways.{CameIn, RecordedIn, blocks_told, fates_of_in, frames_in, shapes_of, site_of, stopped_in, ways_in}
 use Rattle.dix_adapter.proofs.Blocks.{length-in}
@@ -29,7 +29,7 @@ use Rattle.dix_adapter.proofs.Runs.{cut-joined}
 use Rattle.run_follows.specs.OnRecord.{put_each}
 use Rattle.run_follows.proofs.Puts.{InTurn, goes_in, turn}
 use Rattle.run_follows.specs.Following.{Follows}
-use Rattle.run_follows.specs.Gate.{Spot}
+use Rattle.run_follows.specs.Gate.{BlockSpot}
 use Rattle.run_follows.specs.Sending.{AllComeIn, AllGoing, AllSized, NoneBefore, in_fates, land_all, with_fates}
 use Rattle.run_follows.specs.Slots.{Status}
 use Rattle.run_follows.proofs.Recording.{came_length, in_fates_are, lands}
@@ -51,7 +51,7 @@ few (Stops why ∷ ws) = omega arith
 few (Spoils why carried ∷ ws) = let h = few ws in omega (arith, h)
 few (Delivers carried frame ∷ ws) = let h = few ws in omega (arith, h)
 
-module _ (m : Setting) (n : ℕ) (ops : List Op) (a : Adapter) (ios : List Io) (req : List Bio) (pool : List (List ℕ)) (us : List Stored) (protect : IsProtect a.protect) (g : IsGroup a pool m.size ios req) (site : m.site ≡ site_of a (shapes_of us)) where
+module _ (m : Setting) (n : ℕ) (ops : List Op) (a : Adapter) (ios : List Io) (req : List Bio) (pool : List (List ℕ)) (us : List Stored) (protect : IsProtect a.protect) (g : IsCarriedGroup a pool m.size ios req) (site : m.site ≡ site_of a (shapes_of us)) where
   abbrev bs : List Block
   bs = blocks_in req
 
@@ -59,7 +59,7 @@ module _ (m : Setting) (n : ℕ) (ops : List Op) (a : Adapter) (ios : List Io) (
   ways_length falls [] = refl
   ways_length falls (x ∷ xs) = ap suc (ways_length falls xs)
 
-  pub fallen_in : (stop : Option Stop) (pool' : List (List ℕ)) (fates : List Fate) (old new : RigState) (opening : State) (status : ℕ → ℕ → Status) (spots : List Spot) → (first_of req).dir ≡ Read → AllSized m a ios (blocks_told us) (frame_len a ios req) bs →
+  pub fallen_in : (stop : Option Stop) (pool' : List (List ℕ)) (fates : List Fate) (old new : RigState) (opening : State) (status : ℕ → ℕ → Status) (spots : List BlockSpot) → (first_of req).dir ≡ Read → AllSized m a ios (blocks_told us) (frame_len a ios req) bs →
       RecordedIn a ios req pool pool' fates old new → CameIn a ios req pool pool' us stop fates old new → IfSome stop (λ s. length s.left ≡ stored_size m.ty m.size) →
       AllGoing m n ops a ios (length opening.logs) status bs spots → NoneBefore status (recorded m old.log) → FollowsFalling m n ops opening status (flat pool) (blocks_told us) (recorded m old.log) →
       FollowsFalling m n ops opening (with_fates bs fates status) (flat pool') (blocks_told us) (recorded m new.log)

@@ -23,14 +23,14 @@ use Rattle.whole_run.specs.Settings.{Setting}
 use Rattle.run_laws.specs.Records.{came_of, recorded}
 use Rattle.dix_adapter.specs.declared.adapter.Adapter.{Adapter}
 use Rattle.dix_adapter.specs.Carried.{any_bad, frame_sent, sends}
-use Rattle.dix_adapter.specs.Groups.{IsGroup, IsProtect, blocks_in, first_of, size}
+use Rattle.dix_adapter.specs.Groups.{IsCarriedGroup, IsProtect, blocks_in, first_of, size}
 use Rattle.dix_adapter.specs.Outcomes.{done_of}
 use Rattle.dix_adapter.specs.Ways.{RecordedOut, WentOut, acts_out, blocks_told, cells_out, fates_out, frames_out, left_at, shapes_of, site_of, stopped_out, ways_out}
 use Rattle.dix_adapter.proofs.Blocks.{length-in}
 use Rattle.run_follows.specs.OnRecord.{put_each}
 use Rattle.run_follows.proofs.Puts.{InTurn, goes_out as went_out, turn}
 use Rattle.run_follows.specs.Following.{Follows}
-use Rattle.run_follows.specs.Gate.{Spot}
+use Rattle.run_follows.specs.Gate.{BlockSpot}
 use Rattle.run_follows.specs.Sending.{AllGoOut, AllGoing, NoneBefore, is_carried, out_fates, with_fates}
 use Rattle.run_follows.specs.Slots.{Status}
 use Rattle.run_follows.proofs.Recording.{came_length, out_fates_are}
@@ -48,7 +48,7 @@ pub turn_dir : (dir : Dir) (dev lba : ℕ) (bs : List Block) → InTurn dir dev 
 turn_dir dir dev lba [] h = tt
 turn_dir dir dev lba (b ∷ bs) h = (h.0.0, turn_dir dir dev (suc lba) bs h.1)
 
-pub all_cut : (m : Setting) (n : ℕ) (ops : List Op) (a : Adapter) (ios : List Io) (logs : ℕ) (status : ℕ → ℕ → Status) (bs : List Block) (spots : List Spot) → AllGoing m n ops a ios logs status bs spots → AllCut status bs
+pub all_cut : (m : Setting) (n : ℕ) (ops : List Op) (a : Adapter) (ios : List Io) (logs : ℕ) (status : ℕ → ℕ → Status) (bs : List Block) (spots : List BlockSpot) → AllGoing m n ops a ios logs status bs spots → AllCut status bs
 all_cut m n ops a ios logs status [] spots g = tt
 all_cut m n ops a ios logs status (b ∷ bs) [] g = absurd g
 all_cut m n ops a ios logs status (b ∷ bs) (s ∷ spots) g = (g.0.is_cut, all_cut m n ops a ios logs status bs spots g.1.1)
@@ -63,7 +63,7 @@ few (Fails why ∷ ws) = omega arith
 few (Refuses why ∷ ws) = omega arith
 few (Stores carried stored ∷ ws) = let h = few ws in omega (arith, h)
 
-module _ (m : Setting) (n : ℕ) (ops : List Op) (a : Adapter) (ios : List Io) (req : List Bio) (pool : List (List ℕ)) (us : List Stored) (protect : IsProtect a.protect) (g : IsGroup a pool m.size ios req) (site : m.site ≡ site_of a (shapes_of us)) where
+module _ (m : Setting) (n : ℕ) (ops : List Op) (a : Adapter) (ios : List Io) (req : List Bio) (pool : List (List ℕ)) (us : List Stored) (protect : IsProtect a.protect) (g : IsCarriedGroup a pool m.size ios req) (site : m.site ≡ site_of a (shapes_of us)) where
   abbrev bs : List Block
   bs = blocks_in req
 
@@ -71,7 +71,7 @@ module _ (m : Setting) (n : ℕ) (ops : List Op) (a : Adapter) (ios : List Io) (
   ways_length falls [] = refl
   ways_length falls (x ∷ xs) = ap suc (ways_length falls xs)
 
-  pub fallen_out : (stop : Option Stop) (fates : List Fate) (old new : RigState) (opening : State) (status : ℕ → ℕ → Status) (spots : List Spot) → (first_of req).dir ≡ Write → any_bad (map (sends a ios (flat pool)) bs) ≡ false →
+  pub fallen_out : (stop : Option Stop) (fates : List Fate) (old new : RigState) (opening : State) (status : ℕ → ℕ → Status) (spots : List BlockSpot) → (first_of req).dir ≡ Write → any_bad (map (sends a ios (flat pool)) bs) ≡ false →
       RecordedOut a ios req (flat pool) fates old new → (told : WentOut a ios req (flat pool) us stop fates old new) → IfSome stop (λ s. length s.left ≡ stored_size m.ty m.size) →
       AllGoing m n ops a ios (length opening.logs) status bs spots → NoneBefore status (recorded m old.log) → FollowsFalling m n ops opening status (flat pool) (blocks_told us) (recorded m old.log) →
       FollowsFalling m n ops opening (with_fates bs fates status) (flat pool) (blocks_told told.units) (recorded m new.log)

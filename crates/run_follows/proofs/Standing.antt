@@ -12,7 +12,7 @@ use Rattle.run_laws.specs.ScriptMoves.{all_moves, blocks_from, blocks_of, by_mov
 use Rattle.run_laws.proofs.Meeting.{ops_apart}
 use Rattle.run_follows.specs.Following.{AllStand, StandFrom}
 use Rattle.run_follows.specs.Gate.{AllPlaced, AreOver, LetsIn, is_over}
-use Rattle.run_follows.specs.Slots.{Admitted, Carried, Cut, Done as AllDone, Parts, Settled, Stands, Status, Waits, before_carrying, done_by, moves_in, parts_of, so_far, write_parts}
+use Rattle.run_follows.specs.Slots.{Admitted, Carried, Cut, Done as AllDone, StepParts, Settled, SlotStands, Status, Waits, before_carrying, done_by, moves_in, parts_of, so_far, write_parts}
 use Rattle.run_follows.proofs.Runs.{AllClear, Done, Moves, Turn, behind, clear_join, clear_nothing, clear_of_all, clear_over, far_length, in_front, midst_apart}
 
 pub parts_are : (m : Setting) (own : List ℕ) (fate : ℕ) (step : Step) → (by_moves m own fate step).moves ≡ moves_in (parts_of m own fate step)
@@ -27,7 +27,7 @@ parts_are m own fate (WritesPi b frame) = refl
 parts_are m own fate (Reads b owner to) = refl
 parts_are m own fate (Alters dev lba change) = refl
 
-pub moves_length : (p : Parts) → length (moves_in p) ≡ suc (before_carrying p + length p.settled)
+pub moves_length : (p : StepParts) → length (moves_in p) ≡ suc (before_carrying p + length p.settled)
 moves_length p =
     let x = length-append p.made (p.cut ++ (p.carrying ∷ p.settled)) in
     let y = length-append p.cut (p.carrying ∷ p.settled) in
@@ -35,7 +35,7 @@ moves_length p =
 
 -- the cells of what is over
 
-over_count : (p : Parts) (status : Status) (n : ℕ) → is_over status ≡ true → n ≡ done_by p status → n ≡ length (moves_in p)
+over_count : (p : StepParts) (status : Status) (n : ℕ) → is_over status ≡ true → n ≡ done_by p status → n ≡ length (moves_in p)
 over_count p Waits n o e = absurd (false≢true o)
 over_count p Admitted n o e = absurd (false≢true o)
 over_count p Cut n o e = absurd (false≢true o)
@@ -71,7 +71,7 @@ module _ (m : Setting) where
   steps_same from fate k (step ∷ steps) old new done e h =
       let b = by_moves m (own_at from k) (fate + k) step in
       let p = parts_of m (own_at from k) (fate + k) step in
-      (h.0, (h.1.0, (h.1.1.0, (subst (λ s. Stands p b.join s h.0) (sym (e k (omega arith))) h.1.1.1.0, steps_same from fate (suc k) steps old new h.1.0 (λ l u. e l (omega (arith, u))) h.1.1.1.1))))
+      (h.0, (h.1.0, (h.1.1.0, (subst (λ s. SlotStands p b.join s h.0) (sym (e k (omega arith))) h.1.1.1.0, steps_same from fate (suc k) steps old new h.1.0 (λ l u. e l (omega (arith, u))) h.1.1.1.1))))
 
   pub ops_same : (from fate i : ℕ) (ops : List Op) (old new : ℕ → ℕ → Status) (done : Done) → ((j k : ℕ) → i ≤ j → new j k ≡ old j k) → AllStand m from fate i ops old done → AllStand m from fate i ops new done
   ops_same from fate i [] old new done e h = h
@@ -94,12 +94,12 @@ module _ (m : Setting) where
   abbrev pub Next : (from fate k : ℕ) → Step → Status → Done → Type 0
   Next from fate k step next d =
       let b = by_moves m (own_at from k) (fate + k) step in
-      (here : List ActAnswer) × ((d ≡ so_far b.moves here) × Stands (parts_of m (own_at from k) (fate + k) step) b.join next here)
+      (here : List ActAnswer) × ((d ≡ so_far b.moves here) × SlotStands (parts_of m (own_at from k) (fate + k) step) b.join next here)
 
   abbrev pub BlockTurns : (from fate k : ℕ) → Step → (old next : Status) → Moves → List ActAnswer → Type 0
   BlockTurns from fate k step old next run ts =
       let b = by_moves m (own_at from k) (fate + k) step in
-      (here : List ActAnswer) → Stands (parts_of m (own_at from k) (fate + k) step) b.join old here → Turn b.moves (so_far b.moves here) run ts (Next from fate k step next)
+      (here : List ActAnswer) → SlotStands (parts_of m (own_at from k) (fate + k) step) b.join old here → Turn b.moves (so_far b.moves here) run ts (Next from fate k step next)
 
   pub step_turn : (from fate k : ℕ) (xs : List Step) (step : Step) (ys : List Step) (at : ℕ) (old new : ℕ → Status) (done : Done) (run : Moves) (ts : List ActAnswer) → k + length xs ≡ at →
       ((l : ℕ) → (l ≡ at → ⊥) → new l ≡ old l) → BlockTurns from fate at step (old at) (new at) run ts → NoneMeet conflict (all_moves (blocks_from m from fate k xs)) run →
@@ -120,7 +120,7 @@ module _ (m : Setting) where
       subst (λ d. Turn (b.moves ++ all_moves (blocks_from m from fate (suc k) (xs ++ (step ∷ ys)))) d run ts (StandFrom m from fate k (x ∷ (xs ++ (step ∷ ys))) new)) (sym h.1.1.0)
       (behind b.moves (all_moves (blocks_from m from fate (suc k) (xs ++ (step ∷ ys)))) run (so_far b.moves h.0) h.1.0 ts (StandFrom m from fate (suc k) (xs ++ (step ∷ ys)) new) (StandFrom m from fate k (x ∷ (xs ++ (step ∷ ys))) new)
       (far_length b.moves h.0) (clear_of_all run b.moves (so_far b.moves h.0) (meet_first b.moves (all_moves (blocks_from m from fate (suc k) xs)) run apart))
-      (λ d n. (h.0, (d, (refl, (subst (λ s. Stands p b.join s h.0) (sym (same k (λ q. omega (arith, q, e)))) h.1.1.1.0, n)))))
+      (λ d n. (h.0, (d, (refl, (subst (λ s. SlotStands p b.join s h.0) (sym (same k (λ q. omega (arith, q, e)))) h.1.1.1.0, n)))))
       rest)
     where
       meet_first : (xs ys run : Moves) → NoneMeet conflict (xs ++ ys) run → NoneMeet conflict xs run

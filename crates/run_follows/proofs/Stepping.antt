@@ -25,9 +25,9 @@ use Rattle.run_laws.specs.OpsApart.{IsPlaced, OneCellEach}
 use Rattle.run_laws.specs.ScriptMoves.{own_at}
 use Rattle.dix_adapter.specs.declared.adapter.Adapter.{Adapter}
 use Rattle.dix_adapter.specs.Carried.{Unsent}
-use Rattle.dix_adapter.specs.Groups.{IsGroup, blocks_in, first_of, label_of}
+use Rattle.dix_adapter.specs.Groups.{IsCarriedGroup, blocks_in, first_of, label_of}
 use Rattle.run_follows.specs.Following.{Becomes, Follows}
-use Rattle.run_follows.specs.Gate.{AllPlaced, BecomesDone, IsAlone, LetsIn, MayMove, Spot, number, ops_of, parts_at, place}
+use Rattle.run_follows.specs.Gate.{AllPlaced, BecomesDone, IsAlone, LetsIn, MayMove, BlockSpot, number, ops_of, parts_at, place}
 use Rattle.run_follows.specs.Pieces.{AllMayMove, all_cut, all_made, with_all}
 use Rattle.run_follows.specs.Sending.{AllGoing, with_fate, with_fates, with_status}
 use Rattle.run_follows.specs.Slots.{Admitted, Carried, Cut, Done, Settled, Status, Waits, parts_of, write_parts}
@@ -78,25 +78,25 @@ begins m n ops opening empty = record {
 
 -- blocks that move on together
 
-abbrev pub IsNotIn : (i k : ℕ) → List Spot → Type 0
+abbrev pub IsNotIn : (i k : ℕ) → List BlockSpot → Type 0
 IsNotIn i k [] = Unit {0}
 IsNotIn i k (s ∷ spots) = (i ≡ number s → k ≡ place s → ⊥) × IsNotIn i k spots
 
-pub kept : (i k : ℕ) (next : Status) (spots : List Spot) (status : ℕ → ℕ → Status) → IsNotIn i k spots → with_all spots next status i k ≡ status i k
+pub kept : (i k : ℕ) (next : Status) (spots : List BlockSpot) (status : ℕ → ℕ → Status) → IsNotIn i k spots → with_all spots next status i k ≡ status i k
 kept i k next [] status h = refl
 kept i k next (s ∷ spots) status h = kept i k next spots (with_status (number s) (place s) next status) h.1 ∙ with_other (number s) (place s) i k next status h.0
 
-not_in : (m : Setting) (n : ℕ) (ops : List Op) (status : ℕ → ℕ → Status) (was : Status) (i k : ℕ) (spots : List Spot) → AllMayMove m n ops status was spots → (HasFallen was → ⊥) → HasFallen (status i k) → IsNotIn i k spots
+not_in : (m : Setting) (n : ℕ) (ops : List Op) (status : ℕ → ℕ → Status) (was : Status) (i k : ℕ) (spots : List BlockSpot) → AllMayMove m n ops status was spots → (HasFallen was → ⊥) → HasFallen (status i k) → IsNotIn i k spots
 not_in m n ops status was i k [] may never f = tt
 not_in m n ops status was i k (s ∷ spots) may never f =
     ((λ p q. never (subst HasFallen (ap (λ j. status j k) p ∙ ap (status (number s)) q ∙ may.1.1.0) f)), not_in m n ops status was i k spots may.1.1.1.1 never f)
 
-all_fallen : (m : Setting) (n : ℕ) (ops : List Op) (falls : Falls) (status : ℕ → ℕ → Status) (was next : Status) (spots : List Spot) → AllMayMove m n ops status was spots → (HasFallen was → ⊥) → AllFallen falls status → AllFallen falls (with_all spots next status)
+all_fallen : (m : Setting) (n : ℕ) (ops : List Op) (falls : Falls) (status : ℕ → ℕ → Status) (was next : Status) (spots : List BlockSpot) → AllMayMove m n ops status was spots → (HasFallen was → ⊥) → AllFallen falls status → AllFallen falls (with_all spots next status)
 all_fallen m n ops falls status was next spots may never h i k =
     if_some (falls (label_at i k)) (HasFallen (with_all spots next status i k))
     (λ left e. let f = some_if (falls (label_at i k)) (HasFallen (status i k)) left e (h i k) in subst HasFallen (sym (kept i k next spots status (not_in m n ops status was i k spots may never f))) f)
 
-all_told : (ops : List Op) (falls : Falls) (next : Status) → ((o : Option (List ℕ)) → forgive o next ≡ next) → (spots : List Spot) (status : ℕ → ℕ → Status) → with_all spots next (forgiven ops falls status) ≡ forgiven ops falls (with_all spots next status)
+all_told : (ops : List Op) (falls : Falls) (next : Status) → ((o : Option (List ℕ)) → forgive o next ≡ next) → (spots : List BlockSpot) (status : ℕ → ℕ → Status) → with_all spots next (forgiven ops falls status) ≡ forgiven ops falls (with_all spots next status)
 all_told ops falls next same [] status = refl
 all_told ops falls next same (s ∷ spots) status =
     ap (with_all spots next) (forgiven_at ops falls (number s) (place s) next next status (same (left_of ops falls (number s) (place s)))) ∙ all_told ops falls next same spots (with_status (number s) (place s) next status)
@@ -105,7 +105,7 @@ module _ (m : Setting) (n : ℕ) (falls : Falls) where
   abbrev over : Setting
   over = over_falls m falls
 
-  may_all : (script ops : List Op) (status : ℕ → ℕ → Status) (was : Status) → ((o : Option (List ℕ)) → forgive o was ≡ was) → (spots : List Spot) → AllMayMove m n ops status was spots → AllMayMove over n ops (forgiven script falls status) was spots
+  may_all : (script ops : List Op) (status : ℕ → ℕ → Status) (was : Status) → ((o : Option (List ℕ)) → forgive o was ≡ was) → (spots : List BlockSpot) → AllMayMove m n ops status was spots → AllMayMove over n ops (forgiven script falls status) was spots
   may_all script ops status was same [] h = tt
   may_all script ops status was same (s ∷ spots) h = (
     h.0,
@@ -118,16 +118,16 @@ module _ (m : Setting) (n : ℕ) (falls : Falls) where
     ),
   )
 
-  made_alike : (spots : List Spot) → all_made over n spots ≡ all_made m n spots
+  made_alike : (spots : List BlockSpot) → all_made over n spots ≡ all_made m n spots
   made_alike [] = refl
   made_alike (s ∷ spots) = ap (λ xs. xs ++ all_made over n spots) (moves_over m (falling falls m.site.device) n s).0 ∙ ap (λ xs. (parts_at m n s).made ++ xs) (made_alike spots)
 
-  cut_alike : (spots : List Spot) → all_cut over n spots ≡ all_cut m n spots
+  cut_alike : (spots : List BlockSpot) → all_cut over n spots ≡ all_cut m n spots
   cut_alike [] = refl
   cut_alike (s ∷ spots) = ap (λ xs. xs ++ all_cut over n spots) (moves_over m (falling falls m.site.device) n s).1.0 ∙ ap (λ xs. (parts_at m n s).cut ++ xs) (cut_alike spots)
 
 module _ (m : Setting) (n : ℕ) (ops : List Op) (opening : State) (status : ℕ → ℕ → Status) (pages : List ℕ) (blocks : List (List ℕ)) (es : List Sent) where
-  pub all_admitted_falling : (spots : List Spot) → AllMayMove m n ops status Waits spots → (f : FollowsFalling m n ops opening status pages blocks es) →
+  pub all_admitted_falling : (spots : List BlockSpot) → AllMayMove m n ops status Waits spots → (f : FollowsFalling m n ops opening status pages blocks es) →
       FollowsFalling m n ops opening (with_all spots Admitted status) (plain act (all_made m n spots) f.after).bytes (plain act (all_made m n spots) f.after).blocks es
   all_admitted_falling spots may f =
       let over = over_falls m f.falls in
@@ -146,7 +146,7 @@ module _ (m : Setting) (n : ℕ) (ops : List Op) (opening : State) (status : ℕ
         sized = f.sized;
       }
 
-  pub all_cut_falling : (spots : List Spot) → AllMayMove m n ops status Admitted spots → (f : FollowsFalling m n ops opening status pages blocks es) →
+  pub all_cut_falling : (spots : List BlockSpot) → AllMayMove m n ops status Admitted spots → (f : FollowsFalling m n ops opening status pages blocks es) →
       FollowsFalling m n ops opening (with_all spots Cut status) (plain act (all_cut m n spots) f.after).bytes (plain act (all_cut m n spots) f.after).blocks es
   all_cut_falling spots may f =
       let over = over_falls m f.falls in
@@ -193,12 +193,12 @@ left_written script falls i k left e = by (writes_of script i) e where
   by true e = refl
   by false e = absurd (false≢true (ap is_some e))
 
-spot_written : (m : Setting) (n : ℕ) (status : ℕ → ℕ → Status) (s : Spot) → MayMove m n status s → writes_of (ops_of s) (number s) ≡ true → IsOf true s.step
+spot_written : (m : Setting) (n : ℕ) (status : ℕ → ℕ → Status) (s : BlockSpot) → MayMove m n status s → writes_of (ops_of s) (number s) ≡ true → IsOf true s.step
 spot_written m n status s may w =
     let kind : is_write s.op ≡ true = sym (ap is_write (op_there s.front s.op s.behind)) ∙ w in
     subst (λ c. IsOf c s.step) kind (of_midst (is_write s.op) s.before s.step s.after (subst (AllOf (is_write s.op)) may.steps (op_of m (number s) s.op)))
 
-module _ (m : Setting) (n : ℕ) (s : Spot) (opening : State) (old new : ℕ → ℕ → Status) (pages : List ℕ) (blocks : List (List ℕ)) (es : List Sent) where
+module _ (m : Setting) (n : ℕ) (s : BlockSpot) (opening : State) (old new : ℕ → ℕ → Status) (pages : List ℕ) (blocks : List (List ℕ)) (es : List Sent) where
   pub settled_falling : (fate : Option Why) → MayMove m n old s → old (number s) (place s) ≡ Carried fate → (f : FollowsFalling m n (ops_of s) opening old pages blocks es) →
       Becomes (number s) (place s) (Settled (first_why fate (get_or (plain_tells act tell (parts_at m n s).settled f.after) 0 silent).why)) old new →
       FollowsFalling m n (ops_of s) opening new (plain act (parts_at m n s).settled f.after).bytes (plain act (parts_at m n s).settled f.after).blocks es
@@ -319,7 +319,7 @@ none_there : (falls : Falls) (i k : ℕ) (left : List ℕ) (bs : List Block) →
 none_there falls i k left [] e n = tt
 none_there falls i k left (b ∷ bs) e n = (not_here falls b i k left n.0 e, none_there falls i k left bs e n.1)
 
-none_going : (m : Setting) (n : ℕ) (ops : List Op) (a : Adapter) (ios : List Io) (logs : ℕ) (falls : Falls) (status : ℕ → ℕ → Status) (bs : List Block) (spots : List Spot) → AllFallen falls status → AllGoing m n ops a ios logs status bs spots → NoneFall falls bs
+none_going : (m : Setting) (n : ℕ) (ops : List Op) (a : Adapter) (ios : List Io) (logs : ℕ) (falls : Falls) (status : ℕ → ℕ → Status) (bs : List Block) (spots : List BlockSpot) → AllFallen falls status → AllGoing m n ops a ios logs status bs spots → NoneFall falls bs
 none_going m n ops a ios logs falls status [] spots f h = tt
 none_going m n ops a ios logs falls status (b ∷ bs) [] f h = absurd h
 none_going m n ops a ios logs falls status (b ∷ bs) (s ∷ spots) f h = (by (falls (label_of b)) (f b.op b.k), none_going m n ops a ios logs falls status bs spots f h.1.1) where
@@ -327,8 +327,8 @@ none_going m n ops a ios logs falls status (b ∷ bs) (s ∷ spots) f h = (by (f
   by None x = refl
   by (Some left) x = absurd (subst HasFallen h.0.is_cut x)
 
-pub held_falling : (m : Setting) (n : ℕ) (ops : List Op) (a : Adapter) (ios : List Io) (req : List Bio) (pool pool' : List (List ℕ)) (fates : List Fate) (opening : State) (status : ℕ → ℕ → Status) (blocks : List (List ℕ)) (es : List Sent) (spots : List Spot) →
-    IsGroup a pool m.size ios req → (first_of req).dir ≡ WriteDir → m.site.faults ≡ a.tamper → Unsent a ios req pool pool' fates → AllGoing m n ops a ios (length opening.logs) status (blocks_in req) spots →
+pub held_falling : (m : Setting) (n : ℕ) (ops : List Op) (a : Adapter) (ios : List Io) (req : List Bio) (pool pool' : List (List ℕ)) (fates : List Fate) (opening : State) (status : ℕ → ℕ → Status) (blocks : List (List ℕ)) (es : List Sent) (spots : List BlockSpot) →
+    IsCarriedGroup a pool m.size ios req → (first_of req).dir ≡ WriteDir → m.site.faults ≡ a.tamper → Unsent a ios req pool pool' fates → AllGoing m n ops a ios (length opening.logs) status (blocks_in req) spots →
     FollowsFalling m n ops opening status (flat pool) blocks es → FollowsFalling m n ops opening (with_fates (blocks_in req) fates status) (flat pool) blocks es
 held_falling m n ops a ios req pool pool' fates opening status blocks es spots g w faults u going f =
     let bs = blocks_in req in

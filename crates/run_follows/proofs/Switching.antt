@@ -22,7 +22,7 @@ use Rattle.whole_run.specs.Steps.{Alters, Reads, Seals, Sets, Shows, Step, Write
 use Rattle.run_laws.specs.ScriptMoves.{all_moves, blocks_from, blocks_of, by_moves, carried_by, fates_of, lands_in, moves_from, own_at, room_of, script_moves, write_moves}
 use Rattle.run_follows.specs.Following.{AllStand, Follows, StandFrom}
 use Rattle.run_follows.specs.Sending.{is_carried}
-use Rattle.run_follows.specs.Slots.{Admitted, Carried, Cut, Done as AllDone, Parts, Settled, Stands, Status, Waits, before_carrying, done_by, parts_of, so_far, write_parts}
+use Rattle.run_follows.specs.Slots.{Admitted, Carried, Cut, Done as AllDone, StepParts, Settled, SlotStands, Status, Waits, before_carrying, done_by, parts_of, so_far, write_parts}
 use Rattle.run_follows.proofs.Runs.{Done, Moves, far_length}
 
 -- moves in pairs: those that are done do the same
@@ -116,7 +116,7 @@ pub record SameFor (one two : Device) (r : Route) : Type 0 where
   pub stores : (frame : List ℕ) → one.stores r frame ≡ two.stores r frame
   pub sends : (stored : List ℕ) → one.sends r stored ≡ two.sends r stored
 
-not_yet : (p : Parts) (status : Status) (n : ℕ) → is_carried status ≡ false → n ≡ done_by p status → n ≤ before_carrying p
+not_yet : (p : StepParts) (status : Status) (n : ℕ) → is_carried status ≡ false → n ≡ done_by p status → n ≤ before_carrying p
 not_yet p Waits n c e = omega (arith, e)
 not_yet p Admitted n c e = omega (arith, e)
 not_yet p Cut n c e = omega (arith, e)
@@ -191,13 +191,13 @@ module _ (m : Setting) (one two : Device) where
       (λ c. not_yet (parts_of (over m one) own fate (Reads b owner to)) status (length here) c e) (λ c. in_same (route m b) at fate (same_label i k b l (t c))))
   step_pairs i k own fate (Alters dev lba change) status here l t e = same_pairs (by_moves (over m one) own fate (Alters dev lba change)).moves here
 
-  step_stands : (own : List ℕ) (fate : ℕ) (step : Step) (status : Status) (here : List ActAnswer) → Stands (parts_of (over m one) own fate step) (by_moves (over m one) own fate step).join status here →
-      Stands (parts_of (over m two) own fate step) (by_moves (over m two) own fate step).join status here
+  step_stands : (own : List ℕ) (fate : ℕ) (step : Step) (status : Status) (here : List ActAnswer) → SlotStands (parts_of (over m one) own fate step) (by_moves (over m one) own fate step).join status here →
+      SlotStands (parts_of (over m two) own fate step) (by_moves (over m two) own fate step).join status here
   step_stands own fate (Sets at values) status here s = record { count = s.count; sent = s.sent; tells = s.tells }
   step_stands own fate (Shows at) status here s = record { count = s.count; sent = s.sent; tells = s.tells }
   step_stands own fate (Seals body tuple app rtag) status here s = record { count = s.count; sent = s.sent; tells = s.tells }
   step_stands own fate (Writes b app body) status here s = by m.mode.dix s where
-    by : (dix : Bool) → Stands (write_parts (over m one) b app body own dix) (λ answers. get_or answers (carried_by m.mode.dix) silent) status here → Stands (write_parts (over m two) b app body own dix) (λ answers. get_or answers (carried_by m.mode.dix) silent) status here
+    by : (dix : Bool) → SlotStands (write_parts (over m one) b app body own dix) (λ answers. get_or answers (carried_by m.mode.dix) silent) status here → SlotStands (write_parts (over m two) b app body own dix) (λ answers. get_or answers (carried_by m.mode.dix) silent) status here
     by true s = record { count = s.count; sent = s.sent; tells = s.tells }
     by false s = record { count = s.count; sent = s.sent; tells = s.tells }
   step_stands own fate (WritesPi b frame) status here s = record { count = s.count; sent = s.sent; tells = s.tells }

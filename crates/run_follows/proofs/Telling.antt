@@ -29,7 +29,7 @@ use Rattle.whole_run.specs.Settings.{Setting}
 use Rattle.run_laws.specs.Records.{came_of, recorded}
 use Rattle.dix_adapter.specs.declared.adapter.Adapter.{Adapter}
 use Rattle.dix_adapter.specs.Carried.{any_bad, frame_len, frame_sent, is_bad, sends}
-use Rattle.dix_adapter.specs.Groups.{IsGroup, IsProtect, blocks_in, first_of, frame_cells, frame_in, route_of, size}
+use Rattle.dix_adapter.specs.Groups.{IsCarriedGroup, IsProtect, blocks_in, first_of, frame_cells, frame_in, route_of, size}
 use Rattle.dix_adapter.specs.Outcomes.{done_of}
 use Rattle.dix_adapter.specs.Ways.{CameIn, RecordedIn, RecordedOut, WentOut, acts_out, blocks_told, fates_of_in, fates_out, frames_in, frames_out, shapes_of, site_of, ways_in, ways_out}
 use Rattle.dix_adapter.proofs.Blocks.{length-in}
@@ -39,7 +39,7 @@ use Rattle.target_answer.proofs.FrameLaws.{frames_length}
 use Rattle.run_follows.specs.OnRecord.{put_each}
 use Rattle.run_follows.proofs.Puts.{InTurn, goes_in, goes_out as went_out, turn}
 use Rattle.run_follows.specs.Following.{Follows}
-use Rattle.run_follows.specs.Gate.{Spot}
+use Rattle.run_follows.specs.Gate.{BlockSpot}
 use Rattle.run_follows.specs.Sending.{AllComeIn, AllGoOut, AllGoing, AllSized, FollowsTold, in_fates, land_all, out_acts, out_fates, with_fates}
 use Rattle.run_follows.specs.Slots.{Status}
 use Rattle.run_follows.proofs.Recording.{arrived, came_length, in_fates_are, lands, out_fates_are}
@@ -181,11 +181,11 @@ last_one (z ∷ xs) x y e = last_one xs x y (ap (λ zs. cut zs) e) where
   cut [] = []
   cut (w ∷ ws) = ws
 
-module _ (m : Setting) (n : ℕ) (ops : List Op) (a : Adapter) (ios : List Io) (req : List Bio) (pool : List (List ℕ)) (us : List Stored) (protect : IsProtect a.protect) (g : IsGroup a pool m.size ios req) (site : m.site ≡ site_of a (shapes_of us)) where
+module _ (m : Setting) (n : ℕ) (ops : List Op) (a : Adapter) (ios : List Io) (req : List Bio) (pool : List (List ℕ)) (us : List Stored) (protect : IsProtect a.protect) (g : IsCarriedGroup a pool m.size ios req) (site : m.site ≡ site_of a (shapes_of us)) where
   abbrev bs : List Block
   bs = blocks_in req
 
-  pub told_out : (fates : List Fate) (old new : RigState) (opening now : State) (status : ℕ → ℕ → Status) (spots : List Spot) → (first_of req).dir ≡ Write → any_bad (map (sends a ios (flat pool)) bs) ≡ false → RecordedOut a ios req (flat pool) fates old new →
+  pub told_out : (fates : List Fate) (old new : RigState) (opening now : State) (status : ℕ → ℕ → Status) (spots : List BlockSpot) → (first_of req).dir ≡ Write → any_bad (map (sends a ios (flat pool)) bs) ≡ false → RecordedOut a ios req (flat pool) fates old new →
       (told : WentOut a ios req (flat pool) us None fates old new) → AllGoing m n ops a ios (length opening.logs) status bs spots → now.bytes ≡ flat pool → now.blocks ≡ blocks_told us → Follows m n ops opening status now (recorded m old.log) →
       FollowsTold m n ops opening (with_fates bs fates status) (flat pool) (blocks_told told.units) new.log
   told_out fates old new opening now status spots w good r told going pages blocks h =
@@ -212,7 +212,7 @@ module _ (m : Setting) (n : ℕ) (ops : List Op) (a : Adapter) (ios : List Io) (
         blocks_are = sent.blocks ∙ ap (λ acts. (plain act acts now).blocks) goes.acts ∙ sym (told.blocks now pages blocks);
       }
 
-  pub told_in : (pool' : List (List ℕ)) (fates : List Fate) (old new : RigState) (opening now : State) (status : ℕ → ℕ → Status) (spots : List Spot) → (first_of req).dir ≡ Read → AllSized m a ios (blocks_told us) (frame_len a ios req) bs →
+  pub told_in : (pool' : List (List ℕ)) (fates : List Fate) (old new : RigState) (opening now : State) (status : ℕ → ℕ → Status) (spots : List BlockSpot) → (first_of req).dir ≡ Read → AllSized m a ios (blocks_told us) (frame_len a ios req) bs →
       RecordedIn a ios req pool pool' fates old new → CameIn a ios req pool pool' us None fates old new → AllGoing m n ops a ios (length opening.logs) status bs spots → now.bytes ≡ flat pool → now.blocks ≡ blocks_told us →
       Follows m n ops opening status now (recorded m old.log) → FollowsTold m n ops opening (with_fates bs fates status) (flat pool') (blocks_told us) new.log
   told_in pool' fates old new opening now status spots w sized r told going pages blocks h =

@@ -10,7 +10,7 @@ use Rattle.whole_run.specs.Settings.{Setting}
 use Rattle.run_laws.specs.BoundRun.{fates, rooms}
 use Rattle.run_laws.specs.ScriptMoves.{own_at}
 use Rattle.run_follows.specs.Following.{Becomes, Follows}
-use Rattle.run_follows.specs.Gate.{Spot, is_over, number, parts_at, place}
+use Rattle.run_follows.specs.Gate.{BlockSpot, is_over, number, parts_at, place}
 use Rattle.run_follows.specs.Pieces.{AllMayMove, IsNoneOf, all_cut, all_made, with_all}
 use Rattle.run_follows.specs.Sending.{with_status}
 use Rattle.run_follows.specs.Slots.{Admitted, Cut, Status, Waits}
@@ -18,11 +18,11 @@ use Rattle.run_follows.proofs.Moving.{admitted, cut}
 use Rattle.run_follows.proofs.Quietly.{cut_quiet, made_quiet}
 use Rattle.run_follows.proofs.Sends.{lets_stay, with_here, with_other}
 
-becomes : (s : Spot) (next : Status) (old : ℕ → ℕ → Status) → Becomes (number s) (place s) next old (with_status (number s) (place s) next old)
+becomes : (s : BlockSpot) (next : Status) (old : ℕ → ℕ → Status) → Becomes (number s) (place s) next old (with_status (number s) (place s) next old)
 becomes s next old = record { here = with_here (number s) (place s) (number s) (place s) next old refl refl; elsewhere = λ j l h. with_other (number s) (place s) j l next old h }
 
 module _ (m : Setting) (n : ℕ) (ops : List Op) where
-  others_may : (s : Spot) (was next : Status) (status : ℕ → ℕ → Status) (spots : List Spot) → is_over was ≡ false → status (number s) (place s) ≡ was → IsNoneOf s spots → AllMayMove m n ops status was spots →
+  others_may : (s : BlockSpot) (was next : Status) (status : ℕ → ℕ → Status) (spots : List BlockSpot) → is_over was ≡ false → status (number s) (place s) ≡ was → IsNoneOf s spots → AllMayMove m n ops status was spots →
       AllMayMove m n ops (with_status (number s) (place s) next status) was spots
   others_may s was next status [] o c e h = tt
   others_may s was next status (t ∷ spots) o c e h =
@@ -38,7 +38,7 @@ module _ (m : Setting) (n : ℕ) (ops : List Op) where
       )
 
   module _ (opening : State) where
-    pub all_admitted : (spots : List Spot) (now : State) (status : ℕ → ℕ → Status) (es : List Sent) → AllMayMove m n ops status Waits spots → Follows m n ops opening status now es →
+    pub all_admitted : (spots : List BlockSpot) (now : State) (status : ℕ → ℕ → Status) (es : List Sent) → AllMayMove m n ops status Waits spots → Follows m n ops opening status now es →
         Follows m n ops opening (with_all spots Admitted status) (plain act (all_made m n spots) now) es
     all_admitted [] now status es may h = h
     all_admitted (s ∷ spots) now status es may h =
@@ -50,7 +50,7 @@ module _ (m : Setting) (n : ℕ) (ops : List Op) where
         subst (λ s'. Follows m n ops opening (with_all spots Admitted new) s' es) (sym (plain_append act run (all_made m n spots) now))
         (all_admitted spots (plain act run now) new es (others_may s Waits Admitted status spots refl may.1.1.0 may.1.1.1.0 may.1.1.1.1) there)
 
-    pub all_are_cut : (spots : List Spot) (now : State) (status : ℕ → ℕ → Status) (es : List Sent) → AllMayMove m n ops status Admitted spots → Follows m n ops opening status now es →
+    pub all_are_cut : (spots : List BlockSpot) (now : State) (status : ℕ → ℕ → Status) (es : List Sent) → AllMayMove m n ops status Admitted spots → Follows m n ops opening status now es →
         Follows m n ops opening (with_all spots Cut status) (plain act (all_cut m n spots) now) es
     all_are_cut [] now status es may h = h
     all_are_cut (s ∷ spots) now status es may h =

@@ -5,7 +5,7 @@ use Rattle.bio_core.specs.declared.fate.Fate.{Fate}
 use Rattle.bio_core.specs.declared.fate.Why.{Why}
 use Rattle.range_gate.specs.Gates.{is_waiting}
 use Rattle.stack_view.specs.Blocks.{times}
-use Rattle.stack_view.specs.Plan.{Plan, Request, request_at}
+use Rattle.stack_view.specs.Plan.{Plan, PlannedOp, request_at}
 use Rattle.stack_view.specs.Sound.{Sound, due, in_commands, in_queues, is_marked, uncut}
 use Rattle.stack_view.specs.View.{OpView, View, op_at}
 use Rattle.stack_view.proofs.Counts.{times-within}
@@ -40,16 +40,16 @@ marked o k e = rw e refl
 pub unmarked : (o : OpView) (k : ℕ) → is_marked o k ≡ 0 → get_or o.settled k false ≡ false
 unmarked o k h = ⊎_elim (λ (e : get_or o.settled k false ≡ true). let m = marked o k e in absurd (omega arith)) (λ (e : get_or o.settled k false ≡ false). e) (cases_Bool (get_or o.settled k false))
 
-due_some : (r : Request) (o : OpView) (k : ℕ) → 1 ≤ due r o k → (is_waiting o.phase ≡ false) × (k < r.count)
+due_some : (r : PlannedOp) (o : OpView) (k : ℕ) → 1 ≤ due r o k → (is_waiting o.phase ≡ false) × (k < r.count)
 due_some r o k h = ⊎_elim (λ (e : is_waiting o.phase ≡ true). let z : due r o k ≡ 0 = rw e refl in absurd (omega arith)) (λ (e : is_waiting o.phase ≡ false). (e, within e)) (cases_Bool (is_waiting o.phase))
   where
     within : is_waiting o.phase ≡ false → k < r.count
     within e = ⊎_elim (λ (l : k < r.count). l) (λ (l : r.count ≤ k). let b = le-ltb k r.count l in let z : due r o k ≡ 0 = rw (e, b) refl in absurd (omega arith)) (cases_lt k r.count)
 
-pub due_waits : (r : Request) (o : OpView) (k : ℕ) → is_waiting o.phase ≡ true → due r o k ≡ 0
+pub due_waits : (r : PlannedOp) (o : OpView) (k : ℕ) → is_waiting o.phase ≡ true → due r o k ≡ 0
 due_waits r o k e = rw e refl
 
-uncut_there : (i : ℕ) (r : Request) (o : OpView) (k : ℕ) → is_waiting o.phase ≡ false → o.cut ≤ k → k < r.count → times i k (uncut i r o) ≡ 1
+uncut_there : (i : ℕ) (r : PlannedOp) (o : OpView) (k : ℕ) → is_waiting o.phase ≡ false → o.cut ≤ k → k < r.count → times i k (uncut i r o) ≡ 1
 uncut_there i r o k e c h = rw e (times-within i k o.cut (r.count - o.cut) c (omega arith))
 
 -- A block of an admitted request that isn't settled, and was cut.

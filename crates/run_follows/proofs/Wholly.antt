@@ -13,7 +13,7 @@ use Rattle.run_laws.specs.OpsApart.{IsPlaced, OneCellEach}
 use Rattle.run_laws.specs.ScriptMoves.{ByMoves, all_moves, at_once, blocks_from, blocks_of, by_moves, own_at}
 use Rattle.run_follows.specs.Following.{Follows, StandFrom}
 use Rattle.run_follows.specs.Gate.{AllPlaced, BecomesDone, IsAlone, LetsIn}
-use Rattle.run_follows.specs.Slots.{Done as AllDone, Stands, Status, Waits, parts_of, so_far, whole_part}
+use Rattle.run_follows.specs.Slots.{Done as AllDone, SlotStands, Status, Waits, parts_of, so_far, whole_part}
 use Rattle.run_follows.proofs.Runs.{AllQuiet, Done, IsQuiet, clear_nothing}
 use Rattle.run_follows.proofs.Standing.{OpTurns, gate_clears, op_turn}
 use Rattle.run_follows.proofs.Moving.{follow_quiet}
@@ -79,7 +79,7 @@ module _ (m : Setting) (from fate : ℕ) where
       let b = by_moves m (own_at from k) (fate + k) step in
       let p = parts_of m (own_at from k) (fate + k) step in
       let one = one_move m (own_at from k) (fate + k) step h.0 in
-      let stands = subst (λ s. Stands p b.join s st.0) (w k) st.1.1.1.0 in
+      let stands = subst (λ s. SlotStands p b.join s st.0) (w k) st.1.1.1.0 in
       let nothing = none_of st.0 stands.count in
       st.1.1.0 ∙ ap (λ here. so_far b.moves here ++ st.1.0) nothing ∙ ap (λ (b : ByMoves). so_far b.moves [] ++ st.1.0) one.moves ∙ ap (λ rest. None ∷ rest) (alone_waits (suc k) steps status st.1.0 h.1 w st.1.1.1.1)
 
@@ -90,10 +90,10 @@ module _ (m : Setting) (from fate : ℕ) where
       let t = tell (act_of m step) s in
       let one = one_move m (own_at from k) (fate + k) step h.0 in
       let rest = all_done (plain_tells act tell (map (act_of m) steps) (act (act_of m step) s)) in
-      let mine : Stands (whole_part (act_of m step)) (at_once (act_of m step)).join (status k) (t ∷ []) =
-      subst (λ x. Stands (whole_part (act_of m step)) (at_once (act_of m step)).join x (t ∷ [])) (sym (w 0 k (omega arith))) (record { count = refl; sent = refl; tells = refl }) in
-      let there : Stands (parts_of m (own_at from k) (fate + k) step) (by_moves m (own_at from k) (fate + k) step).join (status k) (t ∷ []) =
-      subst (λ p. Stands p (by_moves m (own_at from k) (fate + k) step).join (status k) (t ∷ [])) (sym one.parts) (subst (λ (b : ByMoves). Stands (whole_part (act_of m step)) b.join (status k) (t ∷ [])) (sym one.moves) mine) in (
+      let mine : SlotStands (whole_part (act_of m step)) (at_once (act_of m step)).join (status k) (t ∷ []) =
+      subst (λ x. SlotStands (whole_part (act_of m step)) (at_once (act_of m step)).join x (t ∷ [])) (sym (w 0 k (omega arith))) (record { count = refl; sent = refl; tells = refl }) in
+      let there : SlotStands (parts_of m (own_at from k) (fate + k) step) (by_moves m (own_at from k) (fate + k) step).join (status k) (t ∷ []) =
+      subst (λ p. SlotStands p (by_moves m (own_at from k) (fate + k) step).join (status k) (t ∷ [])) (sym one.parts) (subst (λ (b : ByMoves). SlotStands (whole_part (act_of m step)) b.join (status k) (t ∷ [])) (sym one.moves) mine) in (
         t ∷ [],
         (
           rest,

@@ -15,7 +15,7 @@ use Rattle.whole_run.specs.Settings.{Block, Setting, block_of}
 use Rattle.run_laws.specs.FallingReads.{IsReadAs, falling_replies}
 use Rattle.whole_run.specs.ReadsAs.{landing, listed_in, read_op}
 use Rattle.run_laws.specs.StoreFaults.{falling_past, falling_walk, is_lost}
-use Rattle.run_laws.specs.ToldRun.{IsRecordOf}
+use Rattle.run_laws.specs.ToldRun.{IsRecordOfRun}
 use Rattle.run_follows.specs.Falls.{Falls, of_blocks, over_falls, put_really}
 
 -- A stack once all has ended, where store calls failed.
@@ -27,7 +27,7 @@ pub record EndsAsFalling (m : Setting) (n : ℕ) (ops : List Op) (opening : Stat
   pub blocks_are : blocks ≡ (falling_walk m (of_blocks falls) (steps_from m 1 ops) (hidden n opening)).blocks
   pub replies_are : replies ≡ falling_replies m (of_blocks falls) 1 ops (hidden n opening)
   pub told : List Sent
-  pub recorded : IsRecordOf (over_falls m falls) ops (hidden n opening) told
+  pub recorded : IsRecordOfRun (over_falls m falls) ops (hidden n opening) told
   pub on_record : es ≡ put_really m.site falls told []
 
 -- What is listed of block k of a read that follows `before`, by these replies: unless the block is lost, it is the medium, or nothing, and then the last accepted write landed.

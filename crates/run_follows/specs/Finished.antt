@@ -9,7 +9,7 @@ use Rattle.whole_run.specs.ScriptWalk.{reply_of, script_replies, script_walk}
 use Rattle.block_path.specs.Routes.{wire_size}
 use Rattle.whole_run.specs.Settings.{Block, Setting, route}
 use Rattle.whole_run.specs.Steps.{Alters, Reads, Seals, Sets, Shows, Step, Writes, WritesPi, steps_of}
-use Rattle.run_laws.specs.ToldRun.{IsRecordOf, came_by}
+use Rattle.run_laws.specs.ToldRun.{IsRecordOfRun, came_by}
 use Rattle.run_follows.specs.Slots.{Admitted, Carried, Cut, Done, Settled, Status, Waits}
 
 -- A stack once all has ended, and what it replies.
@@ -61,7 +61,7 @@ replies_of m i (op ∷ ops) status = reply_of (m.fails i) op (answers_of 0 (step
 pub record EndsAsWalk (m : Setting) (n : ℕ) (ops : List Op) (opening : State) (status : ℕ → ℕ → Status) (now : State) (es : List Sent) : Type 0 where
   pub cells : hidden n now ≡ script_walk m ops (hidden n opening)
   pub replies : replies_of m 1 ops status ≡ script_replies m ops (hidden n opening)
-  pub recorded : IsRecordOf m ops (hidden n opening) es
+  pub recorded : IsRecordOfRun m ops (hidden n opening) es
 
 -- Each frame that came of a block has the size of the wire's frames.
 abbrev pub FramesFit : Setting → List Sent → Type 0

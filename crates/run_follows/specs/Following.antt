@@ -7,7 +7,7 @@ use Rattle.whole_run.specs.Settings.{Setting}
 use Rattle.whole_run.specs.Steps.{Step, steps_of}
 use Rattle.run_laws.specs.Records.{Mixed, put_sent, writes_at}
 use Rattle.run_laws.specs.ScriptMoves.{by_moves, fates_of, own_at, room_of, script_moves}
-use Rattle.run_follows.specs.Slots.{Stands, Status, parts_of, so_far}
+use Rattle.run_follows.specs.Slots.{SlotStands, Status, parts_of, so_far}
 
 -- A stack between two steps follows the walk.
 
@@ -18,7 +18,7 @@ StandFrom m from fate k (step ∷ steps) status done =
     let b = by_moves m (own_at from k) (fate + k) step in
     (here : List ActAnswer)
     × ((rest : List (Option ActAnswer))
-    × ((done ≡ so_far b.moves here ++ rest) × (Stands (parts_of m (own_at from k) (fate + k) step) b.join (status k) here × StandFrom m from fate (suc k) steps status rest)))
+    × ((done ≡ so_far b.moves here ++ rest) × (SlotStands (parts_of m (own_at from k) (fate + k) step) b.join (status k) here × StandFrom m from fate (suc k) steps status rest)))
 
 -- the blocks of the ops from op i on stand so
 abbrev pub AllStand : Setting → (from fate i : ℕ) → List Op → (ℕ → ℕ → Status) → List (Option ActAnswer) → Type 0

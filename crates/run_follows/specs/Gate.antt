@@ -10,7 +10,7 @@ use Rattle.whole_run.specs.Steps.{Step, steps_of}
 use Rattle.run_laws.specs.BoundRun.{fates, rooms}
 use Rattle.run_laws.specs.OpsApart.{IsPlaced, IsSpread, OneCellEach, OpsConflict}
 use Rattle.run_laws.specs.ScriptMoves.{own_at}
-use Rattle.run_follows.specs.Slots.{Admitted, Carried, Cut, Done, Parts, Settled, Status, Waits, parts_of}
+use Rattle.run_follows.specs.Slots.{Admitted, Carried, Cut, Done, StepParts, Settled, Status, Waits, parts_of}
 
 -- What the gate keeps: an op goes only where no earlier op that it conflicts with is still on its way.
 
@@ -38,7 +38,7 @@ AllPlaced m n [] = Unit {0}
 AllPlaced m n (op ∷ ops) = IsPlaced m n op × AllPlaced m n ops
 
 -- a block of a script: its op, with the ops in front of it and behind, and its step among those of the op
-pub record Spot : Type 0 where
+pub record BlockSpot : Type 0 where
   pub front : List Op
   pub op : Op
   pub behind : List Op
@@ -46,22 +46,22 @@ pub record Spot : Type 0 where
   pub step : Step
   pub after : List Step
 
-abbrev pub ops_of : Spot → List Op
+abbrev pub ops_of : BlockSpot → List Op
 ops_of s = s.front ++ (s.op ∷ s.behind)
 
 -- the op's number, from 1, and the block's place in it, from 0
-abbrev pub number : Spot → ℕ
+abbrev pub number : BlockSpot → ℕ
 number s = suc (length s.front)
 
-abbrev pub place : Spot → ℕ
+abbrev pub place : BlockSpot → ℕ
 place s = length s.before
 
 -- its moves, in a script with n bytes of pages
-abbrev pub parts_at : Setting → (n : ℕ) → Spot → Parts
+abbrev pub parts_at : Setting → (n : ℕ) → BlockSpot → StepParts
 parts_at m n s = parts_of m (own_at (n + rooms m s.front) (place s)) (fates s.front + place s) s.step
 
 -- The block may move: its op was let in, and its blocks are spread.
-pub record MayMove (m : Setting) (n : ℕ) (status : ℕ → ℕ → Status) (s : Spot) : Type 0 where
+pub record MayMove (m : Setting) (n : ℕ) (status : ℕ → ℕ → Status) (s : BlockSpot) : Type 0 where
   pub one : OneCellEach m
   pub placed : AllPlaced m n s.front
   pub mine : IsPlaced m n s.op

@@ -26,7 +26,7 @@ use Rattle.dix_adapter.specs.Carried.{arrives, carried, land}
 use Rattle.dix_adapter.specs.Groups.{frame_cells, frame_in, route_of}
 use Rattle.run_follows.specs.OnRecord.{put_each}
 use Rattle.run_follows.specs.Following.{Follows}
-use Rattle.run_follows.specs.Gate.{MayMove, Spot, number, ops_of, place}
+use Rattle.run_follows.specs.Gate.{MayMove, BlockSpot, number, ops_of, place}
 use Rattle.run_follows.specs.Slots.{Admitted, Carried, Cut, Done, Settled, Status, Waits}
 
 -- A group of blocks that is sent by one command.
@@ -74,11 +74,11 @@ carriage_of m own (WritesPi b frame) = Some (record { route = route m b; dir = W
 carriage_of m own (Reads b owner to) = Some (record { route = route m b; dir = Read; frame = lands_in owner m.mode.dix to own })
 carriage_of m own (Alters dev lba change) = None
 
-abbrev pub carriage_at : Setting → (n : ℕ) → Spot → Option Carriage
+abbrev pub carriage_at : Setting → (n : ℕ) → BlockSpot → Option Carriage
 carriage_at m n s = carriage_of m (own_at (n + rooms m s.front) (place s)) s.step
 
 -- A block of the group is this block of the script, is carried as the adapter carries it, and was cut and not yet sent.
-pub record IsGoing (m : Setting) (n : ℕ) (ops : List Op) (a : Adapter) (ios : List Io) (logs : ℕ) (status : ℕ → ℕ → Status) (b : Block) (s : Spot) : Type 0 where
+pub record IsGoing (m : Setting) (n : ℕ) (ops : List Op) (a : Adapter) (ios : List Io) (logs : ℕ) (status : ℕ → ℕ → Status) (b : Block) (s : BlockSpot) : Type 0 where
   pub script : ops_of s ≡ ops
   pub number : number s ≡ b.op
   pub place : place s ≡ b.k
@@ -93,7 +93,7 @@ IsElsewhere b [] = Unit {0}
 IsElsewhere b (c ∷ cs) = (c.op ≡ b.op → c.k ≡ b.k → ⊥) × IsElsewhere b cs
 
 -- no two blocks of a group are one
-abbrev pub AllGoing : Setting → (n : ℕ) → List Op → Adapter → List Io → (logs : ℕ) → (ℕ → ℕ → Status) → List Block → List Spot → Type 0
+abbrev pub AllGoing : Setting → (n : ℕ) → List Op → Adapter → List Io → (logs : ℕ) → (ℕ → ℕ → Status) → List Block → List BlockSpot → Type 0
 AllGoing m n ops a ios logs status [] spots = Unit {0}
 AllGoing m n ops a ios logs status (b ∷ bs) [] = ⊥
 AllGoing m n ops a ios logs status (b ∷ bs) (s ∷ spots) = IsGoing m n ops a ios logs status b s × (IsElsewhere b bs × AllGoing m n ops a ios logs status bs spots)

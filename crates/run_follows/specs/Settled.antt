@@ -70,31 +70,31 @@ Settled Write mode ty io k lba fate old new result = MappedBack io.pi ty k lba o
 -- ---- the blocks of commands, in turn
 
 -- The pages, and what became of each block of all requests.
-pub record Kept : Type 0 where
+pub record KeptFates : Type 0 where
   pub pages : List (List ℕ)
   pub held : List Fate
 
-pub record IsSettled (mode : Mode) (ty : PiType) (io : Io) (start k lba : ℕ) (fate : Fate) (old new : Kept) : Type 0 where
+pub record IsSettled (mode : Mode) (ty : PiType) (io : Io) (start k lba : ℕ) (fate : Fate) (old new : KeptFates) : Type 0 where
   pub result : Fate
   pub settled : Settled io.dir mode ty io k lba fate old.pages new.pages result
   pub held : new.held ≡ set old.held (start + k) result
 
 -- a block, unless it is untouched; the blocks of its request begin at this place
-abbrev pub OneSettled : Mode → PiType → Io → (start k lba : ℕ) → Fate → (old new : Kept) → Type 0
+abbrev pub OneSettled : Mode → PiType → Io → (start k lba : ℕ) → Fate → (old new : KeptFates) → Type 0
 OneSettled mode ty io start k lba Good old new = IsSettled mode ty io start k lba Good old new
 OneSettled mode ty io start k lba (Bad why) old new = IsSettled mode ty io start k lba (Bad why) old new
 OneSettled mode ty io start k lba Untouched old new = new ≡ old
 
 -- the first n blocks of a bio, whose fates begin at this place
-abbrev pub BioSettled : Mode → PiType → Io → (start : ℕ) → Bio → List Fate → (at n : ℕ) → (old new : Kept) → Type 0
+abbrev pub BioSettled : Mode → PiType → Io → (start : ℕ) → Bio → List Fate → (at n : ℕ) → (old new : KeptFates) → Type 0
 BioSettled mode ty io start bio fates at zero old new = new ≡ old
 BioSettled mode ty io start bio fates at (suc n) old new =
-    (between : Kept) × BioSettled mode ty io start bio fates at n old between × OneSettled mode ty io start (bio.k + n) (bio.lba + n) (get_or fates (at + n) Good) between new
+    (between : KeptFates) × BioSettled mode ty io start bio fates at n old between × OneSettled mode ty io start (bio.k + n) (bio.lba + n) (get_or fates (at + n) Good) between new
 
 -- the first n bios of a command
-abbrev pub AllSettled : Mode → PiType → List Io → (starts : List ℕ) → List Bio → List Fate → (n : ℕ) → (old new : Kept) → Type 0
+abbrev pub AllSettled : Mode → PiType → List Io → (starts : List ℕ) → List Bio → List Fate → (n : ℕ) → (old new : KeptFates) → Type 0
 AllSettled mode ty ios starts bios fates zero old new = new ≡ old
 AllSettled mode ty ios starts bios fates (suc n) old new =
     let bio = get_or bios n no_bio in
-    (between : Kept) × AllSettled mode ty ios starts bios fates n old between
+    (between : KeptFates) × AllSettled mode ty ios starts bios fates n old between
     × BioSettled mode ty (io_at ios (bio.op - 1)) (get_or starts (bio.op - 1) 0) bio fates (size (take n bios)) bio.count between new

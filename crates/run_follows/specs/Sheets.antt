@@ -4,14 +4,14 @@ use Rattle.bio_core.specs.declared.request.Dir.TheVariants.{Read}
 use Rattle.bio_core.specs.declared.request.Io.{Io}
 use Rattle.bio_core.specs.Bios.{HasTuplesFor, data_segs, tuple_segs}
 use Rattle.range_gate.specs.declared.footprint.Footprint.{Footprint}
-use Rattle.range_gate.specs.Prints.{Kept, chosen, clash}
+use Rattle.range_gate.specs.Prints.{KeptPrint, chosen, clash}
 use Rattle.merge_queue.specs.declared.limits.Limits.{Limits}
 use Rattle.volume_table.specs.Tables.{Table}
 use Rattle.volume_table.specs.Places.{place_in, run_in, volume_len}
 use Rattle.stack_ops.specs.declared.op.Op.{Op}
 use Rattle.stack_ops.specs.declared.op.Op.TheVariants.{Wait}
 use Rattle.stack_ops.specs.Footprints.{footprint}
-use Rattle.stack_view.specs.Plan.{Plan, Place, Request}
+use Rattle.stack_view.specs.Plan.{Plan, Place, PlannedOp}
 use Rattle.stack_steps.specs.Fine.{Fine}
 
 -- a request of no blocks
@@ -24,7 +24,7 @@ io_at ios i = get_or ios i no_io
 abbrev pub op_in : List Op → ℕ → Op
 op_in ops i = get_or ops i Wait
 
-abbrev pub request_in : Io → Request
+abbrev pub request_in : Io → PlannedOp
 request_in io = record { dir = io.dir; first = io.first; count = io.count }
 
 -- what each op touches, these being shifted
@@ -36,7 +36,7 @@ prints_of (op ∷ ops) (b ∷ bs) = footprint op b ∷ prints_of ops bs
 abbrev pub no_print : Footprint
 no_print = footprint Wait false
 
-abbrev pub layout_of : Footprint → Kept
+abbrev pub layout_of : Footprint → KeptPrint
 layout_of f = record { alone = f.alone; blocks = f.blocks; reads = chosen false f.bytes; writes = chosen true f.bytes }
 
 -- whether two footprints conflict

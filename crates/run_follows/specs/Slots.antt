@@ -22,20 +22,20 @@ pub data Status : Type 0 where
   Done : (shown : List ℕ) → Status
 
 -- A step's moves by what does them: the admission of its op, its cut, the sending that carries it, and its completion.
-pub record Parts : Type 0 where
+pub record StepParts : Type 0 where
   pub made : List (Act ActAnswer)
   pub cut : List (Act ActAnswer)
   pub carrying : Act ActAnswer
   pub settled : List (Act ActAnswer)
 
-abbrev pub moves_in : Parts → List (Act ActAnswer)
+abbrev pub moves_in : StepParts → List (Act ActAnswer)
 moves_in p = p.made ++ (p.cut ++ (p.carrying ∷ p.settled))
 
 -- done at once
-abbrev pub whole_part : Act ActAnswer → Parts
+abbrev pub whole_part : Act ActAnswer → StepParts
 whole_part a = record { made = []; cut = []; carrying = a; settled = [] }
 
-abbrev pub write_parts : Setting → Block → (app : ℕ) → (body own : List ℕ) → (dix : Bool) → Parts
+abbrev pub write_parts : Setting → Block → (app : ℕ) → (body own : List ℕ) → (dix : Bool) → StepParts
 write_parts m b app body own true = record {
   made = make_tuple (route m b) app body own ∷ [];
   cut = map_out (route m b) own ∷ [];
@@ -45,7 +45,7 @@ write_parts m b app body own true = record {
 write_parts m b app body own false = whole_part (carry_out m.site (route m b) body)
 
 -- the parts of a step, with the cells of its block's own tuple, and the cell of what is found
-abbrev pub parts_of : Setting → (own : List ℕ) → (fate : ℕ) → Step → Parts
+abbrev pub parts_of : Setting → (own : List ℕ) → (fate : ℕ) → Step → StepParts
 parts_of m own fate (Sets at values) = whole_part (act_of m (Sets at values))
 parts_of m own fate (Shows at) = whole_part (act_of m (Shows at))
 parts_of m own fate (Seals body tuple app rtag) = whole_part (act_of m (Seals body tuple app rtag))
@@ -65,11 +65,11 @@ parts_of m own fate (Reads b owner to) = record {
 parts_of m own fate (Alters dev lba change) = whole_part (act_of m (Alters dev lba change))
 
 -- how many moves come before the one that carries
-abbrev pub before_carrying : Parts → ℕ
+abbrev pub before_carrying : StepParts → ℕ
 before_carrying p = length p.made + length p.cut
 
 -- how many are done
-abbrev pub done_by : Parts → Status → ℕ
+abbrev pub done_by : StepParts → Status → ℕ
 done_by p Waits = 0
 done_by p Admitted = length p.made
 done_by p Cut = before_carrying p
@@ -87,7 +87,7 @@ Tells (Settled why) carried joined = joined.why ≡ why
 Tells (Done shown) carried joined = joined.shown ≡ shown
 
 -- So many moves have answered, only the one that carries put something on record, and what is known is so.
-pub record Stands (p : Parts) (join : List ActAnswer → ActAnswer) (status : Status) (answers : List ActAnswer) : Type 0 where
+pub record SlotStands (p : StepParts) (join : List ActAnswer → ActAnswer) (status : Status) (answers : List ActAnswer) : Type 0 where
   pub count : length answers ≡ done_by p status
   pub sent : sents answers ≡ put_sent (get_or answers (before_carrying p) silent).sent []
   pub tells : Tells status (get_or answers (before_carrying p) silent) (join answers)

@@ -4,7 +4,7 @@ use Rattle.stack_ops.specs.declared.op.Op.{Op}
 use Rattle.stack_ops.specs.declared.op.Op.TheVariants.{Wait}
 use Rattle.whole_run.specs.Settings.{Setting}
 use Rattle.whole_run.specs.Steps.{Alters, Reads, Seals, Sets, Shows, Step, Writes, WritesPi, steps_of}
-use Rattle.run_follows.specs.Gate.{Spot}
+use Rattle.run_follows.specs.Gate.{BlockSpot}
 
 abbrev pub op_in : List Op → ℕ → Op
 op_in ops i = get_or ops i Wait
@@ -20,11 +20,11 @@ steps_in m ops i = steps_of m (suc i) (op_in ops i)
 abbrev pub step_in : Setting → List Op → (i k : ℕ) → Step
 step_in m ops i k = get_or (steps_in m ops i) k no_step
 
-abbrev pub spot_at : Setting → List Op → (i k : ℕ) → Spot
+abbrev pub spot_at : Setting → List Op → (i k : ℕ) → BlockSpot
 spot_at m ops i k = record { front = take i ops; op = op_in ops i; behind = drop (suc i) ops; before = take k (steps_in m ops i); step = step_in m ops i k; after = drop (suc k) (steps_in m ops i) }
 
 -- n blocks of op i, from block k on
-abbrev pub spots_from : Setting → List Op → (i k n : ℕ) → List Spot
+abbrev pub spots_from : Setting → List Op → (i k n : ℕ) → List BlockSpot
 spots_from m ops i k zero = []
 spots_from m ops i k (suc n) = spot_at m ops i k ∷ spots_from m ops i (suc k) n
 

@@ -14,9 +14,9 @@ ghost use Rattle.whole_run.specs.Settings.{Setting};
 ghost use Rattle.run_laws.specs.Records.{recorded};
 ghost use Rattle.dix_adapter.specs.declared.adapter.Adapter.{Adapter as AnyAdapter};
 ghost use Rattle.dix_adapter.specs.Carried.{any_bad, frame_len, sends};
-ghost use Rattle.dix_adapter.specs.Groups.{IsGroup, IsProtect, blocks_in, first_of};
+ghost use Rattle.dix_adapter.specs.Groups.{IsCarriedGroup, IsProtect, blocks_in, first_of};
 ghost use Rattle.dix_adapter.specs.Ways.{CameIn, RecordedIn, RecordedOut, WentOut, blocks_told, shapes_of, site_of};
-ghost use Rattle.run_follows.specs.Gate.{Spot};
+ghost use Rattle.run_follows.specs.Gate.{BlockSpot};
 ghost use Rattle.run_follows.specs.Sending.{AllGoing, AllSized, NoneBefore, with_fates};
 ghost use Rattle.run_follows.specs.Slots.{Status};
 ghost use Rattle.run_follows.specs.FollowsFalling.{FollowsFalling};
@@ -28,16 +28,16 @@ ghost use Rattle.rig_api.specs.State.{RigState};
 pub fn a_falling_command_is_sent()
     ensures out { (m : Setting) (n : ℕ) (ops : List AnyOp) (a : AnyAdapter) (ios : List AnyIo) (req : List AnyBio) (pool : List (List ℕ)) (us : List Stored) (stop : Option Stop)
         (fates : List AnyFate) (old new : RigState)
-        (opening : State) (status : ℕ → ℕ → Status) (spots : List Spot)
-        → IsProtect a.protect → IsGroup a pool m.size ios req → (first_of req).dir ≡ Write → any_bad (map (sends a ios (flat pool)) (blocks_in req)) ≡ false → m.site ≡ site_of a (shapes_of us)
+        (opening : State) (status : ℕ → ℕ → Status) (spots : List BlockSpot)
+        → IsProtect a.protect → IsCarriedGroup a pool m.size ios req → (first_of req).dir ≡ Write → any_bad (map (sends a ios (flat pool)) (blocks_in req)) ≡ false → m.site ≡ site_of a (shapes_of us)
         → RecordedOut a ios req (flat pool) fates old new → (w : WentOut a ios req (flat pool) us stop fates old new) → IfSome stop (λ s. length s.left ≡ stored_size m.ty m.size)
         → AllGoing m n ops a ios (length opening.logs) status (blocks_in req) spots → NoneBefore status (recorded m old.log)
         → FollowsFalling m n ops opening status (flat pool) (blocks_told us) (recorded m old.log)
         → FollowsFalling m n ops opening (with_fates (blocks_in req) fates status) (flat pool) (blocks_told w.units) (recorded m new.log) }
     ensures inward { (m : Setting) (n : ℕ) (ops : List AnyOp) (a : AnyAdapter) (ios : List AnyIo) (req : List AnyBio) (pool pool' : List (List ℕ)) (us : List Stored) (stop : Option Stop)
         (fates : List AnyFate) (old new : RigState)
-        (opening : State) (status : ℕ → ℕ → Status) (spots : List Spot)
-        → IsProtect a.protect → IsGroup a pool m.size ios req → (first_of req).dir ≡ Read → m.site ≡ site_of a (shapes_of us)
+        (opening : State) (status : ℕ → ℕ → Status) (spots : List BlockSpot)
+        → IsProtect a.protect → IsCarriedGroup a pool m.size ios req → (first_of req).dir ≡ Read → m.site ≡ site_of a (shapes_of us)
         → AllSized m a ios (blocks_told us) (frame_len a ios req) (blocks_in req)
         → RecordedIn a ios req pool pool' fates old new → CameIn a ios req pool pool' us stop fates old new → IfSome stop (λ s. length s.left ≡ stored_size m.ty m.size)
         → AllGoing m n ops a ios (length opening.logs) status (blocks_in req) spots → NoneBefore status (recorded m old.log)

@@ -21,9 +21,9 @@ ghost use Rattle.whole_run.specs.Settings.{Setting};
 ghost use Rattle.run_laws.specs.OpsApart.{IsPlaced, OneCellEach};
 ghost use Rattle.dix_adapter.specs.declared.adapter.Adapter.{Adapter as AnyAdapter};
 ghost use Rattle.dix_adapter.specs.Carried.{Unsent};
-ghost use Rattle.dix_adapter.specs.Groups.{IsGroup, blocks_in, first_of};
+ghost use Rattle.dix_adapter.specs.Groups.{IsCarriedGroup, blocks_in, first_of};
 ghost use Rattle.run_follows.specs.Following.{Becomes};
-ghost use Rattle.run_follows.specs.Gate.{AllPlaced, BecomesDone, IsAlone, LetsIn, MayMove, Spot, number, ops_of, parts_at, place};
+ghost use Rattle.run_follows.specs.Gate.{AllPlaced, BecomesDone, IsAlone, LetsIn, MayMove, BlockSpot, number, ops_of, parts_at, place};
 ghost use Rattle.run_follows.specs.Pieces.{AllMayMove, all_cut, all_made, with_all};
 ghost use Rattle.run_follows.specs.Sending.{AllGoing, with_fates};
 ghost use Rattle.run_follows.specs.Slots.{Admitted, Carried, Cut, Settled, Status, Waits};
@@ -37,11 +37,11 @@ pub fn a_falling_stack_begins()
 
 /// The blocks of an op are admitted, and those of a piece are cut.
 pub fn some_blocks_move_on_where_calls_fail()
-    ensures admitted { (m : Setting) (n : ℕ) (ops : List AnyOp) (opening : State) (status : ℕ → ℕ → Status) (pages : List ℕ) (blocks : List (List ℕ)) (es : List Sent) (spots : List Spot)
+    ensures admitted { (m : Setting) (n : ℕ) (ops : List AnyOp) (opening : State) (status : ℕ → ℕ → Status) (pages : List ℕ) (blocks : List (List ℕ)) (es : List Sent) (spots : List BlockSpot)
         → AllMayMove m n ops status Waits spots
         → (f : FollowsFalling m n ops opening status pages blocks es) → let after = plain act (all_made m n spots) f.after in
         FollowsFalling m n ops opening (with_all spots Admitted status) after.bytes after.blocks es }
-    ensures cut { (m : Setting) (n : ℕ) (ops : List AnyOp) (opening : State) (status : ℕ → ℕ → Status) (pages : List ℕ) (blocks : List (List ℕ)) (es : List Sent) (spots : List Spot)
+    ensures cut { (m : Setting) (n : ℕ) (ops : List AnyOp) (opening : State) (status : ℕ → ℕ → Status) (pages : List ℕ) (blocks : List (List ℕ)) (es : List Sent) (spots : List BlockSpot)
         → AllMayMove m n ops status Admitted spots
         → (f : FollowsFalling m n ops opening status pages blocks es) → let after = plain act (all_cut m n spots) f.after in
         FollowsFalling m n ops opening (with_all spots Cut status) after.bytes after.blocks es }
@@ -50,7 +50,7 @@ pub fn some_blocks_move_on_where_calls_fail()
 /// A command is completed: a block is listed with what was found when it was carried, as one whose store call failed is
 /// for the medium, or else with what its owner finds.
 pub fn a_block_is_settled_where_calls_fail()
-    ensures { (m : Setting) (n : ℕ) (s : Spot) (opening : State) (old new : ℕ → ℕ → Status) (pages : List ℕ) (blocks : List (List ℕ)) (es : List Sent) (fate : Option AnyWhy) → MayMove m n old s
+    ensures { (m : Setting) (n : ℕ) (s : BlockSpot) (opening : State) (old new : ℕ → ℕ → Status) (pages : List ℕ) (blocks : List (List ℕ)) (es : List Sent) (fate : Option AnyWhy) → MayMove m n old s
         → old (number s) (place s) ≡ Carried fate → (f : FollowsFalling m n (ops_of s) opening old pages blocks es)
         → Becomes (number s) (place s) (Settled (first_why fate (get_or (plain_tells act tell (parts_at m n s).settled f.after) 0 silent).why)) old new
         → let after = plain act (parts_at m n s).settled f.after in FollowsFalling m n (ops_of s) opening new after.bytes after.blocks es }
@@ -70,7 +70,7 @@ pub fn a_write_is_held_back_where_calls_fail()
     ensures { (m : Setting) (n : ℕ) (ops : List AnyOp) (a : AnyAdapter) (ios : List AnyIo) (req : List AnyBio) (pool pool' : List (List ℕ)) (fates : List AnyFate) (opening : State)
         (status : ℕ → ℕ → Status)
         (blocks : List (List ℕ)) (es : List Sent) (spots : List Spot)
-        → IsGroup a pool m.size ios req → (first_of req).dir ≡ Write → m.site.faults ≡ a.tamper → Unsent a ios req pool pool' fates
+        → IsCarriedGroup a pool m.size ios req → (first_of req).dir ≡ Write → m.site.faults ≡ a.tamper → Unsent a ios req pool pool' fates
         → AllGoing m n ops a ios (length opening.logs) status (blocks_in req) spots → FollowsFalling m n ops opening status (flat pool) blocks es
         → FollowsFalling m n ops opening (with_fates (blocks_in req) fates status) (flat pool) blocks es }
 {}

@@ -10,7 +10,7 @@ ghost use Rattle.target_answer.specs.Frames.{frames_of};
 ghost use Rattle.whole_run.specs.Settings.{Setting};
 ghost use Rattle.dix_adapter.specs.declared.adapter.Adapter.{Adapter as AnyAdapter};
 ghost use Rattle.dix_adapter.specs.Carried.{any_bad, frame_len, frame_sent, sends};
-ghost use Rattle.dix_adapter.specs.Groups.{IsGroup, IsProtect, blocks_in, first_of, size};
+ghost use Rattle.dix_adapter.specs.Groups.{IsCarriedGroup, IsProtect, blocks_in, first_of, size};
 ghost use Rattle.dix_adapter.specs.Outcomes.{done_of};
 ghost use Rattle.dix_adapter.specs.Ways.{RecordedIn, RecordedOut};
 ghost use Rattle.run_follows.specs.OnRecord.{GoesOnRecord};
@@ -21,11 +21,11 @@ ghost use Rattle.rig_api.specs.State.{RigState};
 /// the answer that it is listed with. This is over any rig.
 pub fn a_carried_group_goes_on_record()
     ensures out { (m : Setting) (a : AnyAdapter) (ios : List AnyIo) (req : List AnyBio) (pool : List (List ℕ)) (fates : List AnyFate) (old new : RigState)
-        → IsProtect a.protect → IsGroup a pool m.size ios req → (first_of req).dir ≡ Write → any_bad (map (sends a ios (flat pool)) (blocks_in req)) ≡ false
+        → IsProtect a.protect → IsCarriedGroup a pool m.size ios req → (first_of req).dir ≡ Write → any_bad (map (sends a ios (flat pool)) (blocks_in req)) ≡ false
         → (r : RecordedOut a ios req (flat pool) fates old new)
         → GoesOnRecord m req r.entry.what.outcome (take (done_of (size req) r.entry.what.outcome) (map frame_sent (map (sends a ios (flat pool)) (blocks_in req)))) old.log new.log }
     ensures inward { (m : Setting) (a : AnyAdapter) (ios : List AnyIo) (req : List AnyBio) (pool pool' : List (List ℕ)) (fates : List AnyFate) (old new : RigState)
-        → IsProtect a.protect → IsGroup a pool m.size ios req → (first_of req).dir ≡ Read
+        → IsProtect a.protect → IsCarriedGroup a pool m.size ios req → (first_of req).dir ≡ Read
         → (r : RecordedIn a ios req pool pool' fates old new)
         → GoesOnRecord m req r.entry.what.outcome (frames_of (frame_len a ios req) (done_of (size req) r.entry.what.outcome) r.entry.moved) old.log new.log }
 {}

@@ -8,7 +8,7 @@ use Rattle.stack_ops.specs.declared.op.Op.TheVariants.{Fetch, FetchPi, Fill, Ove
 use Rattle.stack_ops.specs.declared.reply.Reply.{Reply}
 use Rattle.stack_ops.specs.declared.reply.Reply.TheVariants.{Silent}
 use Rattle.block_path.specs.Acts.{Act, State, act, tell}
-use Rattle.block_path.specs.Blocks.{ActAnswer, Asked, Sent, silent}
+use Rattle.block_path.specs.Blocks.{ActAnswer, AskedBlock, Sent, silent}
 use Rattle.block_path.specs.Serial.{plain, plain_tells}
 use Rattle.block_path.proofs.InTurn.{plain_append}
 use Rattle.whole_run.specs.ScriptWalk.{act_of, acts_from, acts_of, bad_from, replies_from, reply_of, request_reply, script_replies, shown_reply, whole_or_bad}
@@ -20,7 +20,7 @@ use Rattle.whole_run.proofs.InSteps.{is_listed}
 use Rattle.run_laws.specs.BackedRun.{Belongs, HasEnd, HasEntry, IsBacked, IsFound, IsInTurn, IsListedAs, OfRead, OfRequest, Owns, PassesIn}
 use Rattle.run_laws.specs.Records.{Mixed, put_sent, sents}
 use Rattle.run_laws.specs.TakenWalk.{taken_act, taken_acts, taken_from, taken_replies, taken_reply}
-use Rattle.run_laws.specs.ToldRun.{IsRecordOf, told}
+use Rattle.run_laws.specs.ToldRun.{IsRecordOfRun, told}
 use Rattle.run_laws.proofs.Labelled.{Filed, Proper, each_first, each_other, filed_in, script_lined, tells_append}
 use Rattle.run_laws.proofs.Mirrors.{Fine, Mirror, SaysOf, mirrored}
 
@@ -202,7 +202,7 @@ module _ (m : Setting) (es : List Sent) where
   owner_of e [] ts l p k = absurd l
   owner_of e (x ∷ xs) [] l p k = absurd k
   owner_of e (x ∷ xs) (t ∷ ts) l p k = by x.sent l p.0 (λ q. owner_of e xs ts q p.1 k.1) where
-    by : (s : Option Sent) → Lies e (put_sent s (sents xs)) → IfSome s (λ e. (b : Asked) × ((x.of ≡ Some b) × Owns e b)) → (Lies e (sents xs) → Belongs ts e) → Belongs (t ∷ ts) e
+    by : (s : Option Sent) → Lies e (put_sent s (sents xs)) → IfSome s (λ e. (b : AskedBlock) × ((x.of ≡ Some b) × Owns e b)) → (Lies e (sents xs) → Belongs ts e) → Belongs (t ∷ ts) e
     by None l p rest = inr (rest l)
     by (Some y) l p rest = elim l [ inl q ↦ inl (p.0, (k.0.of ∙ p.1.0, subst (λ z. Owns z p.0) (sym q) p.1.1)) | inr q ↦ inr (rest q) ]
 
@@ -211,7 +211,7 @@ module _ (m : Setting) (es : List Sent) where
   each_sent P (e ∷ xs) h = (h e (inl refl), each_sent P xs (λ x l. h x (inr l)))
 
 -- The walk over what stands on record, with its replies: they are backed.
-pub backs : (m : Setting) (ops : List Op) (opening : State) (es : List Sent) → IsRecordOf (told m es) ops opening es → IsBacked m ops opening es (script_replies (told m es) ops opening)
+pub backs : (m : Setting) (ops : List Op) (opening : State) (es : List Sent) → IsRecordOfRun (told m es) ops opening es → IsBacked m ops opening es (script_replies (told m es) ops opening)
 backs m ops opening es h =
     let answers = plain_tells act tell (acts_from (told m es) 1 ops) opening in
     let script = script_lined (told m es) 1 ops opening in

@@ -10,7 +10,7 @@ use Rattle.whole_run.specs.ScriptWalk.{acts_from}
 use Rattle.whole_run.specs.Settings.{Setting}
 use Rattle.run_laws.specs.CarriedRun.{IsCarried, reads_at}
 use Rattle.run_laws.specs.Records.{Mixed, is_out, put_frame, sents}
-use Rattle.run_laws.specs.ToldRun.{IsRecordOf}
+use Rattle.run_laws.specs.ToldRun.{IsRecordOfRun}
 
 abbrev takes : Site → (c after : ℕ) → Sent → Bool
 takes s c after e = not (is_out e.dir) && (eqb (s.cell e.dev e.lba) c && eqb e.after after)
@@ -41,5 +41,5 @@ mixed_reads s c after (x ∷ xs) ys h =
     by true (Err why) before behind h = h
     by true (Ok frame) before behind h = (before, (behind, (refl, h)))
 
-pub carries : (m : Setting) (ops : List Op) (opening : State) (es : List Sent) → IsRecordOf m ops opening es → IsCarried m ops opening es
+pub carries : (m : Setting) (ops : List Op) (opening : State) (es : List Sent) → IsRecordOfRun m ops opening es → IsCarried m ops opening es
 carries m ops opening es h = record { writes = λ c. sym (h.writes c); reads = λ c after. mixed_reads m.site c after (sents (plain_tells act tell (acts_from m 1 ops) opening)) es h.all }

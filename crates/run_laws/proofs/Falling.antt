@@ -25,7 +25,7 @@ use Rattle.block_path.specs.Blocks.{ActAnswer, fetched_cell, own_cell, own_frame
 use Rattle.block_path.specs.Routes.{host_type, target}
 use Rattle.block_path.specs.WayOut.{Fails, Refuses, Stores, WayOut, from_adapter, mapped_out, to_wire, way_out}
 use Rattle.block_path.proofs.Cells.{gather_length}
-use Rattle.whole_run.specs.CalmRun.{AllFit, LiesIn}
+use Rattle.whole_run.specs.CalmRun.{AllFit, LiesInImage}
 use Rattle.whole_run.specs.FirstLayer.{last_accepted}
 use Rattle.whole_run.specs.Past.{Accepted, Brought, Event, Lost, brought_by, event_of, steps_from}
 use Rattle.whole_run.specs.PlainMap.{all_pass, as_expected, finds_of_app, finds_plainly}
@@ -48,7 +48,7 @@ failing_rule P r (Ok carried) fails refuses = refuses
 failing_rule P r (Err check) fails refuses = fails check
 
 module _ (m' : Setting) (opening : State) (falls : Block → Option (List ℕ)) (protect : 0 < m'.mode.protect) (loose : all_pass (quiet m' m'.mode.dix m'.mode.dif m'.ty) ≡ false → m'.mode.mask ≡ 0)
-    (lies : LiesIn (quiet m' m'.mode.dix m'.mode.dif m'.ty) (volume_len m'.entries) opening.blocks) where
+    (lies : LiesInImage (quiet m' m'.mode.dix m'.mode.dif m'.ty) (volume_len m'.entries) opening.blocks) where
   abbrev m : Setting
   m = quiet m' m'.mode.dix m'.mode.dif m'.ty
 

@@ -16,7 +16,7 @@ use Rattle.stack_ops.specs.declared.op.Op.{Op}
 use Rattle.stack_ops.specs.declared.op.Op.TheVariants.{Fetch, Show, Write}
 use Rattle.stack_ops.specs.declared.reply.Reply.{Reply}
 use Rattle.stack_ops.specs.declared.reply.Reply.TheVariants.{Bad, Medium as Failed, Shown, Silent, Whole}
-use Rattle.block_path.specs.Blocks.{Asked}
+use Rattle.block_path.specs.Blocks.{AskedBlock}
 use Rattle.block_path.specs.WayIn.{from_wire}
 use Rattle.block_path.specs.WayOut.{to_wire}
 use Rattle.whole_run.specs.Settings.{block_of, route}
@@ -38,7 +38,7 @@ out op frames = entry (form (Write16 (fields 2 1))) 1 None (labels op 0 1) frame
 abbrev into : (op : ℕ) → List (List ℕ) → LogEntry
 into op frames = entry (form (Read16 (fields 2 1))) 1 None (labels op 0 1) frames
 
-abbrev op_of : Option Asked → ℕ
+abbrev op_of : Option AskedBlock → ℕ
 op_of None = 0
 op_of (Some b) = b.route.label.op
 
@@ -46,7 +46,7 @@ op_of (Some b) = b.route.label.op
 of_nobody : Backed m one_write opening (out 9 (formatted 2 ∷ []) ∷ []) (Whole ∷ []) → ⊥
 unfolding crc ip to_wire from_wire run
 of_nobody h = elim h.belong.0 [ inl p ↦ wrong p.0 p.1.0 p.1.1.label | inr q ↦ q ] where
-  wrong : (b : Asked) → Some (record { route = route m (block_of 1 0 0); reader = None }) ≡ Some b → record { op = 9; k = 0 } ≡ b.route.label → ⊥
+  wrong : (b : AskedBlock) → Some (record { route = route m (block_of 1 0 0); reader = None }) ≡ Some b → record { op = 9; k = 0 } ≡ b.route.label → ⊥
   wrong b e o = let p : ◌≡◌ {A = ℕ} 1 b.route.label.op = ap op_of e in let q : ◌≡◌ {A = ℕ} 9 b.route.label.op = ap (λ (n : Label). n.op) o in omega (arith, p, q)
 
 -- 2: one block of a write stands twice

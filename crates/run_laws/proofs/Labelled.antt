@@ -9,7 +9,7 @@ use Rattle.integrity_payload.specs.declared.payload.Owner.TheVariants.{Block as 
 use Rattle.stack_ops.specs.declared.op.Op.{Op}
 use Rattle.stack_ops.specs.declared.op.Op.TheVariants.{Fetch, FetchPi, Fill, Overwrite, Put, Seal, Show, Wait, Write, WritePi}
 use Rattle.block_path.specs.Acts.{Act, State, act, tell}
-use Rattle.block_path.specs.Blocks.{ActAnswer, Asked, Sent, read_by, written_by}
+use Rattle.block_path.specs.Blocks.{ActAnswer, AskedBlock, Sent, read_by, written_by}
 use Rattle.block_path.specs.declared.route.Route.{Route}
 use Rattle.block_path.specs.Serial.{plain, plain_tells}
 use Rattle.block_path.specs.WayIn.{Delivers, Spoils, Stops, WayIn}
@@ -38,7 +38,7 @@ each_both P (x ∷ xs) ys h k = (h.0, each_both P xs ys h.1 k)
 
 -- what stands on record of a block has its label, direction and place
 abbrev pub Proper : ActAnswer → Type 0
-Proper a = IfSome a.sent (λ e. (b : Asked) × ((a.of ≡ Some b) × Owns e b))
+Proper a = IfSome a.sent (λ e. (b : AskedBlock) × ((a.of ≡ Some b) × Owns e b))
 
 abbrev same_label : Label → Label → Bool
 same_label n k = eqb n.op k.op && eqb n.k k.k
@@ -79,7 +79,7 @@ no_other true x rest h k = absurd (grind (arith, h))
 far_find : (n : Label) (answers : List ActAnswer) → Far n answers → Each Proper answers → find n (sents answers) ≡ None
 far_find n [] f p = refl
 far_find n (a ∷ answers) f p = by (far_find n answers f.1 p.1) a.sent a.of f.0 p.0 where
-  by : find n (sents answers) ≡ None → (s : Option Sent) (of : Option Asked) → IfSome of (λ b. same_label n b.route.label ≡ false) → IfSome s (λ e. (b : Asked) × ((of ≡ Some b) × Owns e b)) → find n (put_sent s (sents answers)) ≡ None
+  by : find n (sents answers) ≡ None → (s : Option Sent) (of : Option AskedBlock) → IfSome of (λ b. same_label n b.route.label ≡ false) → IfSome s (λ e. (b : AskedBlock) × ((of ≡ Some b) × Owns e b)) → find n (put_sent s (sents answers)) ≡ None
   by rest None of g q = rest
   by rest (Some e) of g q =
       let b = q.0 in
@@ -89,7 +89,7 @@ far_find n (a ∷ answers) f p = by (far_find n answers f.1 p.1) a.sent a.of f.0
 once_sents : (answers : List ActAnswer) → AllFar answers → Each Proper answers → NoTwo (sents answers)
 once_sents [] f p = tt
 once_sents (a ∷ answers) f p = by (once_sents answers f.1 p.1) a.sent a.of f.0 p.0 where
-  by : NoTwo (sents answers) → (s : Option Sent) (of : Option Asked) → IfSome of (λ b. Far b.route.label answers) → IfSome s (λ e. (b : Asked) × ((of ≡ Some b) × Owns e b)) → NoTwo (put_sent s (sents answers))
+  by : NoTwo (sents answers) → (s : Option Sent) (of : Option AskedBlock) → IfSome of (λ b. Far b.route.label answers) → IfSome s (λ e. (b : AskedBlock) × ((of ≡ Some b) × Owns e b)) → NoTwo (put_sent s (sents answers))
   by rest None of g q = rest
   by rest (Some e) of g q =
       let far = subst (λ o. IfSome o (λ b. Far b.route.label answers)) q.1.0 g in
@@ -109,14 +109,14 @@ found_behind n e es h = ap (λ c. if c then Some e else find n es) h
 others_filed : (n : Label) (e : Sent) (es : List Sent) (answers : List ActAnswer) → e.label ≡ n → Far n answers → Each (Filed es) answers → Each (Filed (e ∷ es)) answers
 others_filed n e es [] h f k = tt
 others_filed n e es (a ∷ answers) h f k = (by a.of f.0 k.0, others_filed n e es answers h f.1 k.1) where
-  by : (of : Option Asked) → IfSome of (λ b. same_label n b.route.label ≡ false) → IfSome of (λ b. find b.route.label es ≡ a.sent) → IfSome of (λ b. find b.route.label (e ∷ es) ≡ a.sent)
+  by : (of : Option AskedBlock) → IfSome of (λ b. same_label n b.route.label ≡ false) → IfSome of (λ b. find b.route.label es ≡ a.sent) → IfSome of (λ b. find b.route.label (e ∷ es) ≡ a.sent)
   by None g q = tt
   by (Some b) g q = found_behind b.route.label e es (ap (λ x. same_label x b.route.label) h ∙ g) ∙ q
 
 filed_sents : (answers : List ActAnswer) → AllFar answers → Each Proper answers → Each (Filed (sents answers)) answers
 filed_sents [] f p = tt
 filed_sents (a ∷ answers) f p = by (filed_sents answers f.1 p.1) a.sent a.of f.0 p.0 where
-  by : Each (Filed (sents answers)) answers → (s : Option Sent) (of : Option Asked) → IfSome of (λ b. Far b.route.label answers) → IfSome s (λ e. (b : Asked) × ((of ≡ Some b) × Owns e b)) →
+  by : Each (Filed (sents answers)) answers → (s : Option Sent) (of : Option AskedBlock) → IfSome of (λ b. Far b.route.label answers) → IfSome s (λ e. (b : AskedBlock) × ((of ≡ Some b) × Owns e b)) →
       IfSome of (λ b. find b.route.label (put_sent s (sents answers)) ≡ s) × Each (Filed (put_sent s (sents answers))) answers
   by rest None None g q = (tt, rest)
   by rest None (Some b) g q = (far_find b.route.label answers g p.1, rest)
@@ -200,14 +200,14 @@ numbered_far i j k (a ∷ answers) l h = (by a.of h.0, numbered_far i j (suc k) 
   and_false true = refl
   and_false false = refl
 
-  by : (of : Option Asked) → IfSome of (λ b. (b.route.label.op ≡ i) × (b.route.label.k ≡ k)) → IfSome of (λ b. same_label (label_at i j) b.route.label ≡ false)
+  by : (of : Option AskedBlock) → IfSome of (λ b. (b.route.label.op ≡ i) × (b.route.label.k ≡ k)) → IfSome of (λ b. same_label (label_at i j) b.route.label ≡ false)
   by None g = tt
   by (Some b) g = let e : eqb j b.route.label.k ≡ false = ne_eqb j b.route.label.k (λ q. omega (arith, l, q, g.1)) in ap (λ c. eqb i b.route.label.op && c) e ∙ and_false (eqb i b.route.label.op)
 
 from_far : (i k next : ℕ) (answers : List ActAnswer) → i < next → FromOp next answers → Far (label_at i k) answers
 from_far i k next [] l h = tt
 from_far i k next (a ∷ answers) l h = (by a.of h.0, from_far i k next answers l h.1) where
-  by : (of : Option Asked) → IfSome of (λ b. next ≤ b.route.label.op) → IfSome of (λ b. same_label (label_at i k) b.route.label ≡ false)
+  by : (of : Option AskedBlock) → IfSome of (λ b. next ≤ b.route.label.op) → IfSome of (λ b. same_label (label_at i k) b.route.label ≡ false)
   by None g = tt
   by (Some b) g = let e : eqb i b.route.label.op ≡ false = ne_eqb i b.route.label.op (λ q. omega (arith, l, q, g)) in ap (λ c. c && eqb k b.route.label.k) e
 
@@ -219,10 +219,10 @@ far_both n (x ∷ xs) ys h k = (h.0, far_both n xs ys h.1 k)
 ops_far : (i k : ℕ) (xs ys : List ActAnswer) → Numbered i k xs → FromOp (suc i) ys → AllFar ys → AllFar (xs ++ ys)
 ops_far i k [] ys h f r = r
 ops_far i k (a ∷ xs) ys h f r = (by a.of h.0, ops_far i (suc k) xs ys h.1 f r) where
-  same : (b : Asked) → b.route.label.op ≡ i → b.route.label.k ≡ k → label_at i k ≡ b.route.label
+  same : (b : AskedBlock) → b.route.label.op ≡ i → b.route.label.k ≡ k → label_at i k ≡ b.route.label
   same b p q = same_labels (label_at i k) b.route.label (let c : eqb i b.route.label.op ≡ true = eq-eqb i b.route.label.op (sym p) in let d : eqb k b.route.label.k ≡ true = eq-eqb k b.route.label.k (sym q) in ap (λ x. x && eqb k b.route.label.k) c ∙ d)
 
-  by : (of : Option Asked) → IfSome of (λ b. (b.route.label.op ≡ i) × (b.route.label.k ≡ k)) → IfSome of (λ b. Far b.route.label (xs ++ ys))
+  by : (of : Option AskedBlock) → IfSome of (λ b. (b.route.label.op ≡ i) × (b.route.label.k ≡ k)) → IfSome of (λ b. Far b.route.label (xs ++ ys))
   by None g = tt
   by (Some b) g = subst (λ n. Far n (xs ++ ys)) (same b g.0 g.1) (far_both (label_at i k) xs ys (numbered_far i k (suc k) xs (omega arith) h.1) (from_far i k (suc i) ys (omega arith) f))
 
@@ -231,18 +231,18 @@ from_numbered i k [] ys h f = weaker ys f where
   weaker : (ys : List ActAnswer) → FromOp (suc i) ys → FromOp i ys
   weaker [] f = tt
   weaker (y ∷ ys) f = (by y.of f.0, weaker ys f.1) where
-    by : (of : Option Asked) → IfSome of (λ b. suc i ≤ b.route.label.op) → IfSome of (λ b. i ≤ b.route.label.op)
+    by : (of : Option AskedBlock) → IfSome of (λ b. suc i ≤ b.route.label.op) → IfSome of (λ b. i ≤ b.route.label.op)
     by None g = tt
     by (Some b) g = omega (arith, g)
 from_numbered i k (a ∷ xs) ys h f = (by a.of h.0, from_numbered i (suc k) xs ys h.1 f) where
-  by : (of : Option Asked) → IfSome of (λ b. (b.route.label.op ≡ i) × (b.route.label.k ≡ k)) → IfSome of (λ b. i ≤ b.route.label.op)
+  by : (of : Option AskedBlock) → IfSome of (λ b. (b.route.label.op ≡ i) × (b.route.label.k ≡ k)) → IfSome of (λ b. i ≤ b.route.label.op)
   by None g = tt
   by (Some b) g = omega (arith, g.0)
 
 -- what an act answers as a block of a request
 record Marked (i k : ℕ) (a : ActAnswer) : Type 0 where
   number : IfSome a.of (λ b. (b.route.label.op ≡ i) × (b.route.label.k ≡ k))
-  proper : IfSome a.sent (λ e. (b : Asked) × ((a.of ≡ Some b) × Owns e b))
+  proper : IfSome a.sent (λ e. (b : AskedBlock) × ((a.of ≡ Some b) × Owns e b))
 
 write_marked : (r : Route) (way : WayOut) (back : List ℕ) (log : List (List ℕ)) → Marked r.label.op r.label.k (written_by r way back log).answer
 write_marked r (Fails why) back log = record { number = (refl, refl); proper = tt }
@@ -313,6 +313,6 @@ filed_in i answers es h x =
     moved : (others : List ActAnswer) → ((n : Label) → find n es ≡ find n (sents answers)) → Each (Filed (sents answers)) others → Each (Filed es) others
     moved [] finds k = tt
     moved (a ∷ others) finds k = (by a.of k.0, moved others finds k.1) where
-      by : (of : Option Asked) → IfSome of (λ b. find b.route.label (sents answers) ≡ a.sent) → IfSome of (λ b. find b.route.label es ≡ a.sent)
+      by : (of : Option AskedBlock) → IfSome of (λ b. find b.route.label (sents answers) ≡ a.sent) → IfSome of (λ b. find b.route.label es ≡ a.sent)
       by None g = tt
       by (Some b) g = finds b.route.label ∙ g

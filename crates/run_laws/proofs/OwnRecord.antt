@@ -25,7 +25,7 @@ use Rattle.whole_run.specs.Steps.{Alters, Reads, Seals, Sets, Shows, Step, Write
 use Rattle.whole_run.proofs.AnyOrder.{acts_reply, acts_walk}
 use Rattle.run_laws.specs.BackedRun.{IsBacked}
 use Rattle.run_laws.specs.Records.{Mixed, sents}
-use Rattle.run_laws.specs.ToldRun.{IsRecordOf, IsSameWalk, came_by, came_in, told}
+use Rattle.run_laws.specs.ToldRun.{IsRecordOfRun, IsSameWalk, came_by, came_in, told}
 use Rattle.run_laws.proofs.Backs.{backs, steps_same}
 use Rattle.run_laws.proofs.Labelled.{Filed, filed_in, script_lined}
 
@@ -142,7 +142,7 @@ acts_all : (m : Setting) (i : ℕ) (ops : List Op) → acts_from m i ops ≡ map
 acts_all m i [] = refl
 acts_all m i (op ∷ ops) = ap (λ acts. acts_of m i op ++ acts) (acts_all m (suc i) ops) ∙ sym (map-append (act_of m) (steps_of m i op) (steps_from m (suc i) ops))
 
-pub same_walk : (m : Setting) (ops : List Op) (opening : State) (es : List Sent) → IsRecordOf m ops opening es → IsSameWalk m ops opening es
+pub same_walk : (m : Setting) (ops : List Op) (opening : State) (es : List Sent) → IsRecordOfRun m ops opening es → IsSameWalk m ops opening es
 same_walk m ops opening es h =
     let answers = plain_tells act tell (acts_from m 1 ops) opening in
     let filed = (filed_in 1 answers es (script_lined m 1 ops opening) h.all).filed in
@@ -162,10 +162,10 @@ same_walk m ops opening es h =
     }
 
 -- So its record backs its own replies.
-pub backs_itself : (m : Setting) (ops : List Op) (opening : State) (es : List Sent) → IsRecordOf m ops opening es → IsBacked m ops opening es (script_replies m ops opening)
+pub backs_itself : (m : Setting) (ops : List Op) (opening : State) (es : List Sent) → IsRecordOfRun m ops opening es → IsBacked m ops opening es (script_replies m ops opening)
 backs_itself m ops opening es h =
     let same = same_walk m ops opening es h in
-    let record_of_told : IsRecordOf (told m es) ops opening es = record {
+    let record_of_told : IsRecordOfRun (told m es) ops opening es = record {
       all = subst (λ answers. Mixed (sents answers) es) (sym same.answers) h.all;
       writes = λ c. ap (λ logs. get_or logs c []) same.logs ∙ h.writes c;
     } in

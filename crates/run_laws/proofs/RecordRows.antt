@@ -31,7 +31,7 @@ use Rattle.whole_run.proofs.ScriptRows.{faulty, formatted, opening, seg}
 use Rattle.run_laws.specs.BackedRun.{Backed}
 use Rattle.run_laws.specs.EarlierWrites.{LogsAreEmpty, StandsAfter, accepted_in}
 use Rattle.run_laws.specs.Records.{recorded, writes_at}
-use Rattle.run_laws.specs.ToldRun.{IsRecordOf, IsSameWalk, told}
+use Rattle.run_laws.specs.ToldRun.{IsRecordOfRun, IsSameWalk, told}
 use Rattle.run_laws.proofs.Backs.{backs}
 use Rattle.run_laws.proofs.Earlier.{stands_after}
 use Rattle.run_laws.proofs.OwnRecord.{same_walk}
@@ -95,7 +95,7 @@ off : (n c : ℕ) → n < 5 → 4 < c → eqb n c ≡ false
 off n c k l = ne_eqb n c (λ e. omega (arith, k, l, e))
 
 -- It meets all that the law asks for.
-run_on_record : IsRecordOf (told m es) ops opening es
+run_on_record : IsRecordOfRun (told m es) ops opening es
 unfolding crc ip to_wire from_wire run
 run_on_record = record {
   all = ([], (_, (refl, ([], (_, (refl, ([], (_, (refl, ([], (_, (refl, refl))))))))))));
@@ -141,7 +141,7 @@ honest_log =
     ∷ entry (form (Read16 (fields 2 1))) 1 None (labels 2 0 1) (formatted 2 ∷ [])
     ∷ []
 
-log_of_the_walk : IsRecordOf m ops opening (recorded m honest_log)
+log_of_the_walk : IsRecordOfRun m ops opening (recorded m honest_log)
 unfolding crc ip found_in to_medium from_medium to_wire from_wire run
 log_of_the_walk = record {
   all = ([], (_, (refl, ([], (_, (refl, (record (sent 2 1 3) { dir = Read; came = Ok (formatted 3); after = 1 } ∷ [], ([], (refl, ([], ([], (refl, refl))))))))))));

@@ -11,7 +11,7 @@ use Rattle.rig_api.specs.Log.{LogEntry}
 use Rattle.stack_ops.specs.declared.op.Op.{Op}
 use Rattle.stack_ops.specs.declared.reply.Reply.{Reply}
 use Rattle.block_path.specs.Acts.{State, act, tell}
-use Rattle.block_path.specs.Blocks.{ActAnswer, Asked, Sent}
+use Rattle.block_path.specs.Blocks.{ActAnswer, AskedBlock, Sent}
 use Rattle.block_path.specs.declared.route.Route.{Route}
 use Rattle.block_path.specs.Serial.{plain, plain_tells}
 use Rattle.block_path.specs.WayIn.{adapter_finds_in, owner_finds, owner_says}
@@ -35,7 +35,7 @@ dir_of None = Write
 dir_of (Some owner) = Read
 
 -- The entry or end has this block's label, direction and place.
-pub record Owns (e : Sent) (b : Asked) : Type 0 where
+pub record Owns (e : Sent) (b : AskedBlock) : Type 0 where
   pub label : e.label ≡ b.route.label
   pub dir : e.dir ≡ dir_of b.reader
   pub dev : e.dev ≡ b.route.dev
@@ -44,7 +44,7 @@ pub record Owns (e : Sent) (b : Asked) : Type 0 where
 -- It is of one of these answers' blocks.
 abbrev pub Belongs : List ActAnswer → Sent → Type 0
 Belongs [] e = ⊥
-Belongs (a ∷ answers) e = ((b : Asked) × ((a.of ≡ Some b) × Owns e b)) ⊎ Belongs answers e
+Belongs (a ∷ answers) e = ((b : AskedBlock) × ((a.of ≡ Some b) × Owns e b)) ⊎ Belongs answers e
 
 abbrev pub owner_lists : Owner → Option Check → Option Why
 owner_lists owner None = None

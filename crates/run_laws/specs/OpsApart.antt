@@ -11,7 +11,7 @@ use Rattle.stack_ops.specs.Footprints.{bytes_of, cells_touched, footprint}
 use Rattle.volume_table.specs.Places.{volume_len}
 use Rattle.block_path.specs.Blocks.{stored_cell}
 use Rattle.block_path.specs.Serial.{Apart}
-use Rattle.whole_run.specs.CalmRun.{AreBlocks}
+use Rattle.whole_run.specs.CalmRun.{AreVolumeBlocks}
 use Rattle.whole_run.specs.Settings.{Setting, block_of, route}
 use Rattle.whole_run.specs.UnderMap.{home}
 use Rattle.pi_tuple.specs.declared.TheConstants.{TUPLE}
@@ -36,10 +36,10 @@ HasBlocks m (Fill seg byte) = Unit {0}
 HasBlocks m (Put page off bytes) = Unit {0}
 HasBlocks m (Show seg) = Unit {0}
 HasBlocks m (Seal n body tuples app rtag) = Unit {0}
-HasBlocks m (Write v n body app) = AreBlocks m v n (total body)
-HasBlocks m (Fetch v n body) = AreBlocks m v n (total body)
-HasBlocks m (WritePi v n body tuples) = AreBlocks m v n (total body) × (total tuples ≡ n * TUPLE)
-HasBlocks m (FetchPi v n body tuples) = AreBlocks m v n (total body) × (total tuples ≡ n * TUPLE)
+HasBlocks m (Write v n body app) = AreVolumeBlocks m v n (total body)
+HasBlocks m (Fetch v n body) = AreVolumeBlocks m v n (total body)
+HasBlocks m (WritePi v n body tuples) = AreVolumeBlocks m v n (total body) × (total tuples ≡ n * TUPLE)
+HasBlocks m (FetchPi v n body tuples) = AreVolumeBlocks m v n (total body) × (total tuples ≡ n * TUPLE)
 HasBlocks m (Overwrite dev lba change) = Unit {0}
 HasBlocks m Wait = Unit {0}
 

@@ -13,7 +13,7 @@ use Rattle.target_answer.specs.Frames.{stored_size}
 use Rattle.block_path.specs.Acts.{State}
 use Rattle.block_path.specs.Moves.{AreCells}
 use Rattle.block_path.specs.Routes.{medium_lba, target, wire_lba}
-use Rattle.whole_run.specs.CalmRun.{AreBlocks}
+use Rattle.whole_run.specs.CalmRun.{AreVolumeBlocks}
 use Rattle.whole_run.specs.Detectable.{detectable}
 use Rattle.whole_run.specs.Past.{steps_from}
 use Rattle.whole_run.specs.Settings.{Block, Setting, block_of, route}
@@ -69,11 +69,11 @@ Binds m devices bytes i (Fill seg byte) = Unit {0}
 Binds m devices bytes i (Put page off values) = Unit {0}
 Binds m devices bytes i (Show seg) = Unit {0}
 Binds m devices bytes i (Seal n body tuples app rtag) = Unit {0}
-Binds m devices bytes i (Write v n body app) = AreBlocks m v n (total body) × ((app < 2 ^ 16) × AllStayNear m i v n)
-Binds m devices bytes i (Fetch v n body) = AreBlocks m v n (total body) × (AreCells bytes (cells_of body) × (AllStayNear m i v n × AllAreFetched m devices i v n))
-Binds m devices bytes i (WritePi v n body tuples) = AreBlocks m v n (total body) × ((total tuples ≡ n * TUPLE) × AllStayNear m i v n)
+Binds m devices bytes i (Write v n body app) = AreVolumeBlocks m v n (total body) × ((app < 2 ^ 16) × AllStayNear m i v n)
+Binds m devices bytes i (Fetch v n body) = AreVolumeBlocks m v n (total body) × (AreCells bytes (cells_of body) × (AllStayNear m i v n × AllAreFetched m devices i v n))
+Binds m devices bytes i (WritePi v n body tuples) = AreVolumeBlocks m v n (total body) × ((total tuples ≡ n * TUPLE) × AllStayNear m i v n)
 Binds m devices bytes i (FetchPi v n body tuples) =
-    AreBlocks m v n (total body) × ((total tuples ≡ n * TUPLE) × (AreCells bytes (cells_of body ++ cells_of tuples) × (AllStayNear m i v n × AllAreFetched m devices i v n)))
+    AreVolumeBlocks m v n (total body) × ((total tuples ≡ n * TUPLE) × (AreCells bytes (cells_of body ++ cells_of tuples) × (AllStayNear m i v n × AllAreFetched m devices i v n)))
 Binds m devices bytes i (Overwrite dev lba change) = HasBlock m devices dev lba
 Binds m devices bytes i Wait = Unit {0}
 

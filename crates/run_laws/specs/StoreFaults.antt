@@ -9,7 +9,7 @@ use Rattle.block_path.specs.Acts.{Act, Effect, State, act, tell}
 use Rattle.block_path.specs.Blocks.{ActAnswer}
 use Rattle.block_path.specs.Routes.{Device}
 use Rattle.block_path.specs.Serial.{plain}
-use Rattle.whole_run.specs.CalmRun.{AllFit, IsCalm, LiesIn}
+use Rattle.whole_run.specs.CalmRun.{AllFit, IsCalm, LiesInImage}
 use Rattle.whole_run.specs.FirstLayer.{last_accepted}
 use Rattle.whole_run.specs.Past.{Accepted, Brought, Event, Lost, Overwritten, brought_by, event_of}
 use Rattle.whole_run.specs.PlainMap.{all_pass, finds_of_app, finds_plainly}
@@ -110,6 +110,6 @@ IsServed m opening past falls (Alters dev lba change) s = Unit {0}
 -- A run without scheduled faults over a clean image. Escapes may be supplied.
 pub record IsFallingRun (m : Setting) (ops : List Op) (opening : State) : Type 0 where
   pub calm : IsCalm m
-  pub lies : LiesIn m (volume_len m.entries) opening.blocks
+  pub lies : LiesInImage m (volume_len m.entries) opening.blocks
   pub clean : AreClean m opening.blocks
   pub fit : AllFit m ops

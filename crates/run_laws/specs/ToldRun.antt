@@ -26,7 +26,7 @@ abbrev pub told : Setting → List Sent → Setting
 told m es = record m { site = record m.site { device = told_by (came_by es) } }
 
 -- These entries and ends are of that run: those of its blocks, in whatever order, and the writes of each place in its order.
-pub record IsRecordOf (m : Setting) (ops : List Op) (opening : State) (es : List Sent) : Type 0 where
+pub record IsRecordOfRun (m : Setting) (ops : List Op) (opening : State) (es : List Sent) : Type 0 where
   pub all : Mixed (sents (plain_tells act tell (acts_from m 1 ops) opening)) es
   pub writes : (c : ℕ) → get_or (script_walk m ops opening).logs c [] ≡ writes_at m.site c es
 

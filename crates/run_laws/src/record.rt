@@ -17,26 +17,26 @@ ghost use Rattle.run_laws.specs.BackedRun.{Backed, OfRead, answered};
 ghost use Rattle.run_laws.specs.CarriedRun.{Carried};
 ghost use Rattle.run_laws.specs.EarlierWrites.{IsCounted, LogsAreEmpty, StandsAfter, accepted_in};
 ghost use Rattle.run_laws.specs.Records.{recorded};
-ghost use Rattle.run_laws.specs.ToldRun.{IsRecordOf, IsSameWalk, told};
+ghost use Rattle.run_laws.specs.ToldRun.{IsRecordOfRun, IsSameWalk, told};
 
 /// Over any rig, honest or not, in every mode: where the walk runs over what stands on record of its blocks, and these
 /// entries and ends are just its own, the log backs its replies.
 pub fn a_walk_over_its_record_is_backed()
-    ensures { (m : Setting) (ops : List AnyOp) (opening : State) (log : List LogEntry) → IsRecordOf (told m (recorded m log)) ops opening (recorded m log)
+    ensures { (m : Setting) (ops : List AnyOp) (opening : State) (log : List LogEntry) → IsRecordOfRun (told m (recorded m log)) ops opening (recorded m log)
         → Backed m ops opening log (script_replies (told m (recorded m log)) ops opening) }
 {}
 
 /// Where the entries and ends of a log are those of the walk itself, the log holds what the walk carries.
 pub fn a_log_of_the_walk_is_carried()
-    ensures { (m : Setting) (ops : List AnyOp) (opening : State) (log : List LogEntry) → IsRecordOf m ops opening (recorded m log) → Carried m ops opening log }
+    ensures { (m : Setting) (ops : List AnyOp) (opening : State) (log : List LogEntry) → IsRecordOfRun m ops opening (recorded m log) → Carried m ops opening log }
 {}
 
 /// What a walk puts on record fixes it, whatever device is behind the adapter, honest or not: the walk over its record
 /// answers of each block the same, with the same replies, pages and carried frames. So what was told of an honest
 /// target is the target's walk, and its log backs its replies.
 pub fn a_walk_is_the_walk_over_its_record()
-    ensures same { (m : Setting) (ops : List AnyOp) (opening : State) (log : List LogEntry) → IsRecordOf m ops opening (recorded m log) → IsSameWalk m ops opening (recorded m log) }
-    ensures backed { (m : Setting) (ops : List AnyOp) (opening : State) (log : List LogEntry) → IsRecordOf m ops opening (recorded m log) → Backed m ops opening log (script_replies m ops opening) }
+    ensures same { (m : Setting) (ops : List AnyOp) (opening : State) (log : List LogEntry) → IsRecordOfRun m ops opening (recorded m log) → IsSameWalk m ops opening (recorded m log) }
+    ensures backed { (m : Setting) (ops : List AnyOp) (opening : State) (log : List LogEntry) → IsRecordOfRun m ops opening (recorded m log) → Backed m ops opening log (script_replies m ops opening) }
 {}
 
 /// The walk that takes the replies carries a block of a read after as many write frames of its place as earlier ops

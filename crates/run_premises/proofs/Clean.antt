@@ -19,7 +19,7 @@ use Rattle.block_path.specs.Blocks.{own_tuple}
 use Rattle.block_path.specs.Routes.{host_type}
 use Rattle.block_path.specs.Serial.{plain}
 use Rattle.block_path.proofs.Cells.{below}
-use Rattle.whole_run.specs.CalmRun.{AllFit, IsCalmRun, LiesIn}
+use Rattle.whole_run.specs.CalmRun.{AllFit, IsCalmRun, LiesInImage}
 use Rattle.whole_run.specs.PlainMap.{MapEntry, Plain, all_pass, as_expected, entry_of, finds_of_app, finds_plainly, kept_unless, own_in, plain_from, plain_map, plain_step, tag_of}
 use Rattle.whole_run.specs.ScriptWalk.{act_of, acts_of, script_walk, walk_from}
 use Rattle.whole_run.specs.Settings.{Setting, route}
@@ -115,7 +115,7 @@ stored_clean m lba e z o p =
           rtag = λ h. ap (λ (t : Tuple). t.rtag) is ∙ tag_right m.ty lba e.own h;
         }
 
-module _ (m : Setting) (n : ℕ) (image : List (List ℕ)) (lies : LiesIn m n image) (z : is_zero m.ty ≡ false) where
+module _ (m : Setting) (n : ℕ) (image : List (List ℕ)) (lies : LiesInImage m n image) (z : is_zero m.ty ≡ false) where
   -- a cell that is clean stays so under a map
   cell_clean : (c lba : ℕ) → ((v : ℕ) → v < n → home m v ≡ c → lba ≡ address_of m v) → IsClean m lba (get_or image c []) →
       (v : ℕ) (map : List MapEntry) → v + length map ≡ n → AllOpen m.ty map → AllProper m map → IsClean m lba (get_or (under m v map image) c [])
@@ -132,7 +132,7 @@ module _ (m : Setting) (n : ℕ) (image : List (List ℕ)) (lies : LiesIn m n im
 -- ---- along a run
 
 module _ (m' : Setting) (image : List (List ℕ)) (protect : 0 < m'.mode.protect) (free : all_pass m' ≡ false → m'.mode.mask ≡ 0)
-    (lies : LiesIn (quiet m' m'.mode.dix m'.mode.dif m'.ty) (volume_len m'.entries) image) where
+    (lies : LiesInImage (quiet m' m'.mode.dix m'.mode.dif m'.ty) (volume_len m'.entries) image) where
   abbrev m : Setting
   m = quiet m' m'.mode.dix m'.mode.dif m'.ty
 

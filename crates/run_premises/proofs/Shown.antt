@@ -27,7 +27,7 @@ use Rattle.block_path.specs.Routes.{moved}
 use Rattle.block_path.specs.WayIn.{Delivers, Spoils, Stops, WayIn, way_in}
 use Rattle.block_path.specs.WayOut.{Fails, Refuses, Stores, WayOut, way_out}
 use Rattle.block_path.proofs.Cells.{AllBelow, below, gather_length}
-use Rattle.whole_run.specs.CalmRun.{LiesIn}
+use Rattle.whole_run.specs.CalmRun.{LiesInImage}
 use Rattle.whole_run.specs.Detectable.{detectable, step_shows}
 use Rattle.whole_run.specs.FirstLayer.{has_flip, has_shift}
 use Rattle.whole_run.specs.ScriptWalk.{act_of}
@@ -67,7 +67,7 @@ module _ (m : Setting) (IsNamed Brings : Block → Type 0) where
 
 -- The lines are good for these ops, by which the ways of a block are known; no line alters what is stored of a named block where none does so of its virtual block, nor where one alters it on its way back, nor a block whose tuple an application brings.
 module _ (m' : Setting) (ops : List Op) (even : m'.size % 2 ≡ 0) (flips : All (λ (line : FaultLine). IsOfBytes line.kind) m'.site.faults)
-    (form : list_all (is_good_line m'.mode.kind m'.size m'.site.faults ops) m'.site.faults ≡ true) (image : List (List ℕ)) (lies : LiesIn (checked m') (volume_len m'.entries) image)
+    (form : list_all (is_good_line m'.mode.kind m'.size m'.site.faults ops) m'.site.faults ≡ true) (image : List (List ℕ)) (lies : LiesInImage (checked m') (volume_len m'.entries) image)
     (IsNamed Brings : Block → Type 0) (is_altered : ℕ → Bool)
     (kept_there : (b : Block) → IsNamed b → is_altered b.virt ≡ false → has_flip (checked m') b TargetToMedium ≡ false)
     (whole_there : (b : Block) → IsNamed b → has_flip (checked m') b MediumToTarget ≡ true → is_altered b.virt ≡ false)

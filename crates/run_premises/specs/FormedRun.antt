@@ -5,7 +5,7 @@ use Rattle.fault_schedule.specs.declared.fault.FaultLine.{FaultLine}
 use Rattle.stack_ops.specs.declared.op.Op.{Op}
 use Rattle.volume_table.specs.Places.{volume_len}
 use Rattle.block_path.specs.Acts.{State}
-use Rattle.whole_run.specs.CalmRun.{AllFit, LiesIn}
+use Rattle.whole_run.specs.CalmRun.{AllFit, LiesInImage}
 use Rattle.whole_run.specs.Settings.{Setting}
 use Rattle.whole_run.specs.UnderMap.{AreClean, NoEscape}
 use Rattle.run_laws.specs.ShownRun.{IsChecked}
@@ -24,7 +24,7 @@ pub record HasFormedFaults (m : Setting) (ops : List Op) (opening : State) : Typ
   pub even : m.size % 2 ≡ 0
   pub flips : All (λ (line : FaultLine). IsOfBytes line.kind) m.site.faults
   pub pages : All (λ x. x < 256) opening.bytes
-  pub lies : LiesIn m (volume_len m.entries) opening.blocks
+  pub lies : LiesInImage m (volume_len m.entries) opening.blocks
   pub clean : AreClean m opening.blocks
   pub fit : AllFit m ops
   pub no_escape : NoEscape m 1 ops opening

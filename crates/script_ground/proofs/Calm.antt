@@ -19,7 +19,7 @@ use Rattle.stack_ops.specs.declared.op.Op.TheVariants.{Fetch, FetchPi, Fill, Ove
 use Rattle.volume_table.specs.declared.device.DeviceInfo.{DeviceInfo}
 use Rattle.volume_table.specs.Places.{place_in, volume_len}
 use Rattle.volume_table.specs.Tables.{Table}
-use Rattle.whole_run.specs.CalmRun.{AllFit, Fits, IsCalm, IsCalmRun, LiesIn}
+use Rattle.whole_run.specs.CalmRun.{AllFit, Fits, IsCalm, IsCalmRun, LiesInImage}
 use Rattle.whole_run.specs.Settings.{Setting}
 use Rattle.whole_run.specs.UnderMap.{AreClean, NoEscape, home}
 use Rattle.run_laws.specs.StoreFaults.{IsFallingRun}
@@ -79,7 +79,7 @@ calm-of s t us b none = record {
 
 -- ---- blocks of the volume
 
-pub lies-in : (s : Script) (t : Table) (us : List Stored) → IsBoundOver s t us → All (All (λ x. x < 256)) (blocks_told us) → LiesIn (over s t (shapes_of us)) (volume_len t.entries) (blocks_told us)
+pub lies-in : (s : Script) (t : Table) (us : List Stored) → IsBoundOver s t us → All (All (λ x. x < 256)) (blocks_told us) → LiesInImage (over s t (shapes_of us)) (volume_len t.entries) (blocks_told us)
 lies-in s t us b bytes = record {
   within = λ v l. cell-there s t us (place_in t.entries v).0 (place_in t.entries v).1 (b.made.inside v l);
   apart = one-each (over s t (shapes_of us)) s t (map info_of (shapes_of us)) (all_blocks (shapes_of us)) b.made (own-setting s t (shapes_of us));

@@ -13,7 +13,7 @@ use Rattle.volume_table.specs.declared.device.DeviceInfo.{DeviceInfo}
 use Rattle.volume_table.specs.declared.entry.Entry.{Entry}
 use Rattle.volume_table.specs.Places.{volume_len}
 use Rattle.volume_table.specs.Tables.{MadeFor, Table}
-use Rattle.whole_run.specs.CalmRun.{AreBlocks}
+use Rattle.whole_run.specs.CalmRun.{AreVolumeBlocks}
 use Rattle.whole_run.specs.Settings.{Setting, block_of}
 use Rattle.whole_run.specs.Steps.{Reads, Step, Writes, WritesPi, body_of, frame_at, steps_of}
 use Rattle.run_laws.specs.OpsApart.{IsPlaced}
@@ -45,7 +45,7 @@ in-range t v n h =
     let a = if-none (nat_lt (volume_len t.entries) (v + n)) BadRange None h in
     ltb-false (volume_len t.entries) (v + n) a.0
 
-blocks-of : (m : Setting) (t : Table) (size v n bytes : ℕ) → m.size ≡ size → m.entries ≡ t.entries → bytes ≡ n * size → v + n ≤ volume_len t.entries → AreBlocks m v n bytes
+blocks-of : (m : Setting) (t : Table) (size v n bytes : ℕ) → m.size ≡ size → m.entries ≡ t.entries → bytes ≡ n * size → v + n ≤ volume_len t.entries → AreVolumeBlocks m v n bytes
 blocks-of m t size v n bytes z e l w =
     record { within = subst (λ (es : List Entry). v + n ≤ volume_len es) (sym e) w; bytes_are = l ∙ ap (λ k. n * k) (sym z) }
 

@@ -30,7 +30,7 @@ use Rattle.whole_run.specs.ScriptWalk.{script_walk}
 use Rattle.whole_run.specs.UnderMap.{AreClean, NoEscape, address_of}
 use Rattle.run_premises.specs.Forms.{is_good_line, supplies_none}
 use Rattle.run_premises.specs.FormedRun.{HasFormedFaults, IsOfBytes}
-use Rattle.script_premises.specs.FormedScript.{IsBoundTo, IsFormedScript, IsStillScript}
+use Rattle.script_premises.specs.FormedScript.{IsFormedOver, IsFormedScript, IsStillScript}
 use Rattle.small_laws.proofs.Numbers.{even_size as even}
 
 kind-bytes : (size : ℕ) (f : FaultLine) (kind : FaultKind) → IsKind size f kind → IsOfBytes kind
@@ -49,10 +49,10 @@ FormLaw = (m : Setting) (ops : List Op) (opening : State) → HasFormedFaults m 
 abbrev pub EscapeLaw : Type 0
 EscapeLaw = (m : Setting) (ops : List Op) (opening : State) → list_all supplies_none ops ≡ true → NoEscape m 1 ops opening
 
-bound-over : (s : Script) (t : Table) (us : List Stored) → IsBoundTo s t us → IsBoundOver s t us
+bound-over : (s : Script) (t : Table) (us : List Stored) → IsFormedOver s t us → IsBoundOver s t us
 bound-over s t us b = record { keeps = b.keeps; lines = b.lines; made = b.made; bound = b.bound; stored = b.stored }
 
-pub formed-run : (s : Script) (t : Table) (us : List Stored) → IsBoundTo s t us → IsFormedScript s t us → HasFormedFaults (over s t (shapes_of us)) s.ops (at_first s us)
+pub formed-run : (s : Script) (t : Table) (us : List Stored) → IsFormedOver s t us → IsFormedScript s t us → HasFormedFaults (over s t (shapes_of us)) s.ops (at_first s us)
 formed-run s t us b p =
     let o = bound-over s t us b in
     let form = and_parts (list_all (is_good_line s.mode.kind s.block s.faults s.ops) s.faults) (not (list_any is_overwrite s.ops)) p.form in
@@ -68,7 +68,7 @@ formed-run s t us b p =
       form = p.form;
     }
 
-pub formed : (s : Script) (t : Table) (us : List Stored) → FormLaw → IsBoundTo s t us → IsFormedScript s t us → detectable (over s t (shapes_of us)) (steps_from (over s t (shapes_of us)) 1 s.ops) (at_first s us) ≡ true
+pub formed : (s : Script) (t : Table) (us : List Stored) → FormLaw → IsFormedOver s t us → IsFormedScript s t us → detectable (over s t (shapes_of us)) (steps_from (over s t (shapes_of us)) 1 s.ops) (at_first s us) ≡ true
 formed s t us law b p = law (over s t (shapes_of us)) s.ops (at_first s us) (formed-run s t us b p)
 
 pub escapes : (s : Script) (t : Table) (us : List Stored) → EscapeLaw → list_all supplies_none s.ops ≡ true → NoEscape (over s t (shapes_of us)) 1 s.ops (at_first s us)
@@ -76,7 +76,7 @@ escapes s t us none h = none (over s t (shapes_of us)) s.ops (at_first s us) h
 
 -- ---- over clean devices
 
-pub shown : (s : Script) (t : Table) (us : List Stored) → FormLaw → IsBoundTo s t us → IsFormedScript s t us → DevicesAreClean (over s t (shapes_of us)) (map info_of (shapes_of us)) (blocks_told us)
+pub shown : (s : Script) (t : Table) (us : List Stored) → FormLaw → IsFormedOver s t us → IsFormedScript s t us → DevicesAreClean (over s t (shapes_of us)) (map info_of (shapes_of us)) (blocks_told us)
     → IsShownRun (over s t (shapes_of us)) (map info_of (shapes_of us)) s.ops (at_first s us)
 shown s t us law b p clean = shown-run s t us (bound-over s t us b) p.ty p.dix p.dif p.protect clean p.no_escape (formed s t us law b p)
 
@@ -85,7 +85,7 @@ abbrev pub LeavesLaw : Type 0
 LeavesLaw = (m : Setting) (devices : List DeviceInfo) (ops : List Op) (opening : State) → is_zero m.ty ≡ false → IsCalmRun m ops opening → LiesOn m devices → HasCells m devices opening.blocks → DevicesAreClean m devices opening.blocks
     → DevicesAreClean m devices (script_walk m ops opening).blocks
 
-pub stays-clean : (s : Script) (t : Table) (us : List Stored) → LeavesLaw → IsBoundTo s t us → IsStillScript s t us → DevicesAreClean (over s t (shapes_of us)) (map info_of (shapes_of us)) (blocks_told us)
+pub stays-clean : (s : Script) (t : Table) (us : List Stored) → LeavesLaw → IsFormedOver s t us → IsStillScript s t us → DevicesAreClean (over s t (shapes_of us)) (map info_of (shapes_of us)) (blocks_told us)
     → DevicesAreClean (over s t (shapes_of us)) (map info_of (shapes_of us)) (script_walk (over s t (shapes_of us)) s.ops (at_first s us)).blocks
 stays-clean s t us law b p clean =
     let o = bound-over s t us b in

@@ -18,7 +18,7 @@ use Rattle.run_premises.specs.Forms.{shows_by_form}
 -- What is asked of a script so that a reader of it alone knows of what its run is told: all but that the blocks are clean.
 
 -- The script keeps the rules of its language and is bound to its volume over these units, each of whose blocks has the size of a stored block.
-pub record IsBoundTo (script : Script) (table : Table) (us : List Stored) : Type 0 where
+pub record IsFormedOver (script : Script) (table : Table) (us : List Stored) : Type 0 where
   pub keeps : Keeps script
   pub lines : length script.lines ≡ length script.faults + length script.ops
   pub made : MadeFor table (map info_of (shapes_of us)) script.block

@@ -20,7 +20,7 @@ ghost use Rattle.whole_run.specs.UnderMap.{NoEscape};
 ghost use Rattle.script_stack.specs.Followed.{none_fails, opening_of, setting_of};
 ghost use Rattle.script_text.specs.declared.script.Script.{Script as AnyScript};
 ghost use Rattle.run_premises.specs.Forms.{escapes_none};
-ghost use Rattle.script_premises.specs.FormedScript.{IsBoundTo, IsFormedScript, IsStillScript};
+ghost use Rattle.script_premises.specs.FormedScript.{IsFormedOver, IsFormedScript, IsStillScript};
 
 use run_premises::{
     a_calm_run_leaves_its_devices_clean, faults_are_shown_by_their_form,
@@ -30,7 +30,7 @@ use run_premises::{
 /// A law: of a script that was read and bound, whose faults have the form, over a clean volume and with no escape: each
 /// fault can be shown.
 pub fn a_script_is_shown_by_its_form()
-    ensures { (s : AnyScript) (t : Table) (us : List Stored) → IsBoundTo s t us → IsFormedScript s t us
+    ensures { (s : AnyScript) (t : Table) (us : List Stored) → IsFormedOver s t us → IsFormedScript s t us
         → detectable (setting_of s t (shapes_of us) none_fails) (steps_from (setting_of s t (shapes_of us) none_fails) 1 s.ops) (opening_of s (shapes_of us) (blocks_told us)) ≡ true }
 {
     // By laws.
@@ -40,7 +40,7 @@ pub fn a_script_is_shown_by_its_form()
 /// A law: so over clean devices it has all that the law of reads under faults asks: each block of a read is the last
 /// accepted write's, or is listed with the first layer that checks after a fault.
 pub fn a_formed_script_is_a_shown_run()
-    ensures { (s : AnyScript) (t : Table) (us : List Stored) → IsBoundTo s t us → IsFormedScript s t us
+    ensures { (s : AnyScript) (t : Table) (us : List Stored) → IsFormedOver s t us → IsFormedScript s t us
         → DevicesAreClean (setting_of s t (shapes_of us) none_fails) (map info_of (shapes_of us)) (blocks_told us)
         → IsShownRun (setting_of s t (shapes_of us) none_fails) (map info_of (shapes_of us)) s.ops (opening_of s (shapes_of us) (blocks_told us)) }
 {
@@ -50,7 +50,7 @@ pub fn a_formed_script_is_a_shown_run()
 
 /// A law: a script without faults leaves clean devices clean, so the premise lasts from run to run.
 pub fn a_still_script_leaves_its_devices_clean()
-    ensures { (s : AnyScript) (t : Table) (us : List Stored) → IsBoundTo s t us → IsStillScript s t us
+    ensures { (s : AnyScript) (t : Table) (us : List Stored) → IsFormedOver s t us → IsStillScript s t us
         → DevicesAreClean (setting_of s t (shapes_of us) none_fails) (map info_of (shapes_of us)) (blocks_told us)
         → DevicesAreClean (setting_of s t (shapes_of us) none_fails) (map info_of (shapes_of us))
         (script_walk (setting_of s t (shapes_of us) none_fails) s.ops (opening_of s (shapes_of us) (blocks_told us))).blocks }

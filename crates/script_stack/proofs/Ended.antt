@@ -24,7 +24,7 @@ use Rattle.script_text.specs.declared.script.Script.{Script}
 use Rattle.script_ground.specs.SuitsStack.{SuitsStack}
 use Rattle.script_ground.specs.Units.{AreStored}
 use Rattle.stack_core.specs.Mediums.{HasCounted, RoseBy, medium_lines}
-use Rattle.stack_core.specs.Stacks.{GoesOn, IsFinished, IsStack, Stays, plan_in}
+use Rattle.stack_core.specs.Stacks.{GoesOn, IsFinished, IsStack, StackStays, plan_in}
 use Rattle.stack_core.specs.Walking.{NoneFailed, Walks, WalksFalling}
 use Rattle.stack_core.specs.declared.stack.Stack.{Stack}
 use Rattle.stack_core.proofs.ToldOps.{is_told}
@@ -81,7 +81,7 @@ pub record IsOver (s : Script) (t : Table) (devices : List DeviceInfo) (words : 
   pub went : Went begun old r new
   pub plan : IsPlanFor s t (plan_in begun.sheet)
   pub first : Holds (plan_in begun.sheet) begun.machine (start (plan_in begun.sheet))
-  pub stays : Stays begun r
+  pub stays : StackStays begun r
   pub counted : HasCounted old.faults r new.faults
   pub sent : begun.machine.steps ≡ 0 → SendsBy (entries_of words) begun r old.log new.log
 

@@ -9,7 +9,7 @@ use Rattle.whole_run.specs.Settings.{Setting}
 use Rattle.whole_run.specs.Past.{steps_from}
 use Rattle.run_laws.specs.FallingReads.{falling_replies}
 use Rattle.run_laws.specs.StoreFaults.{falling_walk}
-use Rattle.run_laws.specs.ToldRun.{IsRecordOf}
+use Rattle.run_laws.specs.ToldRun.{IsRecordOfRun}
 use Rattle.run_follows.specs.AtTheEnd.{EndsAsFalling}
 use Rattle.run_follows.specs.Falls.{of_blocks, over_falls}
 
@@ -20,6 +20,6 @@ hidden-same m n ops opening other pages blocks replies es e h = record {
   blocks_are = h.blocks_are ∙ ap (λ o. (falling_walk m (of_blocks h.falls) (steps_from m 1 ops) o).blocks) e;
   replies_are = h.replies_are ∙ ap (falling_replies m (of_blocks h.falls) 1 ops) e;
   told = h.told;
-  recorded = subst (λ o. IsRecordOf (over_falls m h.falls) ops o h.told) e h.recorded;
+  recorded = subst (λ o. IsRecordOfRun (over_falls m h.falls) ops o h.told) e h.recorded;
   on_record = h.on_record;
 }

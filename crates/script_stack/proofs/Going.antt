@@ -6,7 +6,7 @@ use Rattle.rig_api.specs.State.{RigState}
 use Rattle.answered_record.proofs.Going.{puts_nothing, puts_then}
 use Rattle.stack_ops.specs.Ops.{is_overwrite}
 use Rattle.stack_core.specs.declared.sheet.Sheet.{Sheet}
-use Rattle.stack_core.specs.Stacks.{GoesOn, Stays}
+use Rattle.stack_core.specs.Stacks.{GoesOn, StackStays}
 use Rattle.dix_base.specs.Told.{Calm}
 use Rattle.stack_core.specs.declared.stack.Stack.{Stack}
 use Rattle.stack_core.specs.Going.{Went}
@@ -42,5 +42,5 @@ goes_then s s' s'' a b = record {
   faults = (let x = a.faults in let y = b.faults in omega arith);
 }
 
-pub stays_then : (s s' s'' : Stack) → Stays s s' → Stays s' s'' → Stays s s''
+pub stays_then : (s s' s'' : Stack) → StackStays s s' → StackStays s' s'' → StackStays s s''
 stays_then s s' s'' a b = record { sheet = b.sheet ∙ a.sheet; adapter = b.adapter ∙ a.adapter; host = b.host ∙ a.host }

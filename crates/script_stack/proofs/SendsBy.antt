@@ -16,7 +16,7 @@ use Rattle.stack_ops.specs.declared.op.Op.{Op}
 use Rattle.stack_view.specs.Comes.{entry_at}
 use Rattle.stack_view.specs.Measure.{greatest_pieces}
 use Rattle.stack_view.specs.Plan.{Plan}
-use Rattle.stack_view.specs.Runs.{ScheduleEntry, Sent, blocks_of_requests, sends_of}
+use Rattle.stack_view.specs.Runs.{ScheduleEntry, SentCommand, blocks_of_requests, sends_of}
 use Rattle.stack_view.specs.View.{start}
 use Rattle.stack_view.proofs.Runs.{calm-sends}
 use Rattle.stack_steps.specs.Does.{Holds}
@@ -28,14 +28,14 @@ use Rattle.stack_core.specs.OnRecord.{AreRecords, HasQueues, HasSent, IsFormed, 
 use Rattle.run_follows.specs.Requests.{requests_from}
 use Rattle.run_follows.specs.Sheets.{plan_of}
 use Rattle.run_follows.specs.Shifts.{shifted_by}
-use Rattle.stack_core.specs.Stacks.{IsFinished, IsStack, Stays, plan_in}
+use Rattle.stack_core.specs.Stacks.{IsFinished, IsStack, StackStays, plan_in}
 use Rattle.stack_core.specs.Walking.{Walks}
 use Rattle.script_stack.specs.Sends.{IsPlanFor, SendsBy, SendsFor, entries_of}
 
 pub sends_nowhere : (es : List ScheduleEntry) (s : Stack) (log : List Record) → SendsBy es s s log log
 sends_nowhere es s log = record { more = []; records = sym (append-nil log); formed = tt; of_requests = tt; on = λ before x. subst (HasSent es s) (sym (append-nil before)) x }
 
-pub sends_then : (es : List ScheduleEntry) (s s' s'' : Stack) (log log' log'' : List Record) → Stays s s' → SendsBy es s s' log log' → SendsBy es s' s'' log' log'' → SendsBy es s s'' log log''
+pub sends_then : (es : List ScheduleEntry) (s s' s'' : Stack) (log log' log'' : List Record) → StackStays s s' → SendsBy es s s' log log' → SendsBy es s' s'' log' log'' → SendsBy es s s'' log log''
 sends_then es s s' s'' log log' log'' stays a b = record {
   more = a.more ++ b.more;
   records = b.records ∙ (ap (λ l. l ++ b.more) a.records ∙ append_assoc log a.more b.more);
@@ -78,7 +78,7 @@ pub none_sent : (es : List ScheduleEntry) (s : Stack) → Holds (plan_in s.sheet
 none_sent es s h = record { view = start (plan_in s.sheet); holds = h; comes = refl; on_record = tt; traced = tt }
 
 -- as many records as commands
-pub recorded_long : (ss : List Sent) (log : List Record) → AreRecords ss log → length log ≡ length ss
+pub recorded_long : (ss : List SentCommand) (log : List Record) → AreRecords ss log → length log ≡ length ss
 recorded_long [] [] h = refl
 recorded_long [] (e ∷ log) h = absurd h
 recorded_long (s ∷ ss) [] h = absurd h
@@ -116,7 +116,7 @@ AllLaw = (es : List ScheduleEntry) (s : Stack) (log : List Record) (m : Setting)
 pub record IsWhole (s : Script) (t : Table) (begun r : Stack) (log log' more : List Record) : Type 0 where
   pub plan : IsPlanFor s t (plan_in begun.sheet)
   pub first : Holds (plan_in begun.sheet) begun.machine (start (plan_in begun.sheet))
-  pub stays : Stays begun r
+  pub stays : StackStays begun r
   pub sent : begun.machine.steps ≡ 0 → SendsBy (entries_of s.schedule) begun r log log'
   pub records : log' ≡ log ++ more
   pub stack : IsStack r

@@ -4,7 +4,7 @@ ghost use Rattle.std.specs.Prelude.{◌≡◌, ◌≤◌, List, length};
 ghost use Rattle.rig_api.specs.State.{Stays as RigStays};
 ghost use Rattle.stack_view.specs.Runs.{ScheduleEntry};
 ghost use Rattle.stack_core.specs.Going.{StandsOver, Went};
-ghost use Rattle.stack_core.specs.Stacks.{GoesOn, HasStep, IsFinished, Stays, plan_in};
+ghost use Rattle.stack_core.specs.Stacks.{GoesOn, HasStep, IsFinished, StackStays, plan_in};
 ghost use Rattle.script_stack.specs.Sends.{SendsBy, entries_of};
 
 use rig_api::Rig;
@@ -14,7 +14,7 @@ use stack_core::Stack;
 fn run_schedule<R: Rig>(stack: &mut Stack, schedule: &[(u32, u32)], rig: &mut R)
     requires { StandsOver stack.old (R.state rig.old) }
     ensures stands { StandsOver stack.new (R.state rig.new) }
-    ensures stays { Stays stack.old stack.new }
+    ensures stays { StackStays stack.old stack.new }
     ensures rig { RigStays (R.state rig.old) (R.state rig.new) }
     ensures goes { GoesOn (R.state rig.old) (R.state rig.new) }
     ensures went { Went stack.old (R.state rig.old) stack.new (R.state rig.new) }
@@ -33,7 +33,7 @@ fn run_schedule<R: Rig>(stack: &mut Stack, schedule: &[(u32, u32)], rig: &mut R)
 fn run_rest<R: Rig>(stack: &mut Stack, rig: &mut R)
     requires { StandsOver stack.old (R.state rig.old) }
     ensures stands { StandsOver stack.new (R.state rig.new) }
-    ensures stays { Stays stack.old stack.new }
+    ensures stays { StackStays stack.old stack.new }
     ensures rig { RigStays (R.state rig.old) (R.state rig.new) }
     ensures goes { GoesOn (R.state rig.old) (R.state rig.new) }
     ensures went { Went stack.old (R.state rig.old) stack.new (R.state rig.new) }
@@ -51,7 +51,7 @@ fn run_rest<R: Rig>(stack: &mut Stack, rig: &mut R)
 pub fn run_all<R: Rig>(stack: &mut Stack, schedule: &[(u32, u32)], rig: &mut R)
     requires { StandsOver stack.old (R.state rig.old) }
     ensures stands { StandsOver stack.new (R.state rig.new) }
-    ensures stays { Stays stack.old stack.new }
+    ensures stays { StackStays stack.old stack.new }
     ensures rig { RigStays (R.state rig.old) (R.state rig.new) }
     ensures goes { GoesOn (R.state rig.old) (R.state rig.new) }
     ensures went { Went stack.old (R.state rig.old) stack.new (R.state rig.new) }

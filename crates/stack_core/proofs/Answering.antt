@@ -24,8 +24,8 @@ use Rattle.rig_api.specs.Telling.{spec_at, unit_at}
 use Rattle.answered_record.specs.Answered.{Answers, AreFrames, FramesBy, FramesUnder, room_by, room_of, room_under}
 use Rattle.answered_record.proofs.Exchange.{exchange_puts}
 use Rattle.dix_adapter.specs.declared.adapter.Adapter.{Adapter}
-use Rattle.dix_adapter.specs.Carried.{Fetched, Sent, any_bad, command_for, command_of, frame_len, out_of, sends, way_of}
-use Rattle.dix_adapter.specs.Groups.{IsGroup, IsProtect, blocks_in, first_of, label_of, size}
+use Rattle.dix_adapter.specs.Carried.{Fetched, WasSent, any_bad, command_for, command_of, frame_len, out_of, sends, way_of}
+use Rattle.dix_adapter.specs.Groups.{IsCarriedGroup, IsProtect, blocks_in, first_of, label_of, size}
 use Rattle.dix_adapter.proofs.Asking.{asked-for, count-is, fields_of, protect-is, request_by}
 use Rattle.dix_adapter.proofs.Blocks.{length-in}
 use Rattle.dix_adapter.proofs.GoingOut.{all_sent}
@@ -61,7 +61,7 @@ all_of w (x ∷ xs) h = All-cons (λ x. length {A = ℕ} x ≡ w) x xs h.0 (all_
 
 -- ---- over a rig that tells its units, without faults, whose device has blocks of the group's size
 
-module _ (a : Adapter) (ios : List Io) (req : List Bio) (pool pool' : List (List ℕ)) (bytes : ℕ) (us : List Stored) (fates : List Fate) (old new : RigState) (protect : IsProtect a.protect) (group : IsGroup a pool bytes ios req) (known : (spec_at old.standing (first_of req).dev).size ≡ bytes)
+module _ (a : Adapter) (ios : List Io) (req : List Bio) (pool pool' : List (List ℕ)) (bytes : ℕ) (us : List Stored) (fates : List Fate) (old new : RigState) (protect : IsProtect a.protect) (group : IsCarriedGroup a pool bytes ios req) (known : (spec_at old.standing (first_of req).dev).size ≡ bytes)
     (stands : Stands old.standing us (first_of req).dev) (units : old.units ≡ Some us) (armed : old.armed ≡ []) (calm : Calm old.faults new.faults) where
   stored : All (λ block. length {A = ℕ} block ≡ stored_size (unit_at us (first_of req).dev).ty (unit_at us (first_of req).dev).size) (unit_at us (first_of req).dev).blocks
   stored = all_of (stored_size (unit_at us (first_of req).dev).ty (unit_at us (first_of req).dev).size) (unit_at us (first_of req).dev).blocks stands.long
@@ -69,7 +69,7 @@ module _ (a : Adapter) (ios : List Io) (req : List Bio) (pool pool' : List (List
   same_size : (spec_at old.standing (first_of req).dev).size ≡ (unit_at us (first_of req).dev).size
   same_size = ap (λ (u : UnitSpec). u.size) (sym stands.shape)
 
-  pub sent_puts : (first_of req).dir ≡ Write → any_bad (map (sends a ios (flat pool)) (blocks_in req)) ≡ false → Sent a ios req pool pool' fates old new → Answers us old new
+  pub sent_puts : (first_of req).dir ≡ Write → any_bad (map (sends a ios (flat pool)) (blocks_in req)) ≡ false → WasSent a ios req pool pool' fates old new → Answers us old new
   sent_puts dir good x =
       let dev = (first_of req).dev in
       let k = (spec_at old.standing dev).size in

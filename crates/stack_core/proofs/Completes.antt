@@ -41,7 +41,7 @@ use Rattle.run_follows.proofs.Groups.{AllNumbered, ids_are, settled_given}
 use Rattle.run_follows.proofs.Letting.{lets_of}
 use Rattle.stack_core.specs.Courses.{Course}
 use Rattle.run_follows.specs.Moved.{why_of}
-use Rattle.run_follows.specs.Settled.{AllSettled, Kept}
+use Rattle.run_follows.specs.Settled.{AllSettled, KeptFates}
 use Rattle.run_follows.specs.Settling.{AreFates}
 use Rattle.run_follows.specs.Sheets.{io_at}
 use Rattle.stack_core.specs.Walking.{Data, Follow, GoesOn, IsReply, shown_in, status_of, why_in}
@@ -84,9 +84,9 @@ module _ {course : Course} (over : Setting) (n : ℕ) (opening : State) (es : Li
   ids : map id_of bs ≡ blocks cmd.bios
   ids = ids_are cmd.bios
 
-  module _ (new : Kept) (w : View) (o : w.ops ≡ settle (settled_of (blocks cmd.bios) cmd.fates) v.ops) (c : w.commands ≡ set v.commands j (done_with cmd)) (mode : Mode) (ty : PiType) (me : mode ≡ over.mode) (te : ty ≡ host_type over.ty) (sizes : size cmd.bios ≡ length cmd.fates)
+  module _ (new : KeptFates) (w : View) (o : w.ops ≡ settle (settled_of (blocks cmd.bios) cmd.fates) v.ops) (c : w.commands ≡ set v.commands j (done_with cmd)) (mode : Mode) (ty : PiType) (me : mode ≡ over.mode) (te : ty ≡ host_type over.ty) (sizes : size cmd.bios ≡ length cmd.fates)
       (settles : AllSettled mode ty ios d.starts cmd.bios cmd.fates (length cmd.bios) (record { pages = d.pool; held = d.held }) new) where
-    abbrev old : Kept
+    abbrev old : KeptFates
     old = record { pages = d.pool; held = d.held }
 
     abbrev why : ℕ → ℕ → Option Why

@@ -2,7 +2,7 @@
 use Rattle.std.proofs.Common.{◌<◌, ℕ, List, length, sym, ap, subst}
 use Rattle.bio_core.specs.declared.request.Io.{Io}
 use Rattle.dix_adapter.specs.Walking.{HasHost}
-use Rattle.stack_view.specs.Plan.{Plan, Request}
+use Rattle.stack_view.specs.Plan.{Plan, PlannedOp}
 use Rattle.stack_ops.specs.declared.op.Op.{Op}
 use Rattle.stack_ops.specs.declared.op.Op.TheVariants.{Fetch, FetchPi, Fill, Overwrite, Put, Seal, Show, Wait, Write, WritePi}
 use Rattle.block_path.specs.Acts.{State}
@@ -18,7 +18,7 @@ use Rattle.dix_adapter.specs.declared.adapter.Adapter.{Adapter}
 use Rattle.stack_core.specs.declared.sheet.Sheet.{Sheet}
 use Rattle.stack_core.specs.declared.stack.Stack.{Stack}
 use Rattle.run_follows.specs.Sheets.{io_at, op_in}
-use Rattle.stack_core.specs.Stacks.{IsStack, Stays, plan_in}
+use Rattle.stack_core.specs.Stacks.{IsStack, StackStays, plan_in}
 use Rattle.run_follows.specs.Seals.{IsSealed}
 use Rattle.stack_core.specs.Walking.{IsOver}
 use Rattle.run_follows.proofs.Facts.{request-at}
@@ -49,9 +49,9 @@ module _ (m : Setting) (n : ℕ) (opening : State) (s : Stack) (h : IsStack s) (
   pub places : Places m plan ops ios
   places = record {
     many = h.fixed.ops;
-    first = λ i. ap (λ (r : Request). r.first) (request-at ios i);
-    count = λ i. ap (λ (r : Request). r.count) (request-at ios i);
-    dir = λ i. ap (λ (r : Request). r.dir) (request-at ios i);
+    first = λ i. ap (λ (r : PlannedOp). r.first) (request-at ios i);
+    count = λ i. ap (λ (r : PlannedOp). r.count) (request-at ios i);
+    dir = λ i. ap (λ (r : PlannedOp). r.dir) (request-at ios i);
     dev = λ v. ap (λ (x : List Entry). (place_in x v).0) (sym o.entries);
     lba = λ v. ap (λ (x : List Entry). (place_in x v).1) (sym o.entries);
   }
@@ -91,7 +91,7 @@ over_told m es n opening sheet a host o = record {
 }
 
 -- and once the stack has gone on
-pub over_stays : (m : Setting) (n : ℕ) (opening : State) (s s' : Stack) → Stays s s' → IsOver m n opening s.sheet s.adapter s.host → IsOver m n opening s'.sheet s'.adapter s'.host
+pub over_stays : (m : Setting) (n : ℕ) (opening : State) (s s' : Stack) → StackStays s s' → IsOver m n opening s.sheet s.adapter s.host → IsOver m n opening s'.sheet s'.adapter s'.host
 over_stays m n opening s s' stays o =
     subst (λ (x : Sheet). IsOver m n opening x s'.adapter s'.host) (sym stays.sheet)
     (subst (λ (a : Adapter). IsOver m n opening s.sheet a s'.host) (sym stays.adapter)

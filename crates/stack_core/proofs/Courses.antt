@@ -27,10 +27,10 @@ use Rattle.run_laws.specs.ScriptMoves.{fates_of, own_at}
 use Rattle.run_laws.specs.Records.{recorded}
 use Rattle.dix_adapter.specs.declared.adapter.Adapter.{Adapter}
 use Rattle.dix_adapter.specs.Carried.{Unsent, any_bad, frame_len, sends}
-use Rattle.dix_adapter.specs.Groups.{IsGroup, IsProtect, blocks_in, first_of}
+use Rattle.dix_adapter.specs.Groups.{IsCarriedGroup, IsProtect, blocks_in, first_of}
 use Rattle.dix_adapter.specs.Ways.{CameIn, RecordedIn, RecordedOut, WentOut, blocks_told, shapes_of, site_of}
 use Rattle.run_follows.specs.Following.{Becomes, Follows}
-use Rattle.run_follows.specs.Gate.{AllPlaced, BecomesDone, IsAlone, LetsIn, MayMove, Spot, number, ops_of, parts_at, place}
+use Rattle.run_follows.specs.Gate.{AllPlaced, BecomesDone, IsAlone, LetsIn, MayMove, BlockSpot, number, ops_of, parts_at, place}
 use Rattle.run_follows.specs.Pieces.{AllMayMove, all_cut, all_made, with_all}
 use Rattle.run_follows.specs.Sending.{AllGoing, AllSized, NoneBefore, is_carried, with_fate, with_fates, with_status}
 use Rattle.run_follows.specs.Slots.{Admitted, Carried, Cut, Settled, Status, Waits}
@@ -55,7 +55,7 @@ use Rattle.run_follows.proofs.Spots.{steps_count}
 use Rattle.run_follows.specs.Flips.{Flips, flip_op, with_flips}
 use Rattle.run_follows.proofs.Flipped.{all_may_flip, all_placed_flip, before_flip, behind_flip, cut_flip, fates_flip, fates_take, flip_at, flip_here, flip_spot, going_flip, lets_flip, long_flips, made_flip, may_flip, number_flip, op_flip, ops_flip, parts_flip, request_flip, split_flips, with_all_flip}
 use Rattle.run_follows.proofs.Overwriting.{between, flips_to, overwrite_falling}
-use Rattle.run_follows.specs.Slots.{Parts}
+use Rattle.run_follows.specs.Slots.{StepParts}
 use Rattle.rig_api.specs.declared.change.Change.{Change}
 use Rattle.rig_api.specs.declared.change.Change.TheVariants.{Flip}
 use Rattle.rig_api.specs.State.{RigState}
@@ -104,9 +104,9 @@ carried_still old new back e = by (is_carried new) refl where
   by true q = refl
   by false q = absurd (false≢true (sym (back q) ∙ e))
 
-moved_still : (m : Setting) (n : ℕ) (ops : List Op) (was next : Status) (spots : List Spot) (status : ℕ → ℕ → Status) (i k : ℕ) → is_carried was ≡ false → AllMayMove m n ops status was spots → is_carried (status i k) ≡ true → with_all spots next status i k ≡ status i k
+moved_still : (m : Setting) (n : ℕ) (ops : List Op) (was next : Status) (spots : List BlockSpot) (status : ℕ → ℕ → Status) (i k : ℕ) → is_carried was ≡ false → AllMayMove m n ops status was spots → is_carried (status i k) ≡ true → with_all spots next status i k ≡ status i k
 moved_still m n ops was next spots status i k none may e = kept i k next spots status (apart spots may) where
-  apart : (spots : List Spot) → AllMayMove m n ops status was spots → IsNotIn i k spots
+  apart : (spots : List BlockSpot) → AllMayMove m n ops status was spots → IsNotIn i k spots
   apart [] h = tt
   apart (s ∷ spots) h = ((λ p q. false≢true (sym none ∙ (ap is_carried (sym h.1.1.0) ∙ (sym (ap (λ j. is_carried (status j (place s))) p) ∙ (sym (ap (λ l. is_carried (status i l)) q) ∙ e))))), apart spots h.1.1.1.1)
 
@@ -161,7 +161,7 @@ begins_by (Falling flips) none m n ops opening status w empty =
 
 -- ---- blocks move on together
 
-pub admitted_by : (c : Course) (m : Setting) (n : ℕ) (ops : List Op) (opening : State) (spots : List Spot) (now : State) (status : ℕ → ℕ → Status) (es : List Sent) → AllMayMove m n ops status Waits spots → FollowsBy c m n ops opening status now es →
+pub admitted_by : (c : Course) (m : Setting) (n : ℕ) (ops : List Op) (opening : State) (spots : List BlockSpot) (now : State) (status : ℕ → ℕ → Status) (es : List Sent) → AllMayMove m n ops status Waits spots → FollowsBy c m n ops opening status now es →
     let after = plain act (all_made m n spots) now in GoesTo c m n ops opening (with_all spots Admitted status) es after.bytes after.blocks
 admitted_by Straight m n ops opening spots now status es may h = straight m n ops opening (with_all spots Admitted status) es (plain act (all_made m n spots) now) (all_admitted m n ops opening spots now status es may h)
 admitted_by (Falling flips) m n ops opening spots now status es may h =
@@ -174,7 +174,7 @@ admitted_by (Falling flips) m n ops opening spots now status es may h =
     subst (λ (s : State). GoesTo (Falling flips) m n ops opening (with_all spots Admitted status) es (plain act (all_made m n spots) s).bytes (plain act (all_made m n spots) s).blocks) h.1.0
     (fallen flips m n ops opening (with_all spots Admitted status) es _ _ still there'')
 
-pub cut_by : (c : Course) (m : Setting) (n : ℕ) (ops : List Op) (opening : State) (spots : List Spot) (now : State) (status : ℕ → ℕ → Status) (es : List Sent) → AllMayMove m n ops status Admitted spots → FollowsBy c m n ops opening status now es →
+pub cut_by : (c : Course) (m : Setting) (n : ℕ) (ops : List Op) (opening : State) (spots : List BlockSpot) (now : State) (status : ℕ → ℕ → Status) (es : List Sent) → AllMayMove m n ops status Admitted spots → FollowsBy c m n ops opening status now es →
     let after = plain act (all_cut m n spots) now in GoesTo c m n ops opening (with_all spots Cut status) es after.bytes after.blocks
 cut_by Straight m n ops opening spots now status es may h = straight m n ops opening (with_all spots Cut status) es (plain act (all_cut m n spots) now) (all_are_cut m n ops opening spots now status es may h)
 cut_by (Falling flips) m n ops opening spots now status es may h =
@@ -189,10 +189,10 @@ cut_by (Falling flips) m n ops opening spots now status es may h =
 
 -- ---- a block is settled
 
-abbrev pub settled_at : (m : Setting) (n : ℕ) (s : Spot) → Option Why → State → Option Why
+abbrev pub settled_at : (m : Setting) (n : ℕ) (s : BlockSpot) → Option Why → State → Option Why
 settled_at m n s fate now = first_why fate (get_or (plain_tells act tell (parts_at m n s).settled now) 0 silent).why
 
-pub settled_by : (c : Course) (m : Setting) (n : ℕ) (s : Spot) (opening now : State) (old new : ℕ → ℕ → Status) (es : List Sent) (fate : Option Why) → MayMove m n old s → old (number s) (place s) ≡ Carried fate → FollowsBy c m n (ops_of s) opening old now es →
+pub settled_by : (c : Course) (m : Setting) (n : ℕ) (s : BlockSpot) (opening now : State) (old new : ℕ → ℕ → Status) (es : List Sent) (fate : Option Why) → MayMove m n old s → old (number s) (place s) ≡ Carried fate → FollowsBy c m n (ops_of s) opening old now es →
     Becomes (number s) (place s) (Settled (settled_at m n s fate now)) old new → let after = plain act (parts_at m n s).settled now in GoesTo c m n (ops_of s) opening new es after.bytes after.blocks
 settled_by Straight m n s opening now old new es fate may e h becomes =
     straight m n (ops_of s) opening new es (plain act (parts_at m n s).settled now)
@@ -203,13 +203,13 @@ settled_by (Falling flips) m n s opening now old new es fate may e h becomes =
     let j = number_flip flips s in
     let parts = parts_flip m n flips s in
     let found : settled_at m n s fate now ≡ settled_at m n own fate (h.0).after
-    = ap (settled_at m n s fate) (sym h.1.0) ∙ ap (λ (p : Parts). first_why fate (get_or (plain_tells act tell p.settled (h.0).after) 0 silent).why) (sym parts) in
+    = ap (settled_at m n s fate) (sym h.1.0) ∙ ap (λ (p : StepParts). first_why fate (get_or (plain_tells act tell p.settled (h.0).after) 0 silent).why) (sym parts) in
     let becomes' : Becomes (number own) (place s) (Settled (settled_at m n own fate (h.0).after)) old new
     = subst (λ i. Becomes i (place s) (Settled (settled_at m n own fate (h.0).after)) old new) (sym j) (subst (λ w. Becomes (number s) (place s) (Settled w) old new) found becomes) in
     let there = subst (λ (ops : List Op). (f : FollowsFalling m n ops opening old now.bytes now.blocks es) → Becomes (number own) (place s) (Settled (settled_at m n own fate f.after)) old new
     → FollowsFalling m n ops opening new (plain act (parts_at m n own).settled f.after).bytes (plain act (parts_at m n own).settled f.after).blocks es) (ops_flip flips s)
     (λ f b. settled_falling m n own opening old new now.bytes now.blocks es fate (may_flip m n flips old s may) (ap (λ i. old i (place s)) j ∙ e) f b) h.0 becomes' in
-    let there' = subst (λ (p : Parts). FollowsFalling m n (with_flips flips 1 (ops_of s)) opening new (plain act p.settled (h.0).after).bytes (plain act p.settled (h.0).after).blocks es) parts there in
+    let there' = subst (λ (p : StepParts). FollowsFalling m n (with_flips flips 1 (ops_of s)) opening new (plain act p.settled (h.0).after).bytes (plain act p.settled (h.0).after).blocks es) parts there in
     subst (λ (x : State). GoesTo (Falling flips) m n (ops_of s) opening new es (plain act (parts_at m n s).settled x).bytes (plain act (parts_at m n s).settled x).blocks) h.1.0
     (fallen flips m n (ops_of s) opening new es _ _ (still_flipped flips old new still h.1.1) there')
   where
@@ -352,8 +352,8 @@ none_held bs fs status es none i k e = none i k (still_uncarried bs fs status i 
 fates_still : (flips : Flips) (bs : List Block) (fs : List Fate) (status : ℕ → ℕ → Status) → AllFlipped flips status → AllFlipped flips (with_fates bs fs status)
 fates_still flips bs fs status h = still_flipped flips status (with_fates bs fs status) (λ i c. carried_still (status i 0) (with_fates bs fs status i 0) (still_uncarried bs fs status i 0) c) h
 
-pub held_by : (c : Course) (m : Setting) (n : ℕ) (ops : List Op) (a : Adapter) (ios : List Io) (req : List Bio) (pool pool' : List (List ℕ)) (fates : List Fate) (opening now : State) (status : ℕ → ℕ → Status) (es : List Sent) (spots : List Spot) →
-    IsGroup a pool m.size ios req → (first_of req).dir ≡ WriteDir → m.site.faults ≡ a.tamper → Unsent a ios req pool pool' fates → AllGoing m n ops a ios (length opening.logs) status (blocks_in req) spots → now.bytes ≡ flat pool →
+pub held_by : (c : Course) (m : Setting) (n : ℕ) (ops : List Op) (a : Adapter) (ios : List Io) (req : List Bio) (pool pool' : List (List ℕ)) (fates : List Fate) (opening now : State) (status : ℕ → ℕ → Status) (es : List Sent) (spots : List BlockSpot) →
+    IsCarriedGroup a pool m.size ios req → (first_of req).dir ≡ WriteDir → m.site.faults ≡ a.tamper → Unsent a ios req pool pool' fates → AllGoing m n ops a ios (length opening.logs) status (blocks_in req) spots → now.bytes ≡ flat pool →
     FollowsBy c m n ops opening status now es → GoesTo c m n ops opening (with_fates (blocks_in req) fates status) es (flat pool) now.blocks
 held_by Straight m n ops a ios req pool pool' fates opening now status es spots g w faults u going pages h =
     let held = held_back m n ops a ios req pool pool' fates opening now status es spots g w faults u going pages h in
@@ -371,7 +371,7 @@ abbrev pub StopsBy : Course → (size : ℕ) → Option Stop → Type 0
 StopsBy Straight size stop = stop ≡ None
 StopsBy (Falling flips) size stop = IfSome stop (λ s. length s.left ≡ size)
 
-module _ (m : Setting) (n : ℕ) (ops : List Op) (a : Adapter) (ios : List Io) (req : List Bio) (pool : List (List ℕ)) (us : List Stored) (protect : IsProtect a.protect) (g : IsGroup a pool m.size ios req) (site : m.site ≡ site_of a (shapes_of us)) where
+module _ (m : Setting) (n : ℕ) (ops : List Op) (a : Adapter) (ios : List Io) (req : List Bio) (pool : List (List ℕ)) (us : List Stored) (protect : IsProtect a.protect) (g : IsCarriedGroup a pool m.size ios req) (site : m.site ≡ site_of a (shapes_of us)) where
   -- cells that are the pool's and the units'
   abbrev AreShown : State → Type 0
   AreShown now = (now.bytes ≡ flat pool) × (now.blocks ≡ blocks_told us)
@@ -380,7 +380,7 @@ module _ (m : Setting) (n : ℕ) (ops : List Op) (a : Adapter) (ios : List Io) (
   of_pool flips opening now status es same h =
       subst (λ bytes. FollowsFalling m n (with_flips flips 1 ops) opening status bytes (blocks_told us) es) same.0 (subst (λ blocks. FollowsFalling m n (with_flips flips 1 ops) opening status now.bytes blocks es) same.1 h.0)
 
-  pub out_by : (c : Course) (stop : Option Stop) (fates : List Fate) (old new : RigState) (opening now : State) (status : ℕ → ℕ → Status) (spots : List Spot) → StopsBy c (stored_size m.ty m.size) stop → (first_of req).dir ≡ WriteDir → any_bad (map (sends a ios (flat pool)) (blocks_in req)) ≡ false →
+  pub out_by : (c : Course) (stop : Option Stop) (fates : List Fate) (old new : RigState) (opening now : State) (status : ℕ → ℕ → Status) (spots : List BlockSpot) → StopsBy c (stored_size m.ty m.size) stop → (first_of req).dir ≡ WriteDir → any_bad (map (sends a ios (flat pool)) (blocks_in req)) ≡ false →
       RecordedOut a ios req (flat pool) fates old new → (told : WentOut a ios req (flat pool) us stop fates old new) → AllGoing m n ops a ios (length opening.logs) status (blocks_in req) spots → NoneBefore status (recorded m old.log) → AreShown now →
       FollowsBy c m n ops opening status now (recorded m old.log) → GoesTo c m n ops opening (with_fates (blocks_in req) fates status) (recorded m new.log) (flat pool) (blocks_told told.units)
   out_by Straight None fates old new opening now status spots stops w good r told going none same h =
@@ -392,7 +392,7 @@ module _ (m : Setting) (n : ℕ) (ops : List Op) (a : Adapter) (ios : List Io) (
       (fallen_out m n (with_flips flips 1 ops) a ios req pool us protect g site stop fates old new opening status (map (flip_spot flips) spots) w good r told stops
       (going_flip m n flips ops a ios (length opening.logs) status (blocks_in req) spots going) none (of_pool flips opening now status (recorded m old.log) same h))
 
-  pub in_by : (c : Course) (stop : Option Stop) (pool' : List (List ℕ)) (fates : List Fate) (old new : RigState) (opening now : State) (status : ℕ → ℕ → Status) (spots : List Spot) → StopsBy c (stored_size m.ty m.size) stop → (first_of req).dir ≡ Read →
+  pub in_by : (c : Course) (stop : Option Stop) (pool' : List (List ℕ)) (fates : List Fate) (old new : RigState) (opening now : State) (status : ℕ → ℕ → Status) (spots : List BlockSpot) → StopsBy c (stored_size m.ty m.size) stop → (first_of req).dir ≡ Read →
       AllSized m a ios (blocks_told us) (frame_len a ios req) (blocks_in req) → RecordedIn a ios req pool pool' fates old new → CameIn a ios req pool pool' us stop fates old new → AllGoing m n ops a ios (length opening.logs) status (blocks_in req) spots →
       NoneBefore status (recorded m old.log) → AreShown now → FollowsBy c m n ops opening status now (recorded m old.log) → GoesTo c m n ops opening (with_fates (blocks_in req) fates status) (recorded m new.log) (flat pool') (blocks_told us)
   in_by Straight None pool' fates old new opening now status spots stops w sized r told going none same h =

@@ -22,9 +22,9 @@ use Rattle.block_path.specs.Serial.{plain, plain_tells}
 use Rattle.whole_run.specs.Settings.{Setting, block_of, route}
 use Rattle.run_laws.specs.BoundRun.{fates}
 use Rattle.run_follows.specs.Following.{Becomes}
-use Rattle.run_follows.specs.Gate.{MayMove, Spot, number, parts_at, place}
+use Rattle.run_follows.specs.Gate.{MayMove, BlockSpot, number, parts_at, place}
 use Rattle.run_follows.specs.Sending.{with_status}
-use Rattle.run_follows.specs.Slots.{Carried, Parts, Settled as IsSettled, Status}
+use Rattle.run_follows.specs.Slots.{Carried, StepParts, Settled as IsSettled, Status}
 use Rattle.run_follows.proofs.Sends.{with_here, with_other}
 use Rattle.run_follows.proofs.Quietly.{no_second}
 use Rattle.run_follows.specs.Spots.{spot_at}
@@ -105,7 +105,7 @@ module _ (course : Course) (m : Setting) (n : ℕ) (opening : State) (es : List 
   abbrev io : Io
   io = io_at ios i
 
-  abbrev s : Spot
+  abbrev s : BlockSpot
   s = spot_at m ops i k
 
   abbrev cell : ℕ
@@ -125,7 +125,7 @@ module _ (course : Course) (m : Setting) (n : ℕ) (opening : State) (es : List 
       let route_is : route m (block_of (suc i) io.first k) ≡ r = ap (λ x. record (route m (block_of (suc i) io.first k)) { lba = x }) at ∙ ap (λ x. record (route m (block_of (suc i) io.first k)) { lba = lba; size = x }) (sym size) in
       let acts = (parts_at m n s).settled in
       let acts_are : acts ≡ settled_of io.dir io.pi r (data_cells io k) k cell
-      = ap (λ (x : Parts). x.settled) (parts_there m n (length opening.logs) p ops ios old g i l k there) ∙ ((block_is m n (length opening.logs) p ops ios old g i l k there).settled ∙ ap (λ x. settled_of io.dir io.pi x (data_cells io k) k cell) route_is) in
+      = ap (λ (x : StepParts). x.settled) (parts_there m n (length opening.logs) p ops ios old g i l k there) ∙ ((block_is m n (length opening.logs) p ops ios old g i l k there).settled ∙ ap (λ x. settled_of io.dir io.pi x (data_cells io k) k cell) route_is) in
       let x = subst (λ a. Leaves a fate now new result) (sym acts_are) (leaves m io old w (g.whole i li) (g.host i (omega arith)) k there label dev lba now same cell fate touched new result found done) in
       let next = with_status (suc i) k (IsSettled (why_of result)) status in
       let e : status (number s) (place s) ≡ Carried (why_of fate) = ap (λ a. status a (place s)) num ∙ (ap (status (suc i)) plc ∙ was) in

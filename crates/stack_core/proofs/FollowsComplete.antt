@@ -32,7 +32,7 @@ use Rattle.run_follows.proofs.Spots.{Lets, may_move}
 use Rattle.dix_adapter.specs.Groups.{data_cells, tuple_cells}
 use Rattle.stack_core.specs.Courses.{Course, FollowsBy}
 use Rattle.run_follows.specs.Moved.{why_of}
-use Rattle.run_follows.specs.Settled.{IsSettled, Kept, OneSettled}
+use Rattle.run_follows.specs.Settled.{IsSettled, KeptFates, OneSettled}
 use Rattle.run_follows.specs.Settling.{AreFates}
 use Rattle.run_follows.specs.Sheets.{io_at}
 use Rattle.stack_core.specs.Walking.{why_in}
@@ -108,28 +108,28 @@ lets_on m ops old new i e h j l = by (h j l)
     by (inr x) = inr x
 
 module _ (course : Course) (m : Setting) (n : ℕ) (opening : State) (es : List Sent) (p : Plan) (ops : List Op) (ios : List Io) (starts : List ℕ) (found : fates ops ≤ length opening.fates) where
-  pub each_keeps : (x : ℕ) (bs : List Block) (fs : List Fate) (old new : Kept) → NotAt starts x bs → Each m.mode (host_type m.ty) ios starts bs fs old new → get_or new.held x Untouched ≡ get_or old.held x Untouched
-  each_keeps x [] fs old new a h = ap (λ (k : Kept). get_or k.held x Untouched) h
+  pub each_keeps : (x : ℕ) (bs : List Block) (fs : List Fate) (old new : KeptFates) → NotAt starts x bs → Each m.mode (host_type m.ty) ios starts bs fs old new → get_or new.held x Untouched ≡ get_or old.held x Untouched
+  each_keeps x [] fs old new a h = ap (λ (k : KeptFates). get_or k.held x Untouched) h
   each_keeps x (b ∷ bs) [] old new a h = absurd h
   each_keeps x (b ∷ bs) (f ∷ fs) old new a h = each_keeps x bs fs h.0 new a.1 h.1.1 ∙ by f h.1.0
     where
       by : (f : Fate) → OneSettled m.mode (host_type m.ty) (io_at ios (b.op - 1)) (get_or starts (b.op - 1) 0) b.k b.lba f old h.0 → get_or (h.0).held x Untouched ≡ get_or old.held x Untouched
       by Good s = ap (λ l. get_or l x Untouched) s.held ∙ get_or-set_other old.held (at starts b) x s.result Untouched (λ (e : x ≡ at starts b). a.0 (sym e))
       by (Bad why) s = ap (λ l. get_or l x Untouched) s.held ∙ get_or-set_other old.held (at starts b) x s.result Untouched (λ (e : x ≡ at starts b). a.0 (sym e))
-      by Untouched s = ap (λ (k : Kept). get_or k.held x Untouched) s
+      by Untouched s = ap (λ (k : KeptFates). get_or k.held x Untouched) s
 
-  pub each_whole : (bs : List Block) (fs : List Fate) (old new : Kept) → Each m.mode (host_type m.ty) ios starts bs fs old new → AreWhole old.pages → AreWhole new.pages
-  each_whole [] fs old new h w = subst (λ (k : Kept). AreWhole k.pages) (sym h) w
+  pub each_whole : (bs : List Block) (fs : List Fate) (old new : KeptFates) → Each m.mode (host_type m.ty) ios starts bs fs old new → AreWhole old.pages → AreWhole new.pages
+  each_whole [] fs old new h w = subst (λ (k : KeptFates). AreWhole k.pages) (sym h) w
   each_whole (b ∷ bs) [] old new h w = absurd h
   each_whole (b ∷ bs) (f ∷ fs) old new h w = each_whole bs fs h.0 new h.1.1 (by f h.1.0)
     where
       by : (f : Fate) → OneSettled m.mode (host_type m.ty) (io_at ios (b.op - 1)) (get_or starts (b.op - 1) 0) b.k b.lba f old h.0 → AreWhole (h.0).pages
       by Good s = (keeps_settled (io_at ios (b.op - 1)).dir m.mode (host_type m.ty) (io_at ios (b.op - 1)) b.k b.lba Good old.pages (h.0).pages s.result s.settled).whole w
       by (Bad why) s = (keeps_settled (io_at ios (b.op - 1)).dir m.mode (host_type m.ty) (io_at ios (b.op - 1)) b.k b.lba (Bad why) old.pages (h.0).pages s.result s.settled).whole w
-      by Untouched s = subst (λ (k : Kept). AreWhole k.pages) (sym s) w
+      by Untouched s = subst (λ (k : KeptFates). AreWhole k.pages) (sym s) w
 
   -- one block more is settled
-  one_more : (b : Block) (f : Fate) (bs : List Block) (fs : List Fate) (status : ℕ → ℕ → Status) (old mid : Kept) (now : State) → is_settled f ≡ true → (f ≡ Untouched → ⊥) → AreFates ios starts old.held → AllOf m ops ios starts status (b ∷ bs) (f ∷ fs) → Lets m status ops (b.op - 1) → Stands m n (length opening.logs) p ops ios old.pages → AreWhole old.pages → now.bytes ≡ flat old.pages → FollowsBy course m n ops opening status now es →
+  one_more : (b : Block) (f : Fate) (bs : List Block) (fs : List Fate) (status : ℕ → ℕ → Status) (old mid : KeptFates) (now : State) → is_settled f ≡ true → (f ≡ Untouched → ⊥) → AreFates ios starts old.held → AllOf m ops ios starts status (b ∷ bs) (f ∷ fs) → Lets m status ops (b.op - 1) → Stands m n (length opening.logs) p ops ios old.pages → AreWhole old.pages → now.bytes ≡ flat old.pages → FollowsBy course m n ops opening status now es →
       (s : IsSettled m.mode (host_type m.ty) (io_at ios (b.op - 1)) (get_or starts (b.op - 1) 0) b.k b.lba f old mid) → IsOn course m n ops opening es (with_status b.op b.k (NowSettled (why_of s.result)) status) mid.pages now.blocks
   one_more b f bs fs status old mid now t u kept h lets g w same follows s =
       let i = b.op - 1 in
@@ -162,9 +162,9 @@ module _ (course : Course) (m : Setting) (n : ℕ) (opening : State) (es : List 
   stays_over b w next status e j q o = with_other b.op b.k j q next status (λ (x : j ≡ b.op) (y : q ≡ b.k). let z : true ≡ false = sym o ∙ (ap is_over (ap (λ t. status t q) x ∙ ap (status b.op) y) ∙ ap is_over e) in cc)
 
   -- all blocks of a command, one after another
-  pub all_settled : (bs : List Block) (fs : List Fate) (status : ℕ → ℕ → Status) (old new : Kept) (now : State) → AreFates ios starts old.held → AllOf m ops ios starts status bs fs → AllLets status bs → Stands m n (length opening.logs) p ops ios old.pages → AreWhole old.pages → now.bytes ≡ flat old.pages → FollowsBy course m n ops opening status now es →
+  pub all_settled : (bs : List Block) (fs : List Fate) (status : ℕ → ℕ → Status) (old new : KeptFates) (now : State) → AreFates ios starts old.held → AllOf m ops ios starts status bs fs → AllLets status bs → Stands m n (length opening.logs) p ops ios old.pages → AreWhole old.pages → now.bytes ≡ flat old.pages → FollowsBy course m n ops opening status now es →
       Each m.mode (host_type m.ty) ios starts bs fs old new → IsOn course m n ops opening es (with_settled bs fs (why_in starts new.held) status) new.pages now.blocks
-  all_settled [] fs status old new now kept a lets g w same follows h = record { after = now; bytes = same ∙ ap (λ (k : Kept). flat k.pages) (sym h); same_blocks = refl; follows = follows }
+  all_settled [] fs status old new now kept a lets g w same follows h = record { after = now; bytes = same ∙ ap (λ (k : KeptFates). flat k.pages) (sym h); same_blocks = refl; follows = follows }
   all_settled (b ∷ bs) [] status old new now kept a lets g w same follows h = absurd h
   all_settled (b ∷ bs) (f ∷ fs) status old new now kept a lets g w same follows h =
       by f refl h.1.0 (λ status' now' kept' a' lets' g' w' same' follows'. all_settled bs fs status' h.0 new now' kept' a' lets' g' w' same' follows' h.1.1)
@@ -192,5 +192,5 @@ module _ (course : Course) (m : Setting) (n : ℕ) (opening : State) (es : List 
       by Good e s more = touched Good e refl (λ (x : Good ≡ Untouched). good_touched x) s more
       by (Bad x) e s more = touched (Bad x) e refl (λ (y : Bad x ≡ Untouched). bad_touched x y) s more
       by Untouched e s more =
-          more status now (subst (λ (k : Kept). AreFates ios starts k.held) (sym s) kept) a.1.1.1.1 lets.1 (subst (λ (k : Kept). Stands m n (length opening.logs) p ops ios k.pages) (sym s) g) (subst (λ (k : Kept). AreWhole k.pages) (sym s) w)
-          (same ∙ ap (λ (k : Kept). flat k.pages) (sym s)) follows
+          more status now (subst (λ (k : KeptFates). AreFates ios starts k.held) (sym s) kept) a.1.1.1.1 lets.1 (subst (λ (k : KeptFates). Stands m n (length opening.logs) p ops ios k.pages) (sym s) g) (subst (λ (k : KeptFates). AreWhole k.pages) (sym s) w)
+          (same ∙ ap (λ (k : KeptFates). flat k.pages) (sym s)) follows

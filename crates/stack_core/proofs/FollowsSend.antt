@@ -19,7 +19,7 @@ use Rattle.block_path.specs.Blocks.{Sent}
 use Rattle.whole_run.specs.Settings.{Setting, block_of, route}
 use Rattle.run_laws.specs.BoundRun.{rooms}
 use Rattle.run_laws.specs.ScriptMoves.{own_at}
-use Rattle.run_follows.specs.Gate.{Spot}
+use Rattle.run_follows.specs.Gate.{BlockSpot}
 use Rattle.run_follows.specs.Sending.{AllGoing, IsGoing, NoneBefore, carriage_of, with_fates}
 use Rattle.run_follows.specs.Slots.{Cut, Status}
 use Rattle.run_follows.specs.Spots.{op_in, spot_at, step_in}
@@ -45,7 +45,7 @@ pub record Adapts (m : Setting) (a : Adapter) : Type 0 where
   pub mode : m.mode ≡ mode_of a
   pub ty : m.ty ≡ a.ty
 
-abbrev pub spots_of : Setting → List Op → List Block → List Spot
+abbrev pub spots_of : Setting → List Op → List Block → List BlockSpot
 spots_of m ops [] = []
 spots_of m ops (b ∷ bs) = spot_at m ops (b.op - 1) b.k ∷ spots_of m ops bs
 

@@ -32,7 +32,7 @@ use Rattle.stack_view.proofs.Ops.{marks-settle, this-block}
 use Rattle.run_follows.specs.Statuses.{id_of}
 use Rattle.run_follows.proofs.Groups.{ids_are}
 use Rattle.stack_core.specs.OnRecord.{AreTraced, IsKeptBad, IsTraced}
-use Rattle.run_follows.specs.Settled.{Judged, Kept, OneSettled, Settled}
+use Rattle.run_follows.specs.Settled.{Judged, KeptFates, OneSettled, Settled}
 use Rattle.run_follows.specs.Settling.{AreFates, IsOf}
 use Rattle.run_follows.specs.Sheets.{io_at}
 use Rattle.run_follows.proofs.Chained.{Each, one_place}
@@ -111,26 +111,26 @@ more_found starts b bs f fs held r = record { op = r.op; k = r.k; why = r.why; t
     lift false e = rw e r.there
 
 module _ (mode : Mode) (ty : PiType) (ios : List Io) (starts : List ℕ) where
-  aside : (x : ℕ) (bs : List Block) (fs : List Fate) (old new : Kept) → Misses starts x bs → Each mode ty ios starts bs fs old new → get_or new.held x Untouched ≡ get_or old.held x Untouched
-  aside x [] fs old new a h = ap (λ (k : Kept). get_or k.held x Untouched) h
+  aside : (x : ℕ) (bs : List Block) (fs : List Fate) (old new : KeptFates) → Misses starts x bs → Each mode ty ios starts bs fs old new → get_or new.held x Untouched ≡ get_or old.held x Untouched
+  aside x [] fs old new a h = ap (λ (k : KeptFates). get_or k.held x Untouched) h
   aside x (b ∷ bs) [] old new a h = absurd h
   aside x (b ∷ bs) (f ∷ fs) old new a h = aside x bs fs h.0 new a.1 h.1.1 ∙ by f h.1.0
     where
       by : (f : Fate) → OneSettled mode ty (io_at ios (b.op - 1)) (get_or starts (b.op - 1) 0) b.k b.lba f old h.0 → get_or (h.0).held x Untouched ≡ get_or old.held x Untouched
       by Good s = ap (λ l. get_or l x Untouched) s.held ∙ get_or-set_other old.held (at starts b) x s.result Untouched (λ (e : x ≡ at starts b). a.0 (sym e))
       by (Bad why) s = ap (λ l. get_or l x Untouched) s.held ∙ get_or-set_other old.held (at starts b) x s.result Untouched (λ (e : x ≡ at starts b). a.0 (sym e))
-      by Untouched s = ap (λ (k : Kept). get_or k.held x Untouched) s
+      by Untouched s = ap (λ (k : KeptFates). get_or k.held x Untouched) s
 
-  one_long : (b : Block) (f : Fate) (old mid : Kept) → OneSettled mode ty (io_at ios (b.op - 1)) (get_or starts (b.op - 1) 0) b.k b.lba f old mid → length mid.held ≡ length old.held
+  one_long : (b : Block) (f : Fate) (old mid : KeptFates) → OneSettled mode ty (io_at ios (b.op - 1)) (get_or starts (b.op - 1) 0) b.k b.lba f old mid → length mid.held ≡ length old.held
   one_long b Good old mid s = ap length s.held ∙ length-set old.held (at starts b) s.result
   one_long b (Bad why) old mid s = ap length s.held ∙ length-set old.held (at starts b) s.result
-  one_long b Untouched old mid s = ap (λ (k : Kept). length k.held) s
+  one_long b Untouched old mid s = ap (λ (k : KeptFates). length k.held) s
 
   kept_long : (old mid : List Fate) → length mid ≡ length old → AreFates ios starts old → AreFates ios starts mid
   kept_long old mid e f = record { count = f.count; all = e ∙ f.all; begin = f.begin; within = λ i l. (let r = f.within i l in omega arith); few = (let r = f.few in omega arith) }
 
   -- of a command with a bad block one is kept
-  found : (bs : List Block) (fs : List Fate) (old new : Kept) → length fs ≡ length bs → AreFates ios starts old.held → AllIn ios bs → ((a q : ℕ) → times a q (map id_of bs) ≤ 1) → Each mode ty ios starts bs fs old new → any_fails fs ≡ true → Found starts (map id_of bs) fs new.held
+  found : (bs : List Block) (fs : List Fate) (old new : KeptFates) → length fs ≡ length bs → AreFates ios starts old.held → AllIn ios bs → ((a q : ℕ) → times a q (map id_of bs) ≤ 1) → Each mode ty ios starts bs fs old new → any_fails fs ≡ true → Found starts (map id_of bs) fs new.held
   found [] [] old new l k i once h e = absurd (false≢true e)
   found [] (f ∷ fs) old new l k i once h e = absurd (omega arith)
   found (b ∷ bs) [] old new l k i once h e = absurd h
@@ -183,7 +183,7 @@ in_one p v j s live a q =
     omega arith
 
 module _ (mode : Mode) (ty : PiType) (ios : List Io) (starts : List ℕ) (p : Plan) (v : View) (s : Sound p v) (counts : (i : ℕ) → (request_at p i).count ≡ (io_at ios i).count) (j : ℕ) (live : (command_at v j).completed ≡ false)
-    (of : All (IsOf ios) (command_at v j).bios) (old new : Kept) (kept : AreFates ios starts old.held) (each : length (command_at v j).fates ≡ length (blocks_in (command_at v j).bios))
+    (of : All (IsOf ios) (command_at v j).bios) (old new : KeptFates) (kept : AreFates ios starts old.held) (each : length (command_at v j).fates ≡ length (blocks_in (command_at v j).bios))
     (chain : Each mode ty ios starts (blocks_in (command_at v j).bios) (command_at v j).fates old new) where
   abbrev cmd : Command
   cmd = command_at v j

@@ -13,7 +13,7 @@ use Rattle.stack_steps.specs.declared.choice.Choice.TheVariants.{Complete}
 use Rattle.stack_steps.specs.Does.{Lands, Ready}
 use Rattle.stack_core.specs.declared.stack.Stack.{Stack}
 use Rattle.stack_core.specs.OnRecord.{AreTraced, Traces}
-use Rattle.run_follows.specs.Settled.{AllSettled, Kept}
+use Rattle.run_follows.specs.Settled.{AllSettled, KeptFates}
 use Rattle.run_follows.specs.Settling.{AreFates, IsOf}
 use Rattle.stack_core.specs.Stacks.{IsStack, plan_in}
 use Rattle.run_follows.proofs.Chained.{all_each, blocks_long}
@@ -29,8 +29,8 @@ traces_complete s i bios fates mode ty pages pages' starts' held' k rd lands kep
     let p = plan_in sh in
     let ios = sh.ios.items in
     let starts = s.kept.starts.items in
-    let old : Kept = record { pages = pages; held = s.kept.held.items } in
-    let new : Kept = record { pages = pages'; held = held' } in
+    let old : KeptFates = record { pages = pages; held = s.kept.held.items } in
+    let new : KeptFates = record { pages = pages'; held = held' } in
     let l = lands v t x mean in
     let j = l.0 in
     let is : t ≡ StepComplete j = l.1.0 in

@@ -22,7 +22,7 @@ use Rattle.rig_api.specs.declared.rig.Outcome.{Outcome}
 use Rattle.block_path.specs.Senses.{is_medium_why, why_ended}
 use Rattle.whole_run.proofs.Named.{medium_is}
 use Rattle.stack_core.specs.Mediums.{mediums, one_medium}
-use Rattle.run_follows.specs.Settled.{IsSettled, Judged, Kept, OneSettled, Settled}
+use Rattle.run_follows.specs.Settled.{IsSettled, Judged, KeptFates, OneSettled, Settled}
 use Rattle.run_follows.specs.Settling.{fate_by}
 use Rattle.run_follows.specs.Sheets.{io_at}
 use Rattle.run_follows.proofs.Chained.{Each}
@@ -50,22 +50,22 @@ settled_mediums Read mode ty io k lba fate old new result h = judged_mediums io.
 settled_mediums WriteDir mode ty io k lba fate old new result h = let e = ap one_medium h.1 in omega (arith, e)
 
 module _ (mode : Mode) (ty : PiType) (ios : List Io) (starts : List ℕ) where
-  one_settled : (io : Io) (start k lba : ℕ) (f : Fate) (old new : Kept) → IsSettled mode ty io start k lba f old new → mediums new.held ≤ mediums old.held + one_medium f
+  one_settled : (io : Io) (start k lba : ℕ) (f : Fate) (old new : KeptFates) → IsSettled mode ty io start k lba f old new → mediums new.held ≤ mediums old.held + one_medium f
   one_settled io start k lba f old new s =
       let a = ap mediums s.held in
       let b = set_mediums old.held (start + k) s.result in
       let c = settled_mediums io.dir mode ty io k lba f old.pages new.pages s.result s.settled in
       omega (arith, a, b, c)
 
-  pub each_mediums : (bs : List Block) (fs : List Fate) (old new : Kept) → Each mode ty ios starts bs fs old new → mediums new.held ≤ mediums old.held + mediums fs
-  each_mediums [] fs old new h = let e = ap (λ (k : Kept). mediums k.held) h in omega (arith, e)
+  pub each_mediums : (bs : List Block) (fs : List Fate) (old new : KeptFates) → Each mode ty ios starts bs fs old new → mediums new.held ≤ mediums old.held + mediums fs
+  each_mediums [] fs old new h = let e = ap (λ (k : KeptFates). mediums k.held) h in omega (arith, e)
   each_mediums (b ∷ bs) [] old new h = absurd h
   each_mediums (b ∷ bs) (f ∷ fs) old new h = let r = each_mediums bs fs h.0 new h.1.1 in let x = by f h.1.0 in omega (arith, r, x)
     where
       by : (f : Fate) → OneSettled mode ty (io_at ios (b.op - 1)) (get_or starts (b.op - 1) 0) b.k b.lba f old h.0 → mediums (h.0).held ≤ mediums old.held + one_medium f
       by Good s = one_settled (io_at ios (b.op - 1)) _ b.k b.lba Good old h.0 s
       by (Bad why) s = one_settled (io_at ios (b.op - 1)) _ b.k b.lba (Bad why) old h.0 s
-      by Untouched s = let e = ap (λ (k : Kept). mediums k.held) s in omega (arith, e)
+      by Untouched s = let e = ap (λ (k : KeptFates). mediums k.held) s in omega (arith, e)
 
 -- ---- a group is carried
 

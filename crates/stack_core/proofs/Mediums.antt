@@ -9,7 +9,7 @@ use Rattle.bio_core.specs.declared.request.Dir.TheVariants.{Read, Write}
 use Rattle.bio_core.specs.declared.request.Io.{Io}
 use Rattle.dix_base.specs.Told.{Calm, Rose}
 use Rattle.dix_adapter.specs.declared.adapter.Adapter.{Adapter}
-use Rattle.dix_adapter.specs.Carried.{Fetched, Sent, Unsent, any_bad, fates_in, frames_came, sends}
+use Rattle.dix_adapter.specs.Carried.{Fetched, WasSent, Unsent, any_bad, fates_in, frames_came, sends}
 use Rattle.dix_adapter.specs.Groups as Carry
 use Rattle.dix_adapter.specs.Groups.{blocks_in, first_of}
 use Rattle.dix_adapter.specs.Outcomes.{done_of, rest_of}
@@ -153,7 +153,7 @@ module _ (p : Plan) (m : Machine) (d i : ℕ) (m' taken : Machine) (group : List
   spoiled r = record { taken = taken; group = group; fates = fates; takes = takes; flies = flies; settles = settles; rose = r }
 
   pub spoiled_by : ((first_of group).dir ≡ Write → any_bad (map (sends a ios (flat pool)) (blocks_in group)) ≡ true → Unsent a ios group pool pool' fates × (new.faults ≡ old.faults)) →
-      ((first_of group).dir ≡ Write → any_bad (map (sends a ios (flat pool)) (blocks_in group)) ≡ false → Sent a ios group pool pool' fates old new) →
+      ((first_of group).dir ≡ Write → any_bad (map (sends a ios (flat pool)) (blocks_in group)) ≡ false → WasSent a ios group pool pool' fates old new) →
       ((first_of group).dir ≡ Read → Fetched a ios group pool pool' fates old new) → Spoils p m d i m' old.faults new.faults
   spoiled_by unsent goes fetched =
       either-way (Spoils p m d i m' old.faults new.faults) (first_of group).dir (any_bad (map (sends a ios (flat pool)) (blocks_in group)))

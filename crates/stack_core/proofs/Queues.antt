@@ -3,7 +3,7 @@ use Rattle.std.proofs.Common.{◌<◌, ◌≤◌, ◌+◌, ℕ, Bool, List, subs
 use Rattle.bio_core.specs.declared.request.Io.{Io}
 use Rattle.merge_queue.specs.declared.limits.Limits.{Limits}
 use Rattle.stack_ops.specs.declared.op.Op.{Op}
-use Rattle.stack_view.specs.Plan.{Request}
+use Rattle.stack_view.specs.Plan.{PlannedOp}
 use Rattle.stack_view.specs.Sound.{OnDevices}
 use Rattle.volume_table.specs.Places.{place_in}
 use Rattle.volume_table.specs.Tables.{Table}
@@ -15,5 +15,5 @@ pub has-queues : (ops : List Op) (shifted : List Bool) (ios : List Io) (table : 
     ((n : ℕ) → ((i k : ℕ) → k < (io_at ios i).count → (place_in table.entries ((io_at ios i).first + k)).0 < n) → devices ≤ n) → HasQueues (plan_of ops shifted ios table limits devices)
 has-queues ops shifted ios table limits devices on tight = record {
   on = on;
-  least = λ n h. tight n (λ i k l. subst (λ (r : Request). k < r.count → (place_in table.entries (r.first + k)).0 < n) (request-at ios i) (h i k) l);
+  least = λ n h. tight n (λ i k l. subst (λ (r : PlannedOp). k < r.count → (place_in table.entries (r.first + k)).0 < n) (request-at ios i) (h i k) l);
 }

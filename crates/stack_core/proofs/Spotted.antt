@@ -18,7 +18,7 @@ use Rattle.run_laws.specs.BoundRun.{fates, rooms}
 use Rattle.run_laws.specs.ScriptMoves.{fates_of, own_at, room_of}
 use Rattle.run_follows.specs.Gate.{parts_at}
 use Rattle.run_follows.specs.Pieces.{all_cut, all_made}
-use Rattle.run_follows.specs.Slots.{Parts, parts_of}
+use Rattle.run_follows.specs.Slots.{StepParts, parts_of}
 use Rattle.run_follows.specs.Ground.{Ground, IsPlanOf}
 use Rattle.run_follows.specs.Spots.{spot_at, spots_from, step_in}
 use Rattle.run_follows.proofs.Spots.{spot_place, steps_count}
@@ -142,10 +142,10 @@ module _ (m : Setting) (n logs : ℕ) (p : Plan) (ops : List Op) (ios : List Io)
   -- ---- some blocks
 
   made_at : (k : ℕ) → k < io.count → (parts_at m n (spot_at m ops i k)).made ≡ made_of io.dir io.pi (route_at k) (data_cells io k) k
-  made_at k h = ap (λ (x : Parts). x.made) (parts_there k h) ∙ (block_is k h).made
+  made_at k h = ap (λ (x : StepParts). x.made) (parts_there k h) ∙ (block_is k h).made
 
   cut_at : (k : ℕ) → k < io.count → (parts_at m n (spot_at m ops i k)).cut ≡ cut_of io.dir io.pi (route_at k) k
-  cut_at k h = ap (λ (x : Parts). x.cut) (parts_there k h) ∙ (block_is k h).cut
+  cut_at k h = ap (λ (x : StepParts). x.cut) (parts_there k h) ∙ (block_is k h).cut
 
   pub all_made_are : (k c : ℕ) → k + c ≤ io.count → all_made m n (spots_from m ops i k c) ≡ turns (λ j. made_of io.dir io.pi (route_at j) (data_cells io j) j) k c
   all_made_are k zero h = refl

@@ -21,8 +21,8 @@ use Rattle.stack_core.specs.declared.sheet.Sheet.{Sheet}
 use Rattle.stack_core.specs.declared.stack.Stack.{Stack}
 use Rattle.stack_core.specs.Mediums.{Counts, HasCounted, HasCountedBy, RoseBy, Spoils, medium_replies, mediums, one_reply}
 use Rattle.stack_core.specs.Replies.{bad_from, reply_of, whole_or}
-use Rattle.run_follows.specs.Settled.{AllSettled, Kept}
-use Rattle.stack_core.specs.Stacks.{HasStep, Stays, plan_in}
+use Rattle.run_follows.specs.Settled.{AllSettled, KeptFates}
+use Rattle.stack_core.specs.Stacks.{HasStep, StackStays, plan_in}
 use Rattle.run_follows.proofs.Chained.{all_each}
 use Rattle.stack_core.proofs.MediumFates.{each_mediums}
 use Rattle.stack_core.proofs.Mediums.{counts_same, group_counts, no_more_replies, other_counts, rose_less, rose_or_calm, set_replies}
@@ -65,18 +65,18 @@ set_rises replies i r count count' c h n first x =
 
 -- ---- a command is completed
 
-pub settled_counts : (mode : Mode) (ty : PiType) (ios : List Io) (starts : List ℕ) (bios : List Bio) (fates : List Fate) (old new : Kept) → size bios ≡ length fates → AllSettled mode ty ios starts bios fates (length bios) old new → mediums new.held ≤ mediums old.held + mediums fates
+pub settled_counts : (mode : Mode) (ty : PiType) (ios : List Io) (starts : List ℕ) (bios : List Bio) (fates : List Fate) (old new : KeptFates) → size bios ≡ length fates → AllSettled mode ty ios starts bios fates (length bios) old new → mediums new.held ≤ mediums old.held + mediums fates
 settled_counts mode ty ios starts bios fates old new l s = each_mediums mode ty ios starts (blocks_in bios) fates old new (all_each mode ty ios starts bios fates old new l s)
 
 -- ---- a step
 
-pub step_counts : (s s' : Stack) (word cut count count' : ℕ) (c : Choice) → Stays s s' → Chooses (plan_in s.sheet) s.machine word c → HasStep (plan_in s.sheet) s.machine → Does (plan_in s.sheet) s.machine c cut s'.machine → Counts (plan_in s.sheet) s.machine c s.kept.held.items s'.kept.held.items → count ≤ count' →
+pub step_counts : (s s' : Stack) (word cut count count' : ℕ) (c : Choice) → StackStays s s' → Chooses (plan_in s.sheet) s.machine word c → HasStep (plan_in s.sheet) s.machine → Does (plan_in s.sheet) s.machine c cut s'.machine → Counts (plan_in s.sheet) s.machine c s.kept.held.items s'.kept.held.items → count ≤ count' →
     ((n first : ℕ) → RoseBy (n + medium_replies s.replies.items) first count → RoseBy (n + medium_replies s'.replies.items) first count') → (first : ℕ) → HasCounted first s count → HasCounted first s' count'
 step_counts s s' word cut count count' c stays h has does counts rises answers first x =
     subst (λ (sh : Sheet). HasCountedBy first (plan_in sh) s'.machine s'.kept.held.items s'.replies.items count') (sym stays.sheet)
     (other_counts first (plan_in s.sheet) s.machine s'.machine s.kept.held.items s'.kept.held.items s.replies.items s'.replies.items count count' word cut c h has does counts rises (λ n. answers n first) x)
 
-pub still_counts : (s s' : Stack) (word cut count count' : ℕ) (c : Choice) → SendsNot c → KeepsMarks c → Stays s s' → Chooses (plan_in s.sheet) s.machine word c → HasStep (plan_in s.sheet) s.machine → Does (plan_in s.sheet) s.machine c cut s'.machine → s'.kept ≡ s.kept → count ≤ count' →
+pub still_counts : (s s' : Stack) (word cut count count' : ℕ) (c : Choice) → SendsNot c → KeepsMarks c → StackStays s s' → Chooses (plan_in s.sheet) s.machine word c → HasStep (plan_in s.sheet) s.machine → Does (plan_in s.sheet) s.machine c cut s'.machine → s'.kept ≡ s.kept → count ≤ count' →
     ((n first : ℕ) → RoseBy (n + medium_replies s.replies.items) first count → RoseBy (n + medium_replies s'.replies.items) first count') → (first : ℕ) → HasCounted first s count → HasCounted first s' count'
 still_counts s s' word cut count count' c n k stays h has does kept rises answers first x =
     step_counts s s' word cut count count' c stays h has does (subst (λ (f : Fates). Counts (plan_in s.sheet) s.machine c s.kept.held.items f.held.items) (sym kept) (counts_same (plan_in s.sheet) s.machine c s.kept.held.items n k)) rises answers first x
@@ -88,7 +88,7 @@ few_counts replies replies' count l n first x = no_more_replies replies replies'
 pub same_counts : (replies replies' : List Reply) (count : ℕ) → replies' ≡ replies → (n first : ℕ) → RoseBy (n + medium_replies replies) first count → RoseBy (n + medium_replies replies') first count
 same_counts replies replies' count e n first x = subst (λ (rs : List Reply). RoseBy (n + medium_replies rs) first count) (sym e) x
 
-pub sent_counts : (s s' : Stack) (word d i count count' : ℕ) → Stays s s' → Chooses (plan_in s.sheet) s.machine word (Send d i) → HasStep (plan_in s.sheet) s.machine → Spoils (plan_in s.sheet) s.machine d i s'.machine count count' → s'.kept ≡ s.kept → s'.replies.items ≡ s.replies.items → (first : ℕ) → HasCounted first s count → HasCounted first s' count'
+pub sent_counts : (s s' : Stack) (word d i count count' : ℕ) → StackStays s s' → Chooses (plan_in s.sheet) s.machine word (Send d i) → HasStep (plan_in s.sheet) s.machine → Spoils (plan_in s.sheet) s.machine d i s'.machine count count' → s'.kept ≡ s.kept → s'.replies.items ≡ s.replies.items → (first : ℕ) → HasCounted first s count → HasCounted first s' count'
 sent_counts s s' word d i count count' stays h has spoils kept replies first x =
     subst (λ (sh : Sheet). HasCountedBy first (plan_in sh) s'.machine s'.kept.held.items s'.replies.items count') (sym stays.sheet)
     (subst (λ (f : Fates). HasCountedBy first (plan_in s.sheet) s'.machine f.held.items s'.replies.items count') (sym kept)

@@ -7,7 +7,7 @@ use Rattle.bio_core.specs.declared.fate.Fate.TheVariants.{Good}
 use Rattle.bio_core.specs.declared.request.Dir.TheVariants.{Read, Write}
 use Rattle.bio_core.specs.declared.request.Io.{Io}
 use Rattle.dix_adapter.specs.declared.adapter.Adapter.{Adapter}
-use Rattle.dix_adapter.specs.Carried.{Fetched, Sent, Unsent, any_bad, any_fails, sends}
+use Rattle.dix_adapter.specs.Carried.{Fetched, WasSent, Unsent, any_bad, any_fails, sends}
 use Rattle.dix_adapter.specs.Groups as Carry
 use Rattle.dix_adapter.specs.Groups.{blocks_in, first_of, mode_of}
 use Rattle.dix_adapter.specs.Outcomes.{done_of}
@@ -26,7 +26,7 @@ use Rattle.stack_core.specs.declared.kept.Fates.{Fates}
 use Rattle.stack_core.specs.declared.sheet.Sheet.{Sheet}
 use Rattle.stack_core.specs.declared.stack.Stack.{Stack}
 use Rattle.stack_core.specs.OnRecord.{Carries, HasSentBy, IsFormed, IsOfRequests, IsRecordOf, SendsOn, Traces}
-use Rattle.stack_core.specs.Stacks.{HasStep, Stays, plan_in}
+use Rattle.stack_core.specs.Stacks.{HasStep, StackStays, plan_in}
 use Rattle.run_follows.proofs.Clear.{clear_in, clear_out, held_fails}
 use Rattle.stack_core.proofs.Goes.{either-way}
 use Rattle.stack_core.proofs.Recording.{formed_of, record_of}
@@ -34,7 +34,7 @@ use Rattle.stack_core.proofs.SendsOn.{KeepsMarks, group_held, group_recorded, ot
 use Rattle.stack_core.proofs.Steps.{SendsNot}
 
 -- a step that sends nothing
-quiet_sends : (s s' : Stack) (word cut : ℕ) (c : Choice) (log : List Record) → SendsNot c → Stays s s' → Chooses (plan_in s.sheet) s.machine word c → HasStep (plan_in s.sheet) s.machine → Does (plan_in s.sheet) s.machine c cut s'.machine →
+quiet_sends : (s s' : Stack) (word cut : ℕ) (c : Choice) (log : List Record) → SendsNot c → StackStays s s' → Chooses (plan_in s.sheet) s.machine word c → HasStep (plan_in s.sheet) s.machine → Does (plan_in s.sheet) s.machine c cut s'.machine →
     Traces (plan_in s.sheet) s.machine c s.kept.starts.items s.kept.held.items s'.kept.starts.items s'.kept.held.items → SendsOn word cut s s' log log
 quiet_sends s s' word cut c log n stays h has does traces = record {
   more = [];
@@ -46,17 +46,17 @@ quiet_sends s s' word cut c log n stays h has does traces = record {
       (other_sends es (plan_in s.sheet) s.machine s'.machine s.kept.starts.items s'.kept.starts.items s.kept.held.items s'.kept.held.items word cut c before n h has does traces e x));
 }
 
-pub still_sends : (s s' : Stack) (word cut : ℕ) (c : Choice) (log : List Record) → SendsNot c → KeepsMarks c → Stays s s' → Chooses (plan_in s.sheet) s.machine word c → HasStep (plan_in s.sheet) s.machine → Does (plan_in s.sheet) s.machine c cut s'.machine → s'.kept ≡ s.kept → SendsOn word cut s s' log log
+pub still_sends : (s s' : Stack) (word cut : ℕ) (c : Choice) (log : List Record) → SendsNot c → KeepsMarks c → StackStays s s' → Chooses (plan_in s.sheet) s.machine word c → HasStep (plan_in s.sheet) s.machine → Does (plan_in s.sheet) s.machine c cut s'.machine → s'.kept ≡ s.kept → SendsOn word cut s s' log log
 still_sends s s' word cut c log n k stays h has does kept =
     quiet_sends s s' word cut c log n stays h has does
     (subst (λ (f : Fates). Traces (plan_in s.sheet) s.machine c s.kept.starts.items s.kept.held.items f.starts.items f.held.items) (sym kept) (traces_same (plan_in s.sheet) s.machine c s.kept.starts.items s.kept.held.items n k))
 
-pub lands_sends : (s s' : Stack) (word cut i : ℕ) (log : List Record) → Stays s s' → Chooses (plan_in s.sheet) s.machine word (Complete i) → HasStep (plan_in s.sheet) s.machine → Does (plan_in s.sheet) s.machine (Complete i) cut s'.machine →
+pub lands_sends : (s s' : Stack) (word cut i : ℕ) (log : List Record) → StackStays s s' → Chooses (plan_in s.sheet) s.machine word (Complete i) → HasStep (plan_in s.sheet) s.machine → Does (plan_in s.sheet) s.machine (Complete i) cut s'.machine →
     Traces (plan_in s.sheet) s.machine (Complete i) s.kept.starts.items s.kept.held.items s'.kept.starts.items s'.kept.held.items → SendsOn word cut s s' log log
 lands_sends s s' word cut i log stays h has does traces = quiet_sends s s' word cut (Complete i) log tt stays h has does traces
 
 -- a group is sent
-pub group_sends : (s s' : Stack) (word cut d i : ℕ) (log log' : List Record) → Stays s s' → Chooses (plan_in s.sheet) s.machine word (Send d i) → HasStep (plan_in s.sheet) s.machine → Carries s.adapter (plan_in s.sheet) s.machine d i s'.machine log log' → s'.kept ≡ s.kept → SendsOn word cut s s' log log'
+pub group_sends : (s s' : Stack) (word cut d i : ℕ) (log log' : List Record) → StackStays s s' → Chooses (plan_in s.sheet) s.machine word (Send d i) → HasStep (plan_in s.sheet) s.machine → Carries s.adapter (plan_in s.sheet) s.machine d i s'.machine log log' → s'.kept ≡ s.kept → SendsOn word cut s s' log log'
 group_sends s s' word cut d i log log' stays h has x kept = by x.records
   where
     stacked : (es : List ScheduleEntry) (after : List Record) → HasSentBy es (plan_in s.sheet) s'.machine s.kept.starts.items s.kept.held.items after → HasSentBy es (plan_in s'.sheet) s'.machine s'.kept.starts.items s'.kept.held.items after
@@ -88,7 +88,7 @@ module _ (p : Plan) (m : Machine) (d i : ℕ) (m' taken : Machine) (group : List
   all_good e = e ∙ ap (λ (n : ℕ). replicate n Good) long
 
   pub carried_by : ((first_of group).dir ≡ Write → any_bad (map (sends a ios (flat pool)) (blocks_in group)) ≡ true → Unsent a ios group pool pool' fates × (new.log ≡ old.log)) →
-      ((first_of group).dir ≡ Write → any_bad (map (sends a ios (flat pool)) (blocks_in group)) ≡ false → Sent a ios group pool pool' fates old new) →
+      ((first_of group).dir ≡ Write → any_bad (map (sends a ios (flat pool)) (blocks_in group)) ≡ false → WasSent a ios group pool pool' fates old new) →
       ((first_of group).dir ≡ Read → Fetched a ios group pool pool' fates old new) → Carries a p m d i m' old.log new.log
   carried_by unsent goes fetched =
       either-way (Carries a p m d i m' old.log new.log) (first_of group).dir (any_bad (map (sends a ios (flat pool)) (blocks_in group)))

@@ -13,7 +13,7 @@ use Rattle.stack_steps.specs.Does.{Chooses, Does}
 use Rattle.stack_core.specs.declared.stack.Stack.{Stack}
 use Rattle.stack_core.specs.Going.{StandsOver, Went}
 use Rattle.stack_core.specs.Mediums.{HasCounted}
-use Rattle.stack_core.specs.Stacks.{HasStep, IsStack, Reaches, Stays, plan_in}
+use Rattle.stack_core.specs.Stacks.{HasStep, IsStack, Reaches, StackStays, plan_in}
 use Rattle.stack_core.specs.Walking.{Enters, NoneFailed, WalksOn}
 use Rattle.stack_core.proofs.Going.{spare-left}
 use Rattle.stack_core.proofs.Steps.{SendsNot}
@@ -33,7 +33,7 @@ stands-left s s' word cut c o o' n h a ch d is e st room t = record {
 }
 
 -- one that leaves the rig alone
-pub went-still : (s s' : Stack) (o : RigState) → IsStack s → Stays s s' → WalksOn s s' → (NoneFailed s.replies.items → NoneFailed s'.replies.items) → ((first : ℕ) → HasCounted first s o.faults → HasCounted first s' o.faults) → Went s o s' o
+pub went-still : (s s' : Stack) (o : RigState) → IsStack s → StackStays s s' → WalksOn s s' → (NoneFailed s.replies.items → NoneFailed s'.replies.items) → ((first : ℕ) → HasCounted first s o.faults → HasCounted first s' o.faults) → Went s o s' o
 went-still s s' o k stays on silent counts = record {
   walks = λ m n opening first w. walks_on m n opening first s s' o.standing o.log k stays on w;
   told = λ m n opening first w calm. told_on m n opening first s s' o.units o.armed o.standing o.log k stays on w;
@@ -46,7 +46,7 @@ went-still s s' o k stays on silent counts = record {
 }
 
 -- one that admits an op
-pub went-entered : (s s' : Stack) (o o' : RigState) → IsStack s → Stays s s' → Enters o o' s s' → RigStays o o' → o'.log ≡ o.log → o.units ≡ units_told o.standing o.image → IsStanding o.standing o.image →
+pub went-entered : (s s' : Stack) (o o' : RigState) → IsStack s → StackStays s s' → Enters o o' s s' → RigStays o o' → o'.log ≡ o.log → o.units ≡ units_told o.standing o.image → IsStanding o.standing o.image →
     (Calm o.faults o'.faults → NoneFailed s.replies.items → NoneFailed s'.replies.items) → ((first : ℕ) → HasCounted first s o.faults → HasCounted first s' o'.faults) → (list_any is_overwrite s.sheet.ops ≡ false → PutsAnswers o o') → Went s o s' o'
 went-entered s s' o o' k stays enters rig log laid ready silent counts answered = record {
   walks = λ m n opening first w. rw (rig.standing, log) (walks_entered m n opening first s s' o o' k stays enters w);

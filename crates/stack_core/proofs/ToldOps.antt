@@ -30,7 +30,7 @@ use Rattle.run_laws.specs.Records.{recorded}
 use Rattle.stack_core.specs.Courses.{Course, Falling, Straight}
 use Rattle.stack_core.specs.declared.stack.Stack.{Stack}
 use Rattle.stack_core.specs.Doing.{CanReach}
-use Rattle.stack_core.specs.Stacks.{IsStack, Stays}
+use Rattle.stack_core.specs.Stacks.{IsStack, StackStays}
 use Rattle.stack_core.specs.Walking.{Enters, Fails, IsKnown, KnownBy, Walks, WalksAtTarget, WalksBy, WalksFalling, WalksOn, WalksTold, op_left, units_left}
 use Rattle.stack_core.proofs.WalkedRecord.{over_record, records_stay}
 use Rattle.stack_core.proofs.WalkedTold.{told_stay}
@@ -109,28 +109,28 @@ is_told st (Some bytes) us e = refl
 
 -- ---- a step that leaves the rig alone
 
-pub walks_on : (m : Setting) (n : ℕ) (opening : State) (first : ℕ) (s s' : Stack) (st : Standing) (log : List LogEntry) → IsStack s → Stays s s' → WalksOn s s' → Walks m n opening first s st log → Walks m n opening first s' st log
+pub walks_on : (m : Setting) (n : ℕ) (opening : State) (first : ℕ) (s s' : Stack) (st : Standing) (log : List LogEntry) → IsStack s → StackStays s s' → WalksOn s s' → Walks m n opening first s st log → Walks m n opening first s' st log
 walks_on m n opening first s s' st log k stays on w =
     records_stay m n opening first s st log k w s' stays w.left (on Straight _ n opening _ w.left (over_record m n opening first s st log k w) w.walks)
 
-at_target_on : (course : Course) (m : Setting) (n : ℕ) (opening : State) (first : ℕ) (s s' : Stack) (units : Option (List Stored)) (armed : List FaultLine) (st : Standing) (log : List LogEntry) → IsStack s → Stays s s' → WalksOn s s' → WalksAtTarget course m n opening first s units armed st log → WalksAtTarget course m n opening first s' units armed st log
+at_target_on : (course : Course) (m : Setting) (n : ℕ) (opening : State) (first : ℕ) (s s' : Stack) (units : Option (List Stored)) (armed : List FaultLine) (st : Standing) (log : List LogEntry) → IsStack s → StackStays s s' → WalksOn s s' → WalksAtTarget course m n opening first s units armed st log → WalksAtTarget course m n opening first s' units armed st log
 at_target_on course m n opening first s s' units armed st log k stays on w =
     told_stay m n opening first s units armed st log k w s' stays units w.us armed log w.recorded_from w.told_are refl (on course m n opening (recorded m (drop first log)) (blocks_told w.us) w.over w.walks)
 
-pub told_on : (m : Setting) (n : ℕ) (opening : State) (first : ℕ) (s s' : Stack) (units : Option (List Stored)) (armed : List FaultLine) (st : Standing) (log : List LogEntry) → IsStack s → Stays s s' → WalksOn s s' → WalksTold m n opening first s units armed st log → WalksTold m n opening first s' units armed st log
+pub told_on : (m : Setting) (n : ℕ) (opening : State) (first : ℕ) (s s' : Stack) (units : Option (List Stored)) (armed : List FaultLine) (st : Standing) (log : List LogEntry) → IsStack s → StackStays s s' → WalksOn s s' → WalksTold m n opening first s units armed st log → WalksTold m n opening first s' units armed st log
 told_on m n opening first s s' units armed st log k stays on w = at_target_on Straight m n opening first s s' units armed st log k stays on w
 
-pub falling_on : (m : Setting) (n : ℕ) (opening : State) (first : ℕ) (s s' : Stack) (units : Option (List Stored)) (armed : List FaultLine) (st : Standing) (log : List LogEntry) → IsStack s → Stays s s' → WalksOn s s' → WalksFalling m n opening first s units armed st log → WalksFalling m n opening first s' units armed st log
+pub falling_on : (m : Setting) (n : ℕ) (opening : State) (first : ℕ) (s s' : Stack) (units : Option (List Stored)) (armed : List FaultLine) (st : Standing) (log : List LogEntry) → IsStack s → StackStays s s' → WalksOn s s' → WalksFalling m n opening first s units armed st log → WalksFalling m n opening first s' units armed st log
 falling_on m n opening first s s' units armed st log k stays on w = (w.0, at_target_on (Falling w.0) m n opening first s s' units armed st log k stays on w.1)
 
 -- ---- an op is admitted
 
-pub walks_entered : (m : Setting) (n : ℕ) (opening : State) (first : ℕ) (s s' : Stack) (o o' : RigState) → IsStack s → Stays s s' → Enters o o' s s' →
+pub walks_entered : (m : Setting) (n : ℕ) (opening : State) (first : ℕ) (s s' : Stack) (o o' : RigState) → IsStack s → StackStays s s' → Enters o o' s s' →
     Walks m n opening first s o.standing o.log → Walks m n opening first s' o.standing o.log
 walks_entered m n opening first s s' o o' k stays enters w =
     records_stay m n opening first s o.standing o.log k w s' stays _ (enters.walks Straight tt _ n opening _ w.left (over_record m n opening first s o.standing o.log k w) w.walks)
 
-at_target_entered : (course : Course) (m : Setting) (n : ℕ) (opening : State) (first : ℕ) (s s' : Stack) (o o' : RigState) → IsStack s → Stays s s' →
+at_target_entered : (course : Course) (m : Setting) (n : ℕ) (opening : State) (first : ℕ) (s s' : Stack) (o o' : RigState) → IsStack s → StackStays s s' →
     (enters : Enters o o' s s') → o.units ≡ units_told o.standing o.image → IsStanding o.standing o.image → o'.armed ≡ o.armed → IsKnown enters.op enters.reply → KnownBy course enters.op enters.reply → WalksAtTarget course m n opening first s o.units o.armed o.standing o.log → WalksAtTarget course m n opening first s' o'.units o'.armed o.standing o.log
 at_target_entered course m n opening first s s' o o' k stays enters laid ready still known by_course w =
     let us : units_told o.standing o.image ≡ Some w.us = sym laid ∙ w.told_are in
@@ -140,12 +140,12 @@ at_target_entered course m n opening first s s' o o' k stays enters laid ready s
     told_stay m n opening first s o.units o.armed o.standing o.log k w s' stays o'.units (units_left enters.op w.us) o'.armed o.log w.recorded_from (enters.tells w.us w.told_are known) still
     (subst (λ x. WalksBy course m n opening (recorded m (drop first o.log)) x s') (sym left) (enters.walks course by_course m n opening (recorded m (drop first o.log)) (blocks_told w.us) w.over w.walks))
 
-pub told_entered : (m : Setting) (n : ℕ) (opening : State) (first : ℕ) (s s' : Stack) (o o' : RigState) → IsStack s → Stays s s' → Enters o o' s s' →
+pub told_entered : (m : Setting) (n : ℕ) (opening : State) (first : ℕ) (s s' : Stack) (o o' : RigState) → IsStack s → StackStays s s' → Enters o o' s s' →
     o.units ≡ units_told o.standing o.image → IsStanding o.standing o.image → o'.armed ≡ o.armed → Calm o.faults o'.faults → WalksTold m n opening first s o.units o.armed o.standing o.log → WalksTold m n opening first s' o'.units o'.armed o.standing o.log
 told_entered m n opening first s s' o o' k stays enters laid ready still calm w =
     at_target_entered Straight m n opening first s s' o o' k stays enters laid ready still (enters.calm calm) tt w
 
-pub falling_entered : (m : Setting) (n : ℕ) (opening : State) (first : ℕ) (s s' : Stack) (o o' : RigState) → IsStack s → Stays s s' →
+pub falling_entered : (m : Setting) (n : ℕ) (opening : State) (first : ℕ) (s s' : Stack) (o o' : RigState) → IsStack s → StackStays s s' →
     (enters : Enters o o' s s') → o.units ≡ units_told o.standing o.image → IsStanding o.standing o.image → o'.armed ≡ o.armed → WalksFalling m n opening first s o.units o.armed o.standing o.log → WalksFalling m n opening first s' o'.units o'.armed o.standing o.log
 falling_entered m n opening first s s' o o' k stays enters laid ready still w = by enters.known where
   by : IsKnown enters.op enters.reply ⊎ Fails o o' enters.op s s' → WalksFalling m n opening first s' o'.units o'.armed o.standing o.log

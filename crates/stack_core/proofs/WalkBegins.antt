@@ -9,7 +9,7 @@ use Rattle.fault_schedule.specs.declared.fault.FaultLine.{FaultLine}
 use Rattle.target_answer.specs.Target.{Stored}
 use Rattle.dix_adapter.specs.Ways.{blocks_told, site_of}
 use Rattle.rig_api.specs.Telling.{Standing, specs_of}
-use Rattle.stack_view.specs.Plan.{Request, request_at}
+use Rattle.stack_view.specs.Plan.{PlannedOp, request_at}
 use Rattle.stack_view.specs.View.{is_admitted, no_op, op_at, start, waiting}
 use Rattle.stack_steps.specs.Does.{Holds}
 use Rattle.block_path.specs.Acts.{State}
@@ -30,17 +30,17 @@ use Rattle.stack_core.specs.Stacks.{IsStack, plan_in, room_at}
 use Rattle.stack_core.proofs.Courses.{FlipsNone, begins_by}
 use Rattle.stack_core.specs.Walking.{IsOver, Opens, SizesFit, Walks, WalksAtTarget, WalksBy, WalksFalling, WalksOver, WalksTold, data_of, shown_in, status_of, why_in}
 
-start_waits : (rs : List Request) (i : ℕ) → i < length rs → is_waiting (get_or (map waiting rs) i no_op).phase ≡ true
+start_waits : (rs : List PlannedOp) (i : ℕ) → i < length rs → is_waiting (get_or (map waiting rs) i no_op).phase ≡ true
 start_waits [] i l = absurd (omega arith)
 start_waits (r ∷ rs) zero l = refl
 start_waits (r ∷ rs) (suc i) l = start_waits rs i (omega arith)
 
-start_not_ended : (rs : List Request) (i : ℕ) → i < length rs → has_ended (get_or (map waiting rs) i no_op).phase ≡ false
+start_not_ended : (rs : List PlannedOp) (i : ℕ) → i < length rs → has_ended (get_or (map waiting rs) i no_op).phase ≡ false
 start_not_ended [] i l = absurd (omega arith)
 start_not_ended (r ∷ rs) zero l = refl
 start_not_ended (r ∷ rs) (suc i) l = start_not_ended rs i (omega arith)
 
-start_not_admitted : (rs : List Request) (i : ℕ) → is_admitted (get_or (map waiting rs) i no_op).phase ≡ false
+start_not_admitted : (rs : List PlannedOp) (i : ℕ) → is_admitted (get_or (map waiting rs) i no_op).phase ≡ false
 start_not_admitted [] i = ap (λ o. is_admitted o.phase) (get_or_past (map waiting []) i no_op (omega arith))
 start_not_admitted (r ∷ rs) zero = refl
 start_not_admitted (r ∷ rs) (suc i) = start_not_admitted rs i

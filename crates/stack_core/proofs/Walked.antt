@@ -50,7 +50,7 @@ use Rattle.stack_core.specs.Courses.{Course, Falling}
 use Rattle.stack_core.specs.Done.{MadeBy, OpDone, WriteMade, WriteMapped}
 use Rattle.stack_core.specs.Replies.{reply_of}
 use Rattle.run_follows.specs.Sheets.{io_at, op_in}
-use Rattle.stack_core.specs.Stacks.{IsStack, Stays, plan_in, room_at}
+use Rattle.stack_core.specs.Stacks.{IsStack, StackStays, plan_in, room_at}
 use Rattle.stack_core.specs.Walking.{Data, Follow, GoesOn, IsChosen, IsOver, WalksBy, data_of, is_medium, op_left, status_of}
 use Rattle.stack_core.proofs.Context.{places, stands}
 use Rattle.run_follows.proofs.Facts.{op-ends, op-enters, there as there_is}
@@ -109,7 +109,7 @@ module _ {course : Course} (over : Setting) (n : ℕ) (opening : State) (es : Li
 
   -- ---- what goes on
 
-  module _ (s' : Stack) (stays : Stays s s') where
+  module _ (s' : Stack) (stays : StackStays s s') where
     pub walked : (d' : Data) (w' : View) (now' left' : List (List ℕ)) → data_of s' ≡ d' → Holds plan s'.machine w' → GoesOn course over n opening es plan ops (data_of s) d' v w' now' → now' ≡ left' → WalksBy course over n opening es left' s'
     walked d' w' now' left' e h g l = record {
       view = w';
@@ -140,7 +140,7 @@ module _ {course : Course} (over : Setting) (n : ℕ) (opening : State) (es : Li
 
   -- ---- groups are joined
 
-  pub walk_joins : (s' : Stack) (d i j : ℕ) → Stays s s' → IsChosen s (Join d i j) → Does plan s.machine (Join d i j) 0 s'.machine → data_of s' ≡ data_of s → WalksBy course over n opening es left s'
+  pub walk_joins : (s' : Stack) (d i j : ℕ) → StackStays s s' → IsChosen s (Join d i j) → Does plan s.machine (Join d i j) 0 s'.machine → data_of s' ≡ data_of s → WalksBy course over n opening es left s'
   walk_joins s' d i j stays ch does same =
       let t : taken (Join d i j) ch ≡ StepJoin d i j = meant (Join d i j) ch in
       let h : Holds plan s'.machine (step plan v (StepJoin d i j) 0 []) = subst (λ x. Holds plan s'.machine (step plan v x 0 [])) t (does v (taken (Join d i j) ch) w.holds (can_be (Join d i j) ch) (meant (Join d i j) ch)) in
@@ -148,7 +148,7 @@ module _ {course : Course} (over : Setting) (n : ℕ) (opening : State) (es : Li
 
   -- ---- an op ends
 
-  pub walk_ends : (s' : Stack) (q i : ℕ) → Stays s s' → IsChosen s (End q) → Does plan s.machine (End q) 0 s'.machine → OfOp plan s.machine (End q) i →
+  pub walk_ends : (s' : Stack) (q i : ℕ) → StackStays s s' → IsChosen s (End q) → Does plan s.machine (End q) 0 s'.machine → OfOp plan s.machine (End q) i →
       data_of s' ≡ record (data_of s) { rooms = set s.rooms.items i Nothing; replies = set s.replies.items i (reply_of (take (io_at ios i).count (drop (get_or s.kept.starts.items i 0) s.kept.held.items)) (room_at s.rooms.items i)) } → WalksBy course over n opening es left s'
   walk_ends s' q i stays ch does of same =
       let c = End q in
@@ -170,7 +170,7 @@ module _ {course : Course} (over : Setting) (n : ℕ) (opening : State) (es : Li
 
   -- ---- an op is admitted
 
-  module _ (s' : Stack) (q i : ℕ) (stays : Stays s s') (ch : IsChosen s (Admit q)) (does : Does plan s.machine (Admit q) 0 s'.machine) (of : OfOp plan s.machine (Admit q) i) where
+  module _ (s' : Stack) (q i : ℕ) (stays : StackStays s s') (ch : IsChosen s (Admit q)) (does : Does plan s.machine (Admit q) 0 s'.machine) (of : OfOp plan s.machine (Admit q) i) where
     abbrev enters : Choice
     enters = Admit q
 
@@ -219,7 +219,7 @@ module _ {course : Course} (over : Setting) (n : ℕ) (opening : State) (es : Li
 
   -- ---- a piece is cut
 
-  pub walk_cuts : (s' : Stack) (q size : ℕ) (bio : Bio) (pool : List (List ℕ)) → Stays s s' → IsChosen s (Cut q) → Does plan s.machine (Cut q) size s'.machine → Cuts plan s.machine q size bio →
+  pub walk_cuts : (s' : Stack) (q size : ℕ) (bio : Bio) (pool : List (List ℕ)) → StackStays s s' → IsChosen s (Cut q) → Does plan s.machine (Cut q) size s'.machine → Cuts plan s.machine q size bio →
       WriteMapped (io_at ios (bio.op - 1)).dir (io_at ios (bio.op - 1)).pi s.host bio.k bio.count bio.lba s.pool pool → data_of s' ≡ record (data_of s) { pool = pool } → WalksBy course over n opening es left s'
   walk_cuts s' q size bio pool stays ch does piece mapped same =
       let c = Cut q in
@@ -255,7 +255,7 @@ module _ {course : Course} (over : Setting) (n : ℕ) (opening : State) (es : Li
       after pool count b.lba s.host y.0 refl refl (omega arith) (mapped_whole (io_at ios i).dir (io_at ios i).pi s.host at count b.lba s.pool pool w.follow.whole here) o.host_is lbas here) w.blocks
 
 -- An overwrite is admitted whose store call fails.
-module _ (flips : Flips) (over : Setting) (n : ℕ) (opening : State) (es : List Sent) (left : List (List ℕ)) (s : Stack) (k : IsStack s) (o : IsOver over n opening s.sheet s.adapter s.host) (w : WalksBy (Falling flips) over n opening es left s) (s' : Stack) (q i : ℕ) (stays : Stays s s') (ch : IsChosen s (Admit q))
+module _ (flips : Flips) (over : Setting) (n : ℕ) (opening : State) (es : List Sent) (left : List (List ℕ)) (s : Stack) (k : IsStack s) (o : IsOver over n opening s.sheet s.adapter s.host) (w : WalksBy (Falling flips) over n opening es left s) (s' : Stack) (q i : ℕ) (stays : StackStays s s') (ch : IsChosen s (Admit q))
     (does : Does (plan_in s.sheet) s.machine (Admit q) 0 s'.machine) (of : OfOp (plan_in s.sheet) s.machine (Admit q) i) where
   pub walk_fails : (io_at s.sheet.ios.items i).count ≡ 0 → (pool : List (List ℕ)) (reply : Reply) → OpDone (op_in s.sheet.ops i) s.adapter.kind (room_at s.rooms.items i) s.pool pool reply → (dev lba : ℕ) (change : Change) → op_in s.sheet.ops i ≡ Overwrite dev lba change → is_medium reply ≡ true →
       (block : List ℕ) → length block ≡ length (get_or left (over.site.cell dev lba) []) → data_of s' ≡ record (data_of s) { pool = pool; rooms = set s.rooms.items i Nothing; replies = set s.replies.items i reply } →

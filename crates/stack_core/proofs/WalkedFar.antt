@@ -38,10 +38,10 @@ use Rattle.run_follows.proofs.Sending.{in_its_queue}
 use Rattle.stack_core.specs.Courses.{Course, FollowsBy}
 use Rattle.stack_core.specs.declared.sheet.Sheet.{Sheet}
 use Rattle.stack_core.specs.declared.stack.Stack.{Stack}
-use Rattle.run_follows.specs.Settled.{AllSettled, Kept}
+use Rattle.run_follows.specs.Settled.{AllSettled, KeptFates}
 use Rattle.run_follows.specs.Settling.{AreFates}
 use Rattle.run_follows.specs.Sheets.{io_at}
-use Rattle.stack_core.specs.Stacks.{IsStack, Stays, plan_in}
+use Rattle.stack_core.specs.Stacks.{IsStack, StackStays, plan_in}
 use Rattle.stack_core.specs.Walking.{Data, Follow, IsChosen, IsOver, SizesFit, WalksBy, data_of, status_of}
 use Rattle.stack_core.proofs.Completes.{completes}
 use Rattle.stack_core.proofs.Courses.{held_by, none_held}
@@ -70,7 +70,7 @@ module _ {course : Course} (over : Setting) (n : ℕ) (opening : State) (es : Li
 
   -- ---- a command is completed
 
-  pub walk_completes : (s' : Stack) (i : ℕ) (bios : List Bio) (fates : List Fate) → Stays s s' → IsChosen s (Complete i) → Does design s.machine (Complete i) 0 s'.machine → Lands design s.machine i bios fates → AreFates s.sheet.ios.items s'.kept.starts.items s'.kept.held.items →
+  pub walk_completes : (s' : Stack) (i : ℕ) (bios : List Bio) (fates : List Fate) → StackStays s s' → IsChosen s (Complete i) → Does design s.machine (Complete i) 0 s'.machine → Lands design s.machine i bios fates → AreFates s.sheet.ios.items s'.kept.starts.items s'.kept.held.items →
       AllSettled (mode_of s.adapter) s.host s.sheet.ios.items s.kept.starts.items bios fates (length bios) (record { pages = s.pool; held = s.kept.held.items }) (record { pages = s'.pool; held = s'.kept.held.items }) →
       data_of s' ≡ record (data_of s) { pool = s'.pool; starts = s'.kept.starts.items; held = s'.kept.held.items } → WalksBy course over n opening es left s'
   walk_completes s' i bios fates stays ch does lands kept settles same =
@@ -87,8 +87,8 @@ module _ {course : Course} (over : Setting) (n : ℕ) (opening : State) (es : Li
       let h : Holds design s'.machine after = subst (λ z. Holds design s'.machine (step design view z 0 [])) is (does view t w.holds (can_be over n opening es left s k o w c ch) mean) in
       let done = completed sh.ops sh.shifted.items sh.ios.items sh.table sh.limits sh.devices s.machine i bios fates sh.right.fine (ready over n opening es left s k o w c ch) lands in
       let each : size cmd.bios ≡ length cmd.fates = ap size (sym x.1.1.0) ∙ (done.each ∙ ap length x.1.1.1) in
-      let new : Kept = record { pages = s'.pool; held = s'.kept.held.items } in
-      let old : Kept = record { pages = s.pool; held = s.kept.held.items } in
+      let new : KeptFates = record { pages = s'.pool; held = s'.kept.held.items } in
+      let old : KeptFates = record { pages = s.pool; held = s.kept.held.items } in
       let settled : AllSettled (mode_of s.adapter) s.host sh.ios.items s.kept.starts.items cmd.bios cmd.fates (length cmd.bios) old new
       = subst (λ fs. AllSettled (mode_of s.adapter) s.host sh.ios.items s.kept.starts.items cmd.bios fs (length cmd.bios) old new) x.1.1.1 (subst (λ bs. AllSettled (mode_of s.adapter) s.host sh.ios.items s.kept.starts.items bs fates (length bs) old new) x.1.1.0 settles) in
       let starts = starts_stay sh.ios.items s.kept.starts.items s'.kept.starts.items s.kept.held.items s'.kept.held.items k.kept kept in
@@ -98,7 +98,7 @@ module _ {course : Course} (over : Setting) (n : ℕ) (opening : State) (es : Li
 
   -- ---- a group is sent
 
-  module _ (s' : Stack) (d i : ℕ) (group : List Bio) (fates : List Fate) (between : Machine) (stays : Stays s s') (ch : IsChosen s (Send d i)) (takes : Takes design s.machine d i group between) (flies : Flies design between d group fates s'.machine) (settles : Settles group fates)
+  module _ (s' : Stack) (d i : ℕ) (group : List Bio) (fates : List Fate) (between : Machine) (stays : StackStays s s') (ch : IsChosen s (Send d i)) (takes : Takes design s.machine d i group between) (flies : Flies design between d group fates s'.machine) (settles : Settles group fates)
       (same : data_of s' ≡ record (data_of s) { pool = s'.pool }) where
     is_send : taken over n opening es left s k o w (Send d i) ch ≡ StepSend d i
     is_send = meant over n opening es left s k o w (Send d i) ch

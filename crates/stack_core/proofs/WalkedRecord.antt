@@ -34,7 +34,7 @@ use Rattle.run_follows.specs.Slots.{Status}
 use Rattle.run_follows.proofs.Fitting.{fit_in, fit_out}
 use Rattle.run_follows.proofs.Recording.{sent_in, sent_out}
 use Rattle.stack_core.specs.declared.stack.Stack.{Stack}
-use Rattle.stack_core.specs.Stacks.{IsStack, Stays, plan_in}
+use Rattle.stack_core.specs.Stacks.{IsStack, StackStays, plan_in}
 use Rattle.stack_core.specs.Walking.{IsChosen, IsOver, Walks, WalksOver, data_of, status_of}
 use Rattle.stack_core.proofs.Context.{adapts, over_stays, over_told, places, stands}
 use Rattle.stack_core.proofs.FollowsSend.{all_going, spots_of}
@@ -58,7 +58,7 @@ module _ (m : Setting) (n : ℕ) (opening : State) (first : ℕ) (s : Stack) (st
   design = plan_in s.sheet
 
   -- the same over the same records
-  pub records_stay : (s' : Stack) → Stays s s' → (left : List (List ℕ)) → WalksOver device n opening records left s' → Walks m n opening first s' st log
+  pub records_stay : (s' : Stack) → StackStays s s' → (left : List (List ℕ)) → WalksOver device n opening records left s' → Walks m n opening first s' st log
   records_stay s' stays left walks = record {
     over = over_stays m n opening s s' stays w.over;
     sizes = w.sizes;
@@ -68,7 +68,7 @@ module _ (m : Setting) (n : ℕ) (opening : State) (first : ℕ) (s : Stack) (st
     walks = walks;
   }
 
-  module _ (s' : Stack) (d i : ℕ) (group : List Bio) (fates : List Fate) (between : Machine) (stays : Stays s s') (ch : IsChosen s (Send d i)) (takes : Takes design s.machine d i group between) (flies : Flies design between d group fates s'.machine) (settles : Settles group fates)
+  module _ (s' : Stack) (d i : ℕ) (group : List Bio) (fates : List Fate) (between : Machine) (stays : StackStays s s') (ch : IsChosen s (Send d i)) (takes : Takes design s.machine d i group between) (flies : Flies design between d group fates s'.machine) (settles : Settles group fates)
       (same : data_of s' ≡ record (data_of s) { pool = s'.pool }) where
     abbrev bs : List Block
     bs = blocks_in (group_at view d i)

@@ -67,7 +67,7 @@ use Rattle.stack_core.specs.Courses.{Course, Falling, FollowsBy, Straight}
 use Rattle.stack_core.specs.declared.sheet.Sheet.{Sheet}
 use Rattle.stack_core.specs.declared.stack.Stack.{Stack}
 use Rattle.run_follows.specs.Sheets.{io_at, op_in}
-use Rattle.stack_core.specs.Stacks.{IsStack, Stays, plan_in}
+use Rattle.stack_core.specs.Stacks.{IsStack, StackStays, plan_in}
 use Rattle.stack_core.specs.Walking.{IsChosen, WalksAtTarget, WalksBy, data_of, status_of}
 use Rattle.stack_core.proofs.AtUnits.{EachIn, both_still, fewer_behind, first_block, io_count, io_first, range_in, still}
 use Rattle.stack_core.proofs.Context.{adapts, over_stays, places, stands}
@@ -116,7 +116,7 @@ module _ {course : Course} (m : Setting) (n : ℕ) (opening : State) (first : �
   ops = s.sheet.ops
 
   -- the same over the same records and the same units
-  pub told_stay : (s' : Stack) → Stays s s' → (units' : Option (List Stored)) (us' : List Stored) (armed' : List FaultLine) (log' : List LogEntry) → first ≤ length log' → units' ≡ Some us' → armed' ≡ armed → WalksBy course m n opening (recorded m (drop first log')) (blocks_told us') s' → WalksAtTarget course m n opening first s' units' armed' st log'
+  pub told_stay : (s' : Stack) → StackStays s s' → (units' : Option (List Stored)) (us' : List Stored) (armed' : List FaultLine) (log' : List LogEntry) → first ≤ length log' → units' ≡ Some us' → armed' ≡ armed → WalksBy course m n opening (recorded m (drop first log')) (blocks_told us') s' → WalksAtTarget course m n opening first s' units' armed' st log'
   told_stay s' stays units' us' armed' log' l e a walks = record {
     over = over_stays m n opening s s' stays w.over;
     sizes = w.sizes;
@@ -129,7 +129,7 @@ module _ {course : Course} (m : Setting) (n : ℕ) (opening : State) (first : �
     walks = walks;
   }
 
-  module _ (s' : Stack) (d i : ℕ) (group : List Bio) (fates : List Fate) (between : Machine) (stays : Stays s s') (ch : IsChosen s (Send d i)) (takes : Takes design s.machine d i group between) (flies : Flies design between d group fates s'.machine) (settles : Settles group fates)
+  module _ (s' : Stack) (d i : ℕ) (group : List Bio) (fates : List Fate) (between : Machine) (stays : StackStays s s') (ch : IsChosen s (Send d i)) (takes : Takes design s.machine d i group between) (flies : Flies design between d group fates s'.machine) (settles : Settles group fates)
       (same : data_of s' ≡ record (data_of s) { pool = s'.pool }) where
     abbrev g : List Bio
     g = group_at view d i

@@ -10,7 +10,7 @@ use Rattle.stack_core.specs.declared.kept.Room.{Room}
 use Rattle.stack_core.specs.Replies.{HoldsSeal, HoldsShown}
 
 -- A rig has the devices of the block that is changed and of the one that is copied; one that tells its image has the blocks.
-pub record HasBlocks (told : Bool) (st : Standing) (dev lba : ℕ) (change : Change) : Type 0 where
+pub record HasChangedBlocks (told : Bool) (st : Standing) (dev lba : ℕ) (change : Change) : Type 0 where
   pub device : dev < st.devices
   pub source : source_of change dev < st.devices
   pub place : told ≡ true → can_change st dev lba change ≡ true
@@ -38,5 +38,5 @@ CanReach told st (Write v n body app) = Unit {0}
 CanReach told st (Fetch v n body) = Unit {0}
 CanReach told st (WritePi v n body tuples) = Unit {0}
 CanReach told st (FetchPi v n body tuples) = Unit {0}
-CanReach told st (Overwrite dev lba change) = HasBlocks told st dev lba change
+CanReach told st (Overwrite dev lba change) = HasChangedBlocks told st dev lba change
 CanReach told st Wait = Unit {0}

@@ -28,7 +28,7 @@ use Rattle.stack_ops.specs.declared.reply.Reply.TheVariants.{Silent, Whole, Bad 
 use Rattle.stack_view.specs.Comes.{Comes, entry_at}
 use Rattle.stack_view.specs.Formed.{IsGroup}
 use Rattle.stack_view.specs.Plan.{Plan}
-use Rattle.stack_view.specs.Runs.{ScheduleEntry, Sent, sent}
+use Rattle.stack_view.specs.Runs.{ScheduleEntry, SentCommand, sent}
 use Rattle.stack_view.specs.Steps.{Step, can, step}
 use Rattle.stack_view.specs.View.{Command, OpView, View, no_op}
 use Rattle.stack_steps.specs.declared.choice.Choice.{Choice}
@@ -42,21 +42,21 @@ use Rattle.stack_core.specs.Stacks.{plan_in}
 -- ---- records
 
 -- a command asks for just these blocks, in this direction
-abbrev pub AsksFor : Request → Sent → Type 0
+abbrev pub AsksFor : Request → SentCommand → Type 0
 AsksFor (Read c) s = (s.dir ≡ Reads) × (c.lba ≡ s.lba) × (c.n ≡ s.count)
 AsksFor (Write c) s = (s.dir ≡ Writes) × (c.lba ≡ s.lba) × (c.n ≡ s.count)
 AsksFor (Verify c) s = ⊥
 AsksFor (ReadCapacity len) s = ⊥
 
 -- the record of a command for these blocks of this device
-pub record IsRecordOf (s : Sent) (e : Record) : Type 0 where
+pub record IsRecordOf (s : SentCommand) (e : Record) : Type 0 where
   pub dev : e.what.dev ≡ s.dev
   pub cdb : Cdb
   pub decodes : decoded e.what.cdb ≡ Ok cdb
   pub asks : AsksFor (request_of cdb) s
 
 -- the records are those of these commands, in order and one for one
-abbrev pub AreRecords : List Sent → List Record → Type 0
+abbrev pub AreRecords : List SentCommand → List Record → Type 0
 AreRecords [] [] = Unit {0}
 AreRecords [] (e ∷ es) = ⊥
 AreRecords (s ∷ ss) [] = ⊥

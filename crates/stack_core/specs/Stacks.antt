@@ -106,7 +106,7 @@ Steps p m word cut m' = (v : View) → Holds p m v → 0 < length (enabled p v)
     → (fates : List Fate) × Answered v (chosen p v word) fates × Holds p m' (step p v (chosen p v word) cut fates)
 
 -- what no step changes is as it was
-pub record Stays (old new : Stack) : Type 0 where
+pub record StackStays (old new : Stack) : Type 0 where
   pub sheet : new.sheet ≡ old.sheet
   pub adapter : new.adapter ≡ old.adapter
   pub host : new.host ≡ old.host

@@ -11,7 +11,7 @@ ghost use Rattle.run_follows.specs.Settling.{HasTuples, IsWhole};
 ghost use Rattle.stack_core.specs.Replies.{HoldsSeal};
 ghost use Rattle.stack_ops.specs.declared.reply.Reply.TheVariants.{Medium, Silent};
 ghost use Rattle.stack_core.specs.Done.{MadeBy, OpDone, Sealed, WriteMade, WriteMapped};
-ghost use Rattle.stack_core.specs.Doing.{CanDo, CanReach, HasBlocks};
+ghost use Rattle.stack_core.specs.Doing.{CanDo, CanReach, HasChangedBlocks};
 ghost use Rattle.stack_core.specs.Walking.{Enters, IsChosen, IsKnown, LeavesOwn, NoneFailed, WalksOn, is_medium, units_left};
 ghost use Rattle.dix_base.specs.Told.{Calm};
 ghost use Rattle.rig_api.specs.Telling.{block_at, changed, frame_size, unit_at, with_block};
@@ -19,7 +19,7 @@ ghost use Rattle.rig_api.specs.State.{Stays as RigStays};
 ghost use Rattle.target_answer.specs.Target.{Stored};
 ghost use Rattle.stack_core.specs.Mediums.{Counts, Spoils, medium_replies};
 ghost use Rattle.stack_core.specs.OnRecord.{Carries, SendsOn, Traces};
-ghost use Rattle.stack_core.specs.Stacks.{GoesOn, HasStep, IsStack, Stays, Steps, plan_in};
+ghost use Rattle.stack_core.specs.Stacks.{GoesOn, HasStep, IsStack, StackStays, Steps, plan_in};
 ghost use Rattle.stack_core.specs.Going.{AdmitsOver, FailsCounted, SettlesNone, StandsOver, Went};
 
 use crate::kept::{Fates, Room, reply_of, shown};
@@ -109,7 +109,7 @@ impl Stack {
         requires stands { StandsOver self.old (R.state rig.old) }
         requires some { HasStep (plan_in self.old.sheet) self.old.machine }
         ensures stands { StandsOver self.new (R.state rig.new) }
-        ensures stays { Stays self.old self.new }
+        ensures stays { StackStays self.old self.new }
         ensures step { Steps (plan_in self.old.sheet) self.old.machine word cut self.new.machine }
         ensures rig { RigStays (R.state rig.old) (R.state rig.new) }
         ensures goes { GoesOn (R.state rig.old) (R.state rig.new) }
@@ -131,7 +131,7 @@ impl Stack {
         requires stack { IsStack self.old }
         requires ready { Ready (plan_in self.old.sheet) self.old.machine (End q) }
         ensures stack { IsStack self.new }
-        ensures stays { Stays self.old self.new }
+        ensures stays { StackStays self.old self.new }
         ensures step { (cut : ℕ) → Does (plan_in self.old.sheet) self.old.machine (End q) cut self.new.machine }
         ensures walks { IsChosen self.old (End q) → WalksOn self.old self.new }
         ensures silent { NoneFailed self.old.replies.items → NoneFailed self.new.replies.items }
@@ -148,7 +148,7 @@ impl Stack {
         requires stack { IsStack self.old }
         requires ready { Ready (plan_in self.old.sheet) self.old.machine (Complete i) }
         ensures stack { IsStack self.new }
-        ensures stays { Stays self.old self.new }
+        ensures stays { StackStays self.old self.new }
         ensures step { (cut : ℕ) → Does (plan_in self.old.sheet) self.old.machine (Complete i) cut self.new.machine }
         ensures walks { IsChosen self.old (Complete i) → WalksOn self.old self.new }
         ensures replies { self.new.replies.items ≡ self.old.replies.items }
@@ -172,7 +172,7 @@ impl Stack {
         requires stands { StandsOver self.old (R.state rig.old) }
         requires ready { Ready (plan_in self.old.sheet) self.old.machine (Admit q) }
         ensures stack { IsStack self.new }
-        ensures stays { Stays self.old self.new }
+        ensures stays { StackStays self.old self.new }
         ensures step { (cut : ℕ) → Does (plan_in self.old.sheet) self.old.machine (Admit q) cut self.new.machine }
         ensures walks { IsChosen self.old (Admit q) → Enters (R.state rig.old) (R.state rig.new) self.old self.new }
         ensures fails { FailsCounted self.old.replies.items self.new.replies.items (R.state rig.old).faults (R.state rig.new).faults }
@@ -204,7 +204,7 @@ impl Stack {
         requires stack { IsStack self.old }
         requires ready { Ready (plan_in self.old.sheet) self.old.machine (Cut q) }
         ensures stack { IsStack self.new }
-        ensures stays { Stays self.old self.new }
+        ensures stays { StackStays self.old self.new }
         ensures step { Does (plan_in self.old.sheet) self.old.machine (Cut q) size self.new.machine }
         ensures walks { IsChosen self.old (Cut q) → WalksOn self.old self.new }
         ensures settles { SettlesNone self.old self.new }
@@ -222,7 +222,7 @@ impl Stack {
         requires stack { IsStack self.old }
         requires ready { Ready (plan_in self.old.sheet) self.old.machine (Join d i j) }
         ensures stack { IsStack self.new }
-        ensures stays { Stays self.old self.new }
+        ensures stays { StackStays self.old self.new }
         ensures step { (cut : ℕ) → Does (plan_in self.old.sheet) self.old.machine (Join d i j) cut self.new.machine }
         ensures walks { IsChosen self.old (Join d i j) → WalksOn self.old self.new }
         ensures settles { SettlesNone self.old self.new }
@@ -234,7 +234,7 @@ impl Stack {
         requires stands { StandsOver self.old (R.state rig.old) }
         requires ready { Ready (plan_in self.old.sheet) self.old.machine (Send d i) }
         ensures stands { StandsOver self.new (R.state rig.new) }
-        ensures stays { Stays self.old self.new }
+        ensures stays { StackStays self.old self.new }
         ensures went { IsChosen self.old (Send d i) → Went self.old (R.state rig.old) self.new (R.state rig.new) }
         ensures settles { SettlesNone self.old self.new }
         ensures rig { RigStays (R.state rig.old) (R.state rig.new) }
@@ -320,7 +320,7 @@ fn seal(pool: &mut PagePool, body: &SgList, kind: GuardKind, room: Room)
 }
 
 fn overwrite<R: Rig>(rig: &mut R, dev: u32, lba: u64, change: &Change) -> Reply
-    requires { HasBlocks (is_some (R.state rig.old).image) (R.state rig.old).standing dev lba change.now }
+    requires { HasChangedBlocks (is_some (R.state rig.old).image) (R.state rig.old).standing dev lba change.now }
     ensures reply { (result ≡ Silent) ⊎ (result ≡ Medium) }
     ensures stays { RigStays (R.state rig.old) (R.state rig.new) }
     ensures room { (R.state rig.new).room ≡ (R.state rig.old).room }

@@ -2,7 +2,7 @@
 use Rattle.std.proofs.Common.{◌≡◌, ◌<◌, ◌≤◌, ℕ, zero, suc, ◌+◌, true, false, List, [], ◌∷◌, ◌++◌, length, map, replicate, take, get_or, refl, sym, ap, ◌∙◌, ⊎_elim, arith}
 use Rattle.std.proofs.lemmas.Bool.{cases_lt}
 use Rattle.std.proofs.lemmas.List.{get_or_past, get_or-map, length-map, map-append}
-use Rattle.stack_view.specs.Plan.{Plan, Request, no_request}
+use Rattle.stack_view.specs.Plan.{Plan, PlannedOp, no_request}
 use Rattle.merge_queue.specs.Groups.{numbers}
 use Rattle.stack_view.specs.View.{is_admitted, waiting, start, no_op}
 use Rattle.stack_view.specs.Runs.{blocks_of_requests}
@@ -25,20 +25,20 @@ none-marked : (n : ℕ) → unmarked_in (replicate n false) ≡ n
 none-marked zero = refl
 none-marked (suc n) = let e = none-marked n in omega arith
 
-pub first-state : (r : Request) → state_of (waiting r) ≡ record { cut = 0; left = r.count }
+pub first-state : (r : PlannedOp) → state_of (waiting r) ≡ record { cut = 0; left = r.count }
 first-state r = ap (λ n. record { cut = 0; left = n }) (none-marked r.count)
 
-pub states-more : (rs : List Request) (i : ℕ) → i < length rs → map state_of (map waiting (take (i + 1) rs)) ≡ map state_of (map waiting (take i rs)) ++ record { cut = 0; left = (get_or rs i no_request).count } ∷ []
+pub states-more : (rs : List PlannedOp) (i : ℕ) → i < length rs → map state_of (map waiting (take (i + 1) rs)) ≡ map state_of (map waiting (take i rs)) ++ record { cut = 0; left = (get_or rs i no_request).count } ∷ []
 states-more [] i h = absurd (omega arith)
 states-more (r ∷ rs) zero h = ap (λ s. s ∷ []) (first-state r)
 states-more (r ∷ rs) (suc i) h = let a : suc i + 1 ≡ suc (i + 1) = omega arith in rw a (ap (λ l. state_of (waiting r) ∷ l) (states-more rs i (omega arith)))
 
-pub blocks-more : (rs : List Request) (i : ℕ) → i < length rs → blocks_of_requests (take (i + 1) rs) ≡ blocks_of_requests (take i rs) + (get_or rs i no_request).count
+pub blocks-more : (rs : List PlannedOp) (i : ℕ) → i < length rs → blocks_of_requests (take (i + 1) rs) ≡ blocks_of_requests (take i rs) + (get_or rs i no_request).count
 blocks-more [] i h = absurd (omega arith)
 blocks-more (r ∷ rs) zero h = omega arith
 blocks-more (r ∷ rs) (suc i) h = let a : suc i + 1 ≡ suc (i + 1) = omega arith in let e = blocks-more rs i (omega arith) in rw a (omega arith)
 
-pub blocks-front : (rs : List Request) (i : ℕ) → blocks_of_requests (take i rs) ≤ blocks_of_requests rs
+pub blocks-front : (rs : List PlannedOp) (i : ℕ) → blocks_of_requests (take i rs) ≤ blocks_of_requests rs
 blocks-front [] zero = omega arith
 blocks-front [] (suc i) = omega arith
 blocks-front (r ∷ rs) zero = omega arith
@@ -55,7 +55,7 @@ pub replicate-last : {A : Type 0} (n : ℕ) (x : A) → replicate (n + 1) x ≡ 
 replicate-last zero x = refl
 replicate-last (suc n) x = let a : suc n + 1 ≡ suc (n + 1) = omega arith in rw a (ap (λ l. x ∷ l) (replicate-last n x))
 
-all-live : (k : ℕ) (rs : List Request) → live_from k (map waiting rs) ≡ numbers k (length rs)
+all-live : (k : ℕ) (rs : List PlannedOp) → live_from k (map waiting rs) ≡ numbers k (length rs)
 all-live k [] = refl
 all-live k (r ∷ rs) = ap (λ l. k ∷ l) (all-live (suc k) rs)
 
@@ -74,7 +74,7 @@ pub queues-more : (qs qs' : List Queued) (q : Queued) (n room : ℕ) → qs' ≡
 queues-more qs qs' q n room e g a h r =
     rw e (map-append groups_of qs (q ∷ []) ∙ ap (λ z. z ++ q.groups ∷ []) g ∙ ap (λ z. replicate n [] ++ z ∷ []) h ∙ sym (replicate-last n []), All-push (HasRoom room) qs q a r)
 
-all-wait : (rs : List Request) → replicate (length rs) Waiting ≡ map phase_of (map waiting rs)
+all-wait : (rs : List PlannedOp) → replicate (length rs) Waiting ≡ map phase_of (map waiting rs)
 all-wait [] = refl
 all-wait (r ∷ rs) = ap (λ w. Waiting ∷ w) (all-wait rs)
 

@@ -9,7 +9,7 @@ use Rattle.bio_core.specs.declared.fate.Fate.{Fate}
 use Rattle.bio_core.specs.declared.bio.Bio.{Bio}
 use Rattle.merge_queue.specs.Groups.{Group, size, put_all, lba_of, dir_of, same_dir, without, joined, may_follow, group_in, put}
 use Rattle.stack_view.specs.Blocks.{blocks, settled_of}
-use Rattle.stack_view.specs.Plan.{Plan, Request, no_request, request_at}
+use Rattle.stack_view.specs.Plan.{Plan, PlannedOp, no_request, request_at}
 use Rattle.stack_view.specs.Pieces.{greatest_piece, cut_to, bio_of}
 use Rattle.stack_view.specs.Rests.{rests}
 use Rattle.merge_queue.specs.Index.{Queued, bios_in}
@@ -205,7 +205,7 @@ pub phase-is : (p : Plan) (gate : Gated) (ops : List OpState) (live : List ℕ) 
 phase-is p gate ops live qs flight steps v i s = ap (λ z. phase_at z i) s.phases ∙ phase-there v i
 
 -- an op of the list
-pub count-few : (rs : List Request) (i : ℕ) → (get_or rs i no_request).count ≤ blocks_of_requests rs
+pub count-few : (rs : List PlannedOp) (i : ℕ) → (get_or rs i no_request).count ≤ blocks_of_requests rs
 count-few [] i = omega arith
 count-few (r ∷ rs) zero = omega arith
 count-few (r ∷ rs) (suc i) = let e = count-few rs i in omega arith

@@ -12,7 +12,7 @@ use Rattle.stack_view.specs.Runs.{blocks_of_requests}
 use Rattle.stack_view.specs.Sound.{Sound}
 use Rattle.stack_view.specs.Formed.{Formed}
 use Rattle.stack_view.specs.Room.{Accounted}
-use Rattle.stack_view.specs.Measure.{Counted}
+use Rattle.stack_view.specs.Measure.{StepsCounted}
 use Rattle.stack_steps.specs.declared.state.OpState.{OpState}
 use Rattle.stack_steps.specs.declared.choice.Choice.{Choice}
 use Rattle.stack_steps.specs.declared.choice.Choice.TheVariants.{End, Complete, Admit, Cut, Join, Send}
@@ -55,7 +55,7 @@ pub record Shows (p : Plan) (g : Gated) (ops : List OpState) (live : List ℕ) (
   pub sound : Sound p v
   pub formed : Formed p v
   pub accounted : Accounted p v
-  pub counted : Counted p v
+  pub counted : StepsCounted p v
   pub windowed : Windowed v
 
 abbrev pub Means : Plan → View → Choice → Step → Type 0

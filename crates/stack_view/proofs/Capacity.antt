@@ -8,7 +8,7 @@ use Rattle.std.proofs.lemmas.List.Elements.{All-head, All-tail}
 use Rattle.merge_queue.specs.Groups.{size, Group}
 use Rattle.merge_queue.specs.Index.{total, bios_in}
 use Rattle.merge_queue.proofs.Lists.{total-one}
-use Rattle.stack_view.specs.Plan.{Plan, Request, no_request}
+use Rattle.stack_view.specs.Plan.{Plan, PlannedOp, no_request}
 use Rattle.stack_view.specs.View.{View, OpView, no_op, queue_at}
 use Rattle.stack_view.specs.Runs.{blocks_of_requests}
 use Rattle.stack_view.specs.Sound.{Sound}
@@ -32,7 +32,7 @@ unmarked-few [] = omega arith
 unmarked-few (true ∷ xs) = let e = unmarked-few xs in omega arith
 unmarked-few (false ∷ xs) = let e = unmarked-few xs in omega arith
 
-unsettled-few : (rs : List Request) (os : List OpView) → length os ≡ length rs → ((i : ℕ) → length (get_or os i no_op).settled ≡ (get_or rs i no_request).count) → total unmarked os ≤ blocks_of_requests rs
+unsettled-few : (rs : List PlannedOp) (os : List OpView) → length os ≡ length rs → ((i : ℕ) → length (get_or os i no_op).settled ≡ (get_or rs i no_request).count) → total unmarked os ≤ blocks_of_requests rs
 unsettled-few [] [] l h = omega arith
 unsettled-few [] (o ∷ os) l h = absurd (omega arith)
 unsettled-few (r ∷ rs) [] l h = absurd (omega arith)

@@ -9,7 +9,7 @@ use Rattle.stack_view.specs.View.{View, Command, no_command, start}
 use Rattle.stack_view.specs.Steps.{Step, End, Complete, Admit, Cut, Join, Send, enabled, chosen, step}
 use Rattle.stack_view.specs.Runs.{ScheduleEntry, Rig, entry_of, taken, no_steps, all_good, by_word, run, blocks_of_requests, most_steps, end_of}
 use Rattle.stack_view.specs.Sound.{OnDevices, Sound}
-use Rattle.stack_view.specs.Measure.{Counted}
+use Rattle.stack_view.specs.Measure.{StepsCounted}
 use Rattle.stack_view.specs.Comes.{AllGood, Comes, entry_at}
 use Rattle.stack_view.proofs.Keeps.{keeps}
 use Rattle.stack_view.proofs.Starts.{starts}
@@ -18,7 +18,7 @@ use Rattle.stack_view.proofs.Measure.{counted-start, counted-keeps}
 
 pub record Both (p : Plan) (v : View) : Type 0 where
   pub sound : Sound p v
-  pub counted : Counted p v
+  pub counted : StepsCounted p v
 
 pub comes-both : (p : Plan) (es : List ScheduleEntry) (n : ℕ) (v : View) → OnDevices p → Comes p es n v → Both p v
 comes-both p es zero v on h = subst (Both p) (sym h) (record { sound = starts p; counted = counted-start p })

@@ -10,7 +10,7 @@ use Rattle.merge_queue.proofs.Lists.{total-one}
 use Rattle.stack_view.specs.Blocks.{BlockId, blocks, times, settled_count, is_settled}
 use Rattle.merge_queue.specs.Groups.{size, numbers, Group}
 use Rattle.merge_queue.specs.Index.{total}
-use Rattle.stack_view.specs.Plan.{Plan, Request, request_at}
+use Rattle.stack_view.specs.Plan.{Plan, PlannedOp, request_at}
 use Rattle.range_gate.specs.declared.phase.Phase.{Phase}
 use Rattle.range_gate.specs.declared.phase.Phase.TheVariants.{Waiting, Admitted, Ended}
 use Rattle.range_gate.specs.Gates.{is_waiting, has_ended}
@@ -83,7 +83,7 @@ all-at [] k h l = absurd (omega arith)
 all-at (x ∷ xs) zero h l = (and_parts x (all_true xs) h).0
 all-at (x ∷ xs) (suc k) h l = all-at xs k (and_parts x (all_true xs) h).1 (omega arith)
 
-due-marked : (r : Request) (o : OpView) (k : ℕ) → length o.settled ≡ r.count → all_true o.settled ≡ true → due r o k ≤ is_marked o k
+due-marked : (r : PlannedOp) (o : OpView) (k : ℕ) → length o.settled ≡ r.count → all_true o.settled ≡ true → due r o k ≤ is_marked o k
 due-marked r o k l a =
     ⊎_elim
     (λ (w : is_waiting o.phase ≡ true). rw w (omega arith))
@@ -303,7 +303,7 @@ sent-in-order p v d i o k s h t =
     let a = queued-admitted p v o k s (omega arith) in
     (a.1, λ j l c. s.order j o l a.0 (admitted-waits (op_at v o).phase a.1) c)
 
-pub due-one : (r : Request) (o : OpView) (k : ℕ) → due r o k ≤ 1
+pub due-one : (r : PlannedOp) (o : OpView) (k : ℕ) → due r o k ≤ 1
 due-one r o k =
     ⊎_elim
     (λ (w : is_waiting o.phase ≡ true). rw w (omega arith))

@@ -10,7 +10,7 @@ use Rattle.bio_core.specs.declared.fate.Fate.{Fate}
 use Rattle.merge_queue.proofs.Lists.{total-append, total-one, total-without}
 use Rattle.stack_view.specs.Blocks.{place_of, BlockId, run_of, blocks, times, is_block, settled_of, is_settled}
 use Rattle.merge_queue.specs.Index.{total}
-use Rattle.stack_view.specs.Plan.{Plan, Request, request_at}
+use Rattle.stack_view.specs.Plan.{Plan, PlannedOp, request_at}
 use Rattle.stack_view.specs.Pieces.{greatest, fits, longest, greatest_piece, cut_to, bio_of}
 use Rattle.merge_queue.specs.Groups.{Group, put, put_all, without, joined, may_follow}
 use Rattle.stack_view.specs.Rests.{rests}
@@ -145,7 +145,7 @@ admit-place p v a s h i k = from (at_set v.ops a (admit-op p a (op_at v a)) no_o
 abbrev cut-op : OpView → ℕ → OpView
 cut-op o n = record o { cut = o.cut + n }
 
-uncut-cut : (a k : ℕ) (r : Request) (o : OpView) (n : ℕ) → is_waiting o.phase ≡ false → n ≤ r.count - o.cut →
+uncut-cut : (a k : ℕ) (r : PlannedOp) (o : OpView) (n : ℕ) → is_waiting o.phase ≡ false → n ≤ r.count - o.cut →
     times a k (uncut a r (cut-op o n)) + times a k (run_of a o.cut n) ≡ times a k (uncut a r o)
 uncut-cut a k r o n w h =
     let f : r.count - o.cut ≡ n + (r.count - (o.cut + n)) = omega arith in
@@ -235,14 +235,14 @@ times-settled w (x ∷ xs) (f ∷ fs) =
 open-times : (i k : ℕ) (c : Command) → c.completed ≡ false → command_times i k c ≡ times i k (blocks c.bios)
 open-times i k c h = rw h refl
 
-due-room : (r : Request) (o : OpView) (k : ℕ) → length o.settled ≡ r.count → due r o k ≤ room o k
+due-room : (r : PlannedOp) (o : OpView) (k : ℕ) → length o.settled ≡ r.count → due r o k ≤ room o k
 due-room r o k e =
     ⊎_elim (λ (z : is_waiting o.phase ≡ true). rw z (omega arith)) (λ (z : is_waiting o.phase ≡ false). rw (z, e) (omega arith)) (cases_Bool (is_waiting o.phase))
 
-uncut-grows : (i : ℕ) (r : Request) (o q : OpView) → Grows o q → uncut i r q ≡ uncut i r o
+uncut-grows : (i : ℕ) (r : PlannedOp) (o q : OpView) → Grows o q → uncut i r q ≡ uncut i r o
 uncut-grows i r o q g = ap (λ t. if is_waiting t then [] else run_of i q.cut (r.count - q.cut)) g.phase ∙ ap (λ n. if is_waiting o.phase then [] else run_of i n (r.count - n)) g.cut
 
-due-grows : (r : Request) (o q : OpView) (k : ℕ) → Grows o q → due r q k ≡ due r o k
+due-grows : (r : PlannedOp) (o q : OpView) (k : ℕ) → Grows o q → due r q k ≡ due r o k
 due-grows r o q k g = ap (λ t. if is_waiting t then 0 else if nat_lt k r.count then 1 else 0) g.phase
 
 pub open-command : (p : Plan) (v : View) (j : ℕ) → Sound p v → (command_at v j).completed ≡ false → Open p (command_at v j)

@@ -9,7 +9,7 @@ use Rattle.merge_queue.proofs.Moves.{size-append}
 use Rattle.stack_view.specs.Blocks.{blocks, settled_of}
 use Rattle.merge_queue.specs.Groups.{size, Group, put, put_all, without, joined, may_follow}
 use Rattle.merge_queue.specs.Index.{total}
-use Rattle.stack_view.specs.Plan.{Plan, Request, request_at, no_request}
+use Rattle.stack_view.specs.Plan.{Plan, PlannedOp, request_at, no_request}
 use Rattle.stack_view.specs.Pieces.{greatest_piece, cut_to, bio_of}
 use Rattle.stack_view.specs.Rests.{rests}
 use Rattle.range_gate.specs.declared.phase.Phase.{Phase}
@@ -19,7 +19,7 @@ use Rattle.stack_view.specs.View.{View, OpView, Command, is_admitted, all_true, 
 use Rattle.stack_view.specs.Steps.{Step, End, Complete, Admit, Cut, Join, Send, unended, can, step}
 use Rattle.stack_view.specs.Runs.{blocks_of_requests}
 use Rattle.stack_view.specs.Sound.{OnDevices, Answered, Sound}
-use Rattle.stack_view.specs.Measure.{rank, op_weight, blocks_left, over_ops, group_weight, command_weight, measure, command_sends, sends_left, Counted}
+use Rattle.stack_view.specs.Measure.{rank, op_weight, blocks_left, over_ops, group_weight, command_weight, measure, command_sends, sends_left, StepsCounted}
 use Rattle.stack_view.proofs.Counts.{total-set}
 use Rattle.stack_view.proofs.Queues.{total-put, total-put_all, total-joined}
 use Rattle.stack_view.proofs.Rests.{rests-size, rests-length, runs_few}
@@ -27,7 +27,7 @@ use Rattle.stack_view.proofs.Ops.{Grows, grows-settle, length-settle}
 use Rattle.stack_view.proofs.Keeps.{queue-there, command-there, op-there, open-command, piece-some, piece-within, cut-some, cut-within, admitted-ended}
 use Rattle.stack_view.proofs.Enabled.{group-has}
 
-pub over-set : (f : Request → OpView → ℕ) (rs : List Request) (os : List OpView) (a : ℕ) (o : OpView) → length os ≡ length rs → a < length os →
+pub over-set : (f : PlannedOp → OpView → ℕ) (rs : List PlannedOp) (os : List OpView) (a : ℕ) (o : OpView) → length os ≡ length rs → a < length os →
     over_ops f rs (set os a o) + f (get_or rs a no_request) (get_or os a no_op) ≡ over_ops f rs os + f (get_or rs a no_request) o
 over-set f [] [] a o l h = absurd (omega arith)
 over-set f [] (x ∷ os) a o l h = absurd (omega arith)
@@ -36,18 +36,18 @@ over-set f (r ∷ rs) (x ∷ os) zero o l h = omega arith
 over-set f (r ∷ rs) (x ∷ os) (suc a) o l h = let e = over-set f rs os a o (omega arith) (omega arith) in omega arith
 
 -- ops with the same phases and cuts weigh the same
-pub over-same : (f : Request → OpView → ℕ) (rs : List Request) (os qs : List OpView) → length qs ≡ length os →
-    ((r : Request) (o q : OpView) → Grows o q → f r q ≡ f r o) → ((i : ℕ) → Grows (get_or os i no_op) (get_or qs i no_op)) → over_ops f rs qs ≡ over_ops f rs os
+pub over-same : (f : PlannedOp → OpView → ℕ) (rs : List PlannedOp) (os qs : List OpView) → length qs ≡ length os →
+    ((r : PlannedOp) (o q : OpView) → Grows o q → f r q ≡ f r o) → ((i : ℕ) → Grows (get_or os i no_op) (get_or qs i no_op)) → over_ops f rs qs ≡ over_ops f rs os
 over-same f [] os qs l e g = refl
 over-same f (r ∷ rs) [] [] l e g = refl
 over-same f (r ∷ rs) [] (q ∷ qs) l e g = absurd (omega arith)
 over-same f (r ∷ rs) (o ∷ os) [] l e g = absurd (omega arith)
 over-same f (r ∷ rs) (o ∷ os) (q ∷ qs) l e g = let h = e r o q (g 0) in let t = over-same f rs os qs (omega arith) e (λ i. g (suc i)) in omega arith
 
-weight-grows : (r : Request) (o q : OpView) → Grows o q → op_weight r q ≡ op_weight r o
+weight-grows : (r : PlannedOp) (o q : OpView) → Grows o q → op_weight r q ≡ op_weight r o
 weight-grows r o q g = ap (λ h. rank h + 5 * (r.count - q.cut)) g.phase ∙ ap (λ n. rank o.phase + 5 * (r.count - n)) g.cut
 
-pub left-grows : (r : Request) (o q : OpView) → Grows o q → blocks_left r q ≡ blocks_left r o
+pub left-grows : (r : PlannedOp) (o q : OpView) → Grows o q → blocks_left r q ≡ blocks_left r o
 left-grows r o q g = ap (λ n. r.count - n) g.cut
 
 admitted-rank : (h : Phase) → is_admitted h ≡ true → rank h ≡ 1
@@ -189,11 +189,11 @@ fewer p v (Send d i) cut fates s on h f =
 
 -- ---- the first view
 
-start-weight : (rs : List Request) → over_ops op_weight rs (map waiting rs) ≡ 2 * length rs + 5 * blocks_of_requests rs
+start-weight : (rs : List PlannedOp) → over_ops op_weight rs (map waiting rs) ≡ 2 * length rs + 5 * blocks_of_requests rs
 start-weight [] = refl
 start-weight (r ∷ rs) = let e = start-weight rs in let f : r.count - 0 ≡ r.count = omega arith in rw f (omega arith)
 
-pub start-left : (rs : List Request) → over_ops blocks_left rs (map waiting rs) ≡ blocks_of_requests rs
+pub start-left : (rs : List PlannedOp) → over_ops blocks_left rs (map waiting rs) ≡ blocks_of_requests rs
 start-left [] = refl
 start-left (r ∷ rs) = let e = start-left rs in let f : r.count - 0 ≡ r.count = omega arith in rw f (omega arith)
 
@@ -201,7 +201,7 @@ pub empty-queues : (f : Group → ℕ) (n : ℕ) → total (total f) (replicate 
 empty-queues f zero = refl
 empty-queues f (suc n) = let e = empty-queues f n in omega arith
 
-pub counted-start : (p : Plan) → Counted p (start p)
+pub counted-start : (p : Plan) → StepsCounted p (start p)
 counted-start p = record {
   steps = let w = start-weight p.requests in let e = empty-queues group_weight p.devices in omega arith;
   sends = let w = start-left p.requests in let e = empty-queues size p.devices in omega arith;
@@ -211,7 +211,7 @@ steps-one : (p : Plan) (v : View) (t : Step) (cut : ℕ) (fates : List Fate) →
 steps-one p v t cut fates = refl
 
 pub counted-keeps : (p : Plan) (v : View) (t : Step) (cut : ℕ) (fates : List Fate) → Sound p v → OnDevices p → can p v t ≡ true → Answered v t fates →
-    Counted p v → Counted p (step p v t cut fates)
+    StepsCounted p v → StepsCounted p (step p v t cut fates)
 counted-keeps p v t cut fates s on h f c = record {
   steps = let e = falls p v t cut fates s on h f in let a = c.steps in let o = steps-one p v t cut fates in omega arith;
   sends = let e = fewer p v t cut fates s on h f in let a = c.sends in omega arith;

@@ -10,7 +10,7 @@ use Rattle.merge_queue.proofs.Moves.{size-append}
 use Rattle.stack_view.specs.Blocks.{blocks, settled_count}
 use Rattle.merge_queue.specs.Groups.{size, put, put_all, without, joined, may_follow}
 use Rattle.merge_queue.specs.Index.{total}
-use Rattle.stack_view.specs.Plan.{Plan, Request, request_at}
+use Rattle.stack_view.specs.Plan.{Plan, PlannedOp, request_at}
 use Rattle.stack_view.specs.Pieces.{greatest_piece, cut_to, bio_of}
 use Rattle.stack_view.specs.Rests.{rests}
 use Rattle.range_gate.specs.declared.phase.Phase.TheVariants.{Admitted, Ended}
@@ -127,7 +127,7 @@ pub accounted-keeps : (p : Plan) (v : View) (t : Step) (cut : ℕ) (fates : List
     Accounted p v → Accounted p (step p v t cut fates)
 accounted-keeps p v t cut fates on s h f a = let k = kept p v t cut fates s on h f in let m = k.marks in let z = k.sizes in omega arith
 
-marks-start : (rs : List Request) → total unmarked (map waiting rs) ≡ blocks_of_requests rs
+marks-start : (rs : List PlannedOp) → total unmarked (map waiting rs) ≡ blocks_of_requests rs
 marks-start [] = refl
 marks-start (r ∷ rs) = let e = marks-start rs in let f = none r.count in omega arith
   where

@@ -7,13 +7,13 @@ use Rattle.bio_core.specs.declared.fate.Fate.TheVariants.{Good, Bad, Untouched}
 use Rattle.bio_core.specs.declared.fate.Why.TheVariants.{Medium}
 use Rattle.merge_queue.specs.declared.limits.Limits.{Limits}
 use Rattle.merge_queue.specs.Groups.{size}
-use Rattle.stack_view.specs.Plan.{Plan, Request, Place, no_request, request_at}
+use Rattle.stack_view.specs.Plan.{Plan, PlannedOp, Place, no_request, request_at}
 use Rattle.stack_view.specs.Steps.{enabled}
 use Rattle.stack_view.specs.Sound.{OnDevices}
 use Rattle.stack_view.specs.Formed.{Straight}
 use Rattle.stack_view.specs.Pieces.{greatest_piece}
 use Rattle.stack_view.specs.Rests.{untouched_runs}
-use Rattle.stack_view.specs.Runs.{ScheduleEntry, Rig, Sent, all_good, end_of, sends_of, sends_with}
+use Rattle.stack_view.specs.Runs.{ScheduleEntry, Rig, SentCommand, all_good, end_of, sends_of, sends_with}
 
 -- segments of n blocks from k on where each segment holds so many blocks
 abbrev in_pages : ℕ → ℕ → ℕ → ℕ
@@ -25,16 +25,16 @@ on_device dev lba = record { dev = dev; lba = lba }
 abbrev entry : ℕ → ℕ → ScheduleEntry
 entry w c = record { word = w; cut = c }
 
-abbrev write : ℕ → ℕ → Request
+abbrev write : ℕ → ℕ → PlannedOp
 write first count = record { dir = Write; first = first; count = count }
 
-abbrev fetch : ℕ → ℕ → Request
+abbrev fetch : ℕ → ℕ → PlannedOp
 fetch first count = record { dir = Read; first = first; count = count }
 
-abbrev writes : ℕ → ℕ → ℕ → Sent
+abbrev writes : ℕ → ℕ → ℕ → SentCommand
 writes dev lba count = record { dev = dev; dir = Write; lba = lba; count = count }
 
-abbrev reads : ℕ → ℕ → ℕ → Sent
+abbrev reads : ℕ → ℕ → ℕ → SentCommand
 reads dev lba count = record { dev = dev; dir = Read; lba = lba; count = count }
 
 abbrev small : Limits
@@ -85,7 +85,7 @@ crossed_sends = refl
 
 -- ---- one linear extent
 
-abbrev linear : List Request → (ℕ → ℕ → Bool) → Plan
+abbrev linear : List PlannedOp → (ℕ → ℕ → Bool) → Plan
 linear rs conflicts = record {
   requests = rs;
   devices = 2;

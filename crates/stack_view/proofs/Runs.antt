@@ -12,7 +12,7 @@ use Rattle.stack_view.specs.View.{View, start, queue_at, group_at}
 use Rattle.stack_view.specs.Steps.{Step, End, Complete, Admit, Cut, Join, Send, can, enabled, chosen, step}
 use Rattle.stack_view.specs.Runs.{ScheduleEntry, Rig, entry_of, taken, no_steps, all_good, by_word, run, blocks_of_requests, most_steps, sent, end_of, sends_with, sends_of}
 use Rattle.stack_view.specs.Sound.{OnDevices, Answered, RigSettles, Sound}
-use Rattle.stack_view.specs.Measure.{measure, Counted, greatest_pieces, AnsweredWhole, Thrifty}
+use Rattle.stack_view.specs.Measure.{measure, StepsCounted, greatest_pieces, AnsweredWhole, Thrifty}
 use Rattle.stack_view.proofs.Keeps.{keeps}
 use Rattle.stack_view.proofs.Starts.{starts}
 use Rattle.stack_view.proofs.Enabled.{chosen-can, group-has}
@@ -60,7 +60,7 @@ step-falls p rig e v on r s h =
     let c = chosen-can p v e.word h in
     falls p v (chosen p v e.word) e.cut (rig (length v.commands) (taken v (chosen p v e.word))) s on c (answered p v rig (length v.commands) (chosen p v e.word) s r c)
 
-step-counted : (p : Plan) (rig : Rig) (e : ScheduleEntry) (v : View) → OnDevices p → RigSettles rig → Sound p v → 0 < length (enabled p v) → Counted p v → Counted p (by_word p rig e v)
+step-counted : (p : Plan) (rig : Rig) (e : ScheduleEntry) (v : View) → OnDevices p → RigSettles rig → Sound p v → 0 < length (enabled p v) → StepsCounted p v → StepsCounted p (by_word p rig e v)
 step-counted p rig e v on r s h k =
     let c = chosen-can p v e.word h in
     counted-keeps p v (chosen p v e.word) e.cut (rig (length v.commands) (taken v (chosen p v e.word))) s on c (answered p v rig (length v.commands) (chosen p v e.word) s r c) k
@@ -83,7 +83,7 @@ run-stops p rig on r (suc n) es v s h =
 
 record Both (p : Plan) (v : View) : Type 0 where
   pub sound : Sound p v
-  pub counted : Counted p v
+  pub counted : StepsCounted p v
 
 any : (es : List ScheduleEntry) → All (λ e. Unit {0}) es
 any es k d h = tt

@@ -7,12 +7,12 @@ use Rattle.std.proofs.lemmas.List.{length-map, length-replicate}
 use Rattle.std.proofs.lemmas.List.Elements.{All-nil, All-replicate}
 use Rattle.merge_queue.specs.Index.{total}
 use Rattle.stack_view.specs.Blocks.{times}
-use Rattle.stack_view.specs.Plan.{Plan, Request, no_request}
+use Rattle.stack_view.specs.Plan.{Plan, PlannedOp, no_request}
 use Rattle.range_gate.specs.Gates.{is_waiting, has_ended}
 use Rattle.stack_view.specs.View.{OpView, all_true, no_op, waiting, start}
 use Rattle.stack_view.specs.Sound.{uncut, in_groups, in_queues, is_marked, due, HasBlocks, IsOpen, Sound}
 
-pub start_all : (P : Request → OpView → Type 0) → ((r : Request) → P r (waiting r)) → P no_request no_op → (rs : List Request) (i : ℕ) →
+pub start_all : (P : PlannedOp → OpView → Type 0) → ((r : PlannedOp) → P r (waiting r)) → P no_request no_op → (rs : List PlannedOp) (i : ℕ) →
     P (get_or rs i no_request) (get_or (map waiting rs) i no_op)
 start_all P w n [] i = n
 start_all P w n (r ∷ rs) zero = w r
@@ -27,16 +27,16 @@ unmarked zero k = refl
 unmarked (suc n) zero = refl
 unmarked (suc n) (suc k) = unmarked n k
 
-abbrev PlacedWith : ℕ → ℕ → ℕ → Request → OpView → Type 0
+abbrev PlacedWith : ℕ → ℕ → ℕ → PlannedOp → OpView → Type 0
 PlacedWith i k q r o = times i k (uncut i r o) + (q + (0 + is_marked o k)) ≡ due r o k
 
-waiting-placed : (i k q : ℕ) → q ≡ 0 → (r : Request) → PlacedWith i k q r (waiting r)
+waiting-placed : (i k q : ℕ) → q ≡ 0 → (r : PlannedOp) → PlacedWith i k q r (waiting r)
 waiting-placed i k q z r = let e = unmarked r.count k in rw (e, z) refl
 
 nothing-placed : (i k q : ℕ) → q ≡ 0 → PlacedWith i k q no_request no_op
 nothing-placed i k q z = let e : nat_lt k 0 ≡ false = le-ltb k 0 (omega arith) in rw (e, z) refl
 
-starts-waiting : (rs : List Request) (i : ℕ) → i < length (map waiting rs) → is_waiting (get_or (map waiting rs) i no_op).phase ≡ true
+starts-waiting : (rs : List PlannedOp) (i : ℕ) → i < length (map waiting rs) → is_waiting (get_or (map waiting rs) i no_op).phase ≡ true
 starts-waiting [] i h = absurd (omega arith)
 starts-waiting (r ∷ rs) zero h = refl
 starts-waiting (r ∷ rs) (suc i) h = starts-waiting rs i (omega arith)

@@ -9,7 +9,7 @@ use Rattle.bio_core.specs.declared.fate.Fate.TheVariants.{Good, Bad, Untouched}
 use Rattle.merge_queue.proofs.Lists.{total-without}
 use Rattle.stack_view.specs.Blocks.{blocks, settled_of, settled_count}
 use Rattle.merge_queue.specs.Index.{total}
-use Rattle.stack_view.specs.Plan.{Plan, Request, request_at, no_request}
+use Rattle.stack_view.specs.Plan.{Plan, PlannedOp, request_at, no_request}
 use Rattle.stack_view.specs.Pieces.{greatest_piece, bio_of}
 use Rattle.merge_queue.specs.Groups.{Group, put, put_all, without, joined, may_follow}
 use Rattle.stack_view.specs.Rests.{Run, rests, untouched_runs, with_place}
@@ -48,7 +48,7 @@ one-piece p i k h = at ((request_at p i).count - k) (omega arith) (omega arith)
         let e : nat_lt k (request_at p i).count ≡ true = lt-ltb k (request_at p i).count h in
         rw e (ap suc (enough p i n ((request_at p i).count - (k + greatest_piece p i k)) (k + greatest_piece p i k) (omega arith) (omega arith)))
 
-left-set : (p : Plan) (i : ℕ) (rs : List Request) (os : List OpView) (a : ℕ) (o : OpView) → length os ≡ length rs → a < length os →
+left-set : (p : Plan) (i : ℕ) (rs : List PlannedOp) (os : List OpView) (a : ℕ) (o : OpView) → length os ≡ length rs → a < length os →
     pieces_left p i rs (set os a o) + pieces_from p (i + a) ((get_or rs a no_request).count - (get_or os a no_op).cut) (get_or os a no_op).cut
     ≡ pieces_left p i rs os + pieces_from p (i + a) ((get_or rs a no_request).count - o.cut) o.cut
 left-set p i [] [] a o l h = absurd (omega arith)
@@ -57,7 +57,7 @@ left-set p i (r ∷ rs) [] a o l h = absurd (omega arith)
 left-set p i (r ∷ rs) (x ∷ os) zero o l h = let e : i + 0 ≡ i = omega arith in rw e (omega arith)
 left-set p i (r ∷ rs) (x ∷ os) (suc a) o l h = let e = left-set p (suc i) rs os a o (omega arith) (omega arith) in let f : i + suc a ≡ suc i + a = omega arith in rw f (omega arith)
 
-left-same : (p : Plan) (i : ℕ) (rs : List Request) (os qs : List OpView) → length qs ≡ length os → ((i : ℕ) → (get_or qs i no_op).cut ≡ (get_or os i no_op).cut) →
+left-same : (p : Plan) (i : ℕ) (rs : List PlannedOp) (os qs : List OpView) → length qs ≡ length os → ((i : ℕ) → (get_or qs i no_op).cut ≡ (get_or os i no_op).cut) →
     pieces_left p i rs qs ≡ pieces_left p i rs os
 left-same p i [] os qs l g = refl
 left-same p i (r ∷ rs) [] [] l g = refl
@@ -69,7 +69,7 @@ left-same p i (r ∷ rs) (o ∷ os) (q ∷ qs) l g =
     let e = ap (λ n. pieces_from p i (r.count - n) n) h in
     omega arith
 
-left-start : (p : Plan) (i : ℕ) (rs : List Request) → pieces_left p i rs (map waiting rs) ≡ greatest_pieces p i rs
+left-start : (p : Plan) (i : ℕ) (rs : List PlannedOp) → pieces_left p i rs (map waiting rs) ≡ greatest_pieces p i rs
 left-start p i [] = refl
 left-start p i (r ∷ rs) = let e = left-start p (suc i) rs in let f : r.count - 0 ≡ r.count = omega arith in rw f (omega arith)
 

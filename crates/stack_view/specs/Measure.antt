@@ -5,7 +5,7 @@ use Rattle.bio_core.specs.declared.fate.Fate.{Fate}
 use Rattle.merge_queue.specs.Groups.{size, Group}
 use Rattle.merge_queue.specs.Index.{total}
 use Rattle.stack_view.specs.Blocks.{settled_count}
-use Rattle.stack_view.specs.Plan.{Plan, Request, request_at}
+use Rattle.stack_view.specs.Plan.{Plan, PlannedOp, request_at}
 use Rattle.stack_view.specs.Pieces.{greatest_piece}
 use Rattle.range_gate.specs.declared.phase.Phase.{Phase}
 use Rattle.range_gate.specs.declared.phase.Phase.TheVariants.{Waiting, Admitted, Ended}
@@ -19,13 +19,13 @@ rank Admitted = 1
 rank Ended = 0
 
 -- an op is admitted and ends; each block is cut, sent and completed, and takes part in two joins
-abbrev pub op_weight : Request → OpView → ℕ
+abbrev pub op_weight : PlannedOp → OpView → ℕ
 op_weight r o = rank o.phase + 5 * (r.count - o.cut)
 
-abbrev pub blocks_left : Request → OpView → ℕ
+abbrev pub blocks_left : PlannedOp → OpView → ℕ
 blocks_left r o = r.count - o.cut
 
-abbrev pub over_ops : (Request → OpView → ℕ) → List Request → List OpView → ℕ
+abbrev pub over_ops : (PlannedOp → OpView → ℕ) → List PlannedOp → List OpView → ℕ
 over_ops f [] os = 0
 over_ops f (r ∷ rs) [] = 0
 over_ops f (r ∷ rs) (o ∷ os) = f r o + over_ops f rs os
@@ -54,19 +54,19 @@ pieces_from p i (suc n) k = let more = pieces_from p i n (k + greatest_piece p i
 
 -- the steps taken so far and what is left are at most two for each op and five for each block;
 -- the commands sent so far and those that can still be sent are at most the blocks
-pub record Counted (p : Plan) (v : View) : Type 0 where
+pub record StepsCounted (p : Plan) (v : View) : Type 0 where
   pub steps : v.steps + measure p v ≤ 2 * length p.requests + 5 * blocks_of_requests p.requests
   pub sends : length v.commands + sends_left p v ≤ blocks_of_requests p.requests
 
 -- ---- where every block is good and every piece the greatest
 
 -- the greatest pieces of the requests, each being cut from its first block on
-abbrev pub greatest_pieces : Plan → ℕ → List Request → ℕ
+abbrev pub greatest_pieces : Plan → ℕ → List PlannedOp → ℕ
 greatest_pieces p i [] = 0
 greatest_pieces p i (r ∷ rs) = pieces_from p i r.count 0 + greatest_pieces p (suc i) rs
 
 -- those that aren't cut yet
-abbrev pub pieces_left : Plan → ℕ → List Request → List OpView → ℕ
+abbrev pub pieces_left : Plan → ℕ → List PlannedOp → List OpView → ℕ
 pieces_left p i [] os = 0
 pieces_left p i (r ∷ rs) [] = 0
 pieces_left p i (r ∷ rs) (o ∷ os) = pieces_from p i (r.count - o.cut) o.cut + pieces_left p (suc i) rs os

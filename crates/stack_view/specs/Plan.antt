@@ -5,7 +5,7 @@ use Rattle.bio_core.specs.declared.request.Dir.TheVariants.{Read}
 use Rattle.merge_queue.specs.declared.limits.Limits.{Limits}
 
 -- one op; one that is no read or write has no blocks
-pub record Request : Type 0 where
+pub record PlannedOp : Type 0 where
   pub dir : Dir
   pub first : ℕ
   pub count : ℕ
@@ -15,7 +15,7 @@ pub record Place : Type 0 where
   pub lba : ℕ
 
 pub record Plan : Type 0 where
-  pub requests : List Request
+  pub requests : List PlannedOp
   pub devices : ℕ
   -- of a virtual block: its place, and how many blocks from it on lie one behind another on one device
   pub place : ℕ → Place
@@ -27,8 +27,8 @@ pub record Plan : Type 0 where
   pub conflicts : ℕ → ℕ → Bool
   pub limits : Limits
 
-abbrev pub no_request : Request
+abbrev pub no_request : PlannedOp
 no_request = record { dir = Read; first = 0; count = 0 }
 
-abbrev pub request_at : Plan → ℕ → Request
+abbrev pub request_at : Plan → ℕ → PlannedOp
 request_at p i = get_or p.requests i no_request

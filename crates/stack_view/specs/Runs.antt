@@ -4,7 +4,7 @@ use Rattle.bio_core.specs.declared.request.Dir.{Dir}
 use Rattle.bio_core.specs.declared.fate.Fate.{Fate}
 use Rattle.bio_core.specs.declared.fate.Fate.TheVariants.{Good}
 use Rattle.merge_queue.specs.Groups.{size, Group, lba_of, dir_of}
-use Rattle.stack_view.specs.Plan.{Plan, Request}
+use Rattle.stack_view.specs.Plan.{Plan, PlannedOp}
 use Rattle.stack_view.specs.View.{View, Command, start, group_at}
 use Rattle.stack_view.specs.Steps.{Step, End, Complete, Admit, Cut, Join, Send, enabled, chosen, step}
 
@@ -45,7 +45,7 @@ abbrev pub run : Plan → Rig → ℕ → List ScheduleEntry → View → View
 run p rig zero es v = v
 run p rig (suc n) es v = let more = run p rig n (drop 1 es) (by_word p rig (entry_of es) v) in if no_steps (enabled p v) then v else more
 
-abbrev pub blocks_of_requests : List Request → ℕ
+abbrev pub blocks_of_requests : List PlannedOp → ℕ
 blocks_of_requests [] = 0
 blocks_of_requests (r ∷ rs) = r.count + blocks_of_requests rs
 
@@ -53,21 +53,21 @@ abbrev pub most_steps : Plan → ℕ
 most_steps p = 2 * length p.requests + 5 * blocks_of_requests p.requests
 
 -- device, direction, first address and number of blocks of a command
-pub record Sent : Type 0 where
+pub record SentCommand : Type 0 where
   pub dev : ℕ
   pub dir : Dir
   pub lba : ℕ
   pub count : ℕ
 
-abbrev pub sent : Command → Sent
+abbrev pub sent : Command → SentCommand
 sent c = record { dev = c.dev; dir = dir_of c.bios; lba = lba_of c.bios; count = size c.bios }
 
 abbrev pub end_of : Plan → Rig → List ScheduleEntry → View
 end_of p rig es = run p rig (most_steps p) es (start p)
 
-abbrev pub sends_with : Plan → Rig → List ScheduleEntry → List Sent
+abbrev pub sends_with : Plan → Rig → List ScheduleEntry → List SentCommand
 sends_with p rig es = map sent (end_of p rig es).commands
 
 -- the groups that are sent where every block is good
-abbrev pub sends_of : Plan → List ScheduleEntry → List Sent
+abbrev pub sends_of : Plan → List ScheduleEntry → List SentCommand
 sends_of p es = sends_with p all_good es

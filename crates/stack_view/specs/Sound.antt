@@ -5,14 +5,14 @@ use Rattle.bio_core.specs.declared.fate.Fate.{Fate}
 use Rattle.stack_view.specs.Blocks.{BlockId, run_of, blocks, times, settled_count}
 use Rattle.merge_queue.specs.Groups.{size, Group}
 use Rattle.merge_queue.specs.Index.{total}
-use Rattle.stack_view.specs.Plan.{Plan, Request, request_at}
+use Rattle.stack_view.specs.Plan.{Plan, PlannedOp, request_at}
 use Rattle.range_gate.specs.Gates.{is_waiting, has_ended}
 use Rattle.stack_view.specs.View.{View, OpView, Command, all_true, op_at, group_at}
 use Rattle.stack_view.specs.Runs.{Rig}
 use Rattle.stack_view.specs.Steps.{Step, End, Complete, Admit, Cut, Join, Send}
 
 -- the blocks of an admitted request that aren't cut
-abbrev pub uncut : ℕ → Request → OpView → List BlockId
+abbrev pub uncut : ℕ → PlannedOp → OpView → List BlockId
 uncut i r o = if is_waiting o.phase then [] else run_of i o.cut (r.count - o.cut)
 
 -- how often block k of op i stands in these groups, in all queues, in commands that aren't completed
@@ -34,7 +34,7 @@ abbrev pub places : Plan → View → ℕ → ℕ → ℕ
 places p v i k = times i k (uncut i (request_at p i) (op_at v i)) + (in_queues i k v.queues + (in_commands i k v.commands + is_marked (op_at v i) k))
 
 -- 1 for a block of a request that was admitted
-abbrev pub due : Request → OpView → ℕ → ℕ
+abbrev pub due : PlannedOp → OpView → ℕ → ℕ
 due r o k = if is_waiting o.phase then 0 else if nat_lt k r.count then 1 else 0
 
 -- fates for a group: one for each block, and at least one block is settled

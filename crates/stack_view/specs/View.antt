@@ -3,7 +3,7 @@ use Rattle.std.specs.Prelude.{ℕ, Bool, true, false, ◌&&◌, List, [], ◌∷
 use Rattle.bio_core.specs.declared.fate.Fate.{Fate}
 use Rattle.range_gate.specs.declared.phase.Phase.{Phase}
 use Rattle.range_gate.specs.declared.phase.Phase.TheVariants.{Waiting, Admitted, Ended}
-use Rattle.stack_view.specs.Plan.{Plan, Request}
+use Rattle.stack_view.specs.Plan.{Plan, PlannedOp}
 use Rattle.merge_queue.specs.Groups.{Group}
 
 -- of an op: how many of its blocks are cut, and for each block whether it is settled
@@ -24,7 +24,7 @@ pub record View : Type 0 where
   pub commands : List Command
   pub steps : ℕ
 
-abbrev pub waiting : Request → OpView
+abbrev pub waiting : PlannedOp → OpView
 waiting r = record { phase = Waiting; cut = 0; settled = replicate r.count false }
 
 abbrev pub start : Plan → View

@@ -16,12 +16,12 @@ ghost use Rattle.stack_view.specs.Formed.{Straight, IsGroup, Formed};
 ghost use Rattle.stack_view.specs.Room.{Accounted, unsettled, exchanges_left, exchanges_of, frames_left, frames_of};
 ghost use Rattle.stack_view.specs.Comes.{AllGood, Comes};
 ghost use Rattle.stack_view.specs.Sound.{HasBlocks, OnDevices, Answered, RigSettles, AllEnded, Sound};
-ghost use Rattle.stack_view.specs.Measure.{measure, Counted, greatest_pieces, AnsweredWhole, Thrifty};
+ghost use Rattle.stack_view.specs.Measure.{measure, StepsCounted, greatest_pieces, AnsweredWhole, Thrifty};
 
 /// Before the first step each block is in its place, and nothing is counted.
 pub fn the_first_view_is_sound()
     ensures sound { (p : Plan) → Sound p (start p) }
-    ensures counted { (p : Plan) → Counted p (start p) }
+    ensures counted { (p : Plan) → StepsCounted p (start p) }
     ensures thrifty { (p : Plan) → Thrifty p (start p) }
 {}
 
@@ -59,7 +59,7 @@ pub fn each_step_takes_from_what_is_left()
     ensures falls { (p : Plan) (v : View) (t : Step) (cut : ℕ) (fates : List Fate)
         → OnDevices p → Sound p v → can p v t ≡ true → Answered v t fates → measure p (step p v t cut fates) + 1 ≤ measure p v }
     ensures counted { (p : Plan) (v : View) (t : Step) (cut : ℕ) (fates : List Fate)
-        → OnDevices p → Sound p v → can p v t ≡ true → Answered v t fates → Counted p v → Counted p (step p v t cut fates) }
+        → OnDevices p → Sound p v → can p v t ≡ true → Answered v t fates → StepsCounted p v → StepsCounted p (step p v t cut fates) }
 {}
 
 /// A block that is sent is of an op that is admitted, and all earlier ops that conflict with it have ended.

@@ -1,7 +1,7 @@
 //! Groups.
 
 ghost use Rattle.std.specs.Prelude.{◌≡◌, ℕ, ◌+◌, true, IfSome};
-ghost use Rattle.dix_adapter.specs.Groups.{IsBio, IsGroup, size};
+ghost use Rattle.dix_adapter.specs.Groups.{IsBio, IsCarriedGroup, size};
 
 use crate::requests::is_request;
 use bio_core::{Bio, Io};
@@ -46,7 +46,7 @@ fn size_of_first(ios: &[Io], bio: &Bio) -> u32 {
 /// The number of blocks of the group, or `None` where it is no group that the adapter may carry.
 pub fn group_blocks(adapter: &Adapter, pool: &PagePool, ios: &[Io], req: &[Bio]) -> Option<u32>
     ensures count { IfSome result (λ n. n ≡ size req.now) }
-    ensures group { IfSome result (λ n. (bytes : ℕ) × IsGroup adapter.now pool.now bytes ios.now req.now) }
+    ensures group { IfSome result (λ n. (bytes : ℕ) × IsCarriedGroup adapter.now pool.now bytes ios.now req.now) }
 {
     if req.is_empty() {
         return None;

@@ -4,7 +4,7 @@ ghost use Rattle.std.specs.Prelude.{◌≡◌, true};
 ghost use Rattle.page_pool.specs.Pages.{AllLieIn};
 ghost use Rattle.integrity_payload.specs.Payloads.{IsPayload};
 ghost use Rattle.bio_core.specs.declared.request.Dir.TheVariants.{Read};
-ghost use Rattle.dix_adapter.specs.Groups.{IsRequest};
+ghost use Rattle.dix_adapter.specs.Groups.{IsCarriedRequest};
 ghost use Rattle.dix_adapter.specs.Walking.{HasHost, IsOnce, TuplesOnce, Walkable, WalksTuples};
 
 use bio_core::{Dir, Io};
@@ -68,7 +68,7 @@ fn is_written_or_once(io: &Io) -> bool
 
 /// Whether the request may stand in a group of blocks of this size.
 pub(crate) fn is_request(adapter: &Adapter, pool: &PagePool, bytes: u32, io: &Io) -> bool
-    ensures { result ≡ true → IsRequest adapter.now pool.now bytes io.now }
+    ensures { result ≡ true → IsCarriedRequest adapter.now pool.now bytes io.now }
 {
     walks(pool, io)
         && io.block_size() == bytes

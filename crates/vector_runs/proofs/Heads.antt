@@ -10,7 +10,7 @@ use Rattle.source_text.proofs.Taking.{whole_text}
 use Rattle.dix_base.specs.Told.{Calm}
 use Rattle.dix_base.proofs.Counts.{never_rose}
 use Rattle.image_commands.specs.Causes.{HasOpened}
-use Rattle.image_commands.specs.Views.{WasOpened}
+use Rattle.image_commands.specs.Views.{ImageWasOpened}
 use Rattle.image_commands.proofs.Opened.{right_head}
 use Rattle.rig_api.specs.Head.{head_fault, head_of, units_of}
 use Rattle.rig_api.specs.declared.rig.RigFault.{RigFault}
@@ -47,7 +47,7 @@ untaken_right : (r : Refusal) (f : Facts) (text : List ℕ) → f.left ≡ Some 
 untaken_right r f text l t k c = untaken_for_memory r f text l t (short_right text t) k c
 
 -- an image that was opened has no fault in its head
-no_fault : (name image : List ℕ) (old new : RigState) (x : RigFault) → old.image ≡ Some image → new.image ≡ old.image → head_fault (head_of image) ≡ Some x → WasOpened name None old new → ⊥
+no_fault : (name image : List ℕ) (old new : RigState) (x : RigFault) → old.image ≡ Some image → new.image ≡ old.image → head_fault (head_of image) ≡ Some x → ImageWasOpened name None old new → ⊥
 no_fault name image old new x i same h w =
     let e = headed new.standing.head image new.image (same ∙ i) w.head in
     let k : ◌≡◌ {A = Option RigFault} None (Some x) = sym w.judged ∙ ap head_fault e ∙ h in

@@ -5,7 +5,7 @@ use Rattle.rig_api.specs.Head.{units_of}
 use Rattle.rig_api.specs.Telling.{units_told}
 use Rattle.rig_api.specs.State.{RigState}
 use Rattle.image_commands.specs.Causes.{CauseUnopened}
-use Rattle.image_commands.specs.Views.{HasKept, OpenedOnce, WasOpened}
+use Rattle.image_commands.specs.Views.{HasKept, OpenedOnce, ImageWasOpened}
 use Rattle.call_refusal.specs.declared.refusal.Refusal.{Refusal}
 use Rattle.call_refusal.specs.declared.refusal.Refusal.TheVariants as refusal
 use Rattle.vector_lines.specs.declared.line.VectorLine.{VectorLine}
@@ -17,10 +17,10 @@ unopened refusal.Memory name lines a b c k o = inl (k, o)
 unopened _ name lines a b c k o = (c, k)
 
 -- the image was opened, and then no fault was armed
-pub ready_by : (name : List ℕ) (a b c : RigState) (lines : List FaultLine) → WasOpened name None a b → b.standing.devices ≡ length (units_of b.standing.head) → HasKept a b → c ≡ record b { armed = lines } → lines ≡ [] → c.units ≡ units_told c.standing c.image →
+pub ready_by : (name : List ℕ) (a b c : RigState) (lines : List FaultLine) → ImageWasOpened name None a b → b.standing.devices ≡ length (units_of b.standing.head) → HasKept a b → c ≡ record b { armed = lines } → lines ≡ [] → c.units ≡ units_told c.standing c.image →
     IsReady name a c
 ready_by name a b c lines w d k e none laid = record {
-  opened = subst (λ (s : RigState). WasOpened name None a s) (sym e) (record { opened = w.opened; judged = w.judged; head = w.head });
+  opened = subst (λ (s : RigState). ImageWasOpened name None a s) (sym e) (record { opened = w.opened; judged = w.judged; head = w.head });
   counted = subst (λ (s : RigState). s.standing.devices ≡ length (units_of s.standing.head)) (sym e) d;
   laid = laid;
   image = ap (λ (s : RigState). s.image) e ∙ k.image;

@@ -12,9 +12,9 @@ use Rattle.rig_api.specs.declared.rig.Outcome.{Outcome}
 use Rattle.rig_api.specs.Telling.{IsAnswer, Standing, answer_of, at_front}
 use Rattle.rig_api.specs.State.{Exchanged, RigState}
 use Rattle.vector_lines.specs.declared.line.VectorLine.{VectorLine}
-use Rattle.vector_runs.specs.Done.{AreRecords, HaveDone, HaveDoneSome, IsRecord, Stays, WasDone, answer_to, answers_over, entry_to, room_of, size_of, units_over, units_to}
+use Rattle.vector_runs.specs.Done.{AreRecords, HaveDone, HaveDoneSome, IsLineRecord, VectorsStay, LineWasDone, answer_to, answers_over, entry_to, room_of, size_of, units_over, units_to}
 
-records_more : (s : Standing) (ls : List VectorLine) (es : List LogEntry) (l : VectorLine) (e : LogEntry) → AreRecords s ls es → IsRecord s l e → AreRecords s (ls ++ (l ∷ [])) (es ++ (e ∷ []))
+records_more : (s : Standing) (ls : List VectorLine) (es : List LogEntry) (l : VectorLine) (e : LogEntry) → AreRecords s ls es → IsLineRecord s l e → AreRecords s (ls ++ (l ∷ [])) (es ++ (e ∷ []))
 records_more s [] [] l e d w = (w, tt)
 records_more s [] (x ∷ es) l e d w = absurd d
 records_more s (x ∷ ls) [] l e d w = absurd d
@@ -42,11 +42,11 @@ none_done v = record {
 }
 
 -- one more command was done
-done_more : (ls : List VectorLine) (l : VectorLine) (a b c : RigState) → HaveDone ls a b → WasDone l b c → HaveDone (ls ++ (l ∷ [])) a c
+done_more : (ls : List VectorLine) (l : VectorLine) (a b c : RigState) → HaveDone ls a b → LineWasDone l b c → HaveDone (ls ++ (l ∷ [])) a c
 done_more ls l a b c x y = record {
   entries = x.entries ++ (y.entry ∷ []);
   log = y.log ∙ ap (λ (v : List LogEntry). v ++ (y.entry ∷ [])) x.log ∙ append_assoc a.log x.entries (y.entry ∷ []);
-  records = records_more a.standing ls x.entries l y.entry x.records (subst (λ (s : Standing). IsRecord s l y.entry) x.standing y.is);
+  records = records_more a.standing ls x.entries l y.entry x.records (subst (λ (s : Standing). IsLineRecord s l y.entry) x.standing y.is);
   told = λ us e q.
       let first = x.told us e (calm_first a.faults b.faults c.faults y.count q) in
       let then = y.told (units_over a.standing us ls) first.1 (calm_then a.faults b.faults c.faults x.count q) in
@@ -62,13 +62,13 @@ done_more ls l a b c x y = record {
 }
 
 -- one more of a list of lines
-pub done_next : (lines : List VectorLine) (i : ℕ) (l : VectorLine) (a b c : RigState) → l ≡ get_or lines i l → i < length lines → HaveDone (take i lines) a b → WasDone l b c → HaveDone (take (i + 1) lines) a c
+pub done_next : (lines : List VectorLine) (i : ℕ) (l : VectorLine) (a b c : RigState) → l ≡ get_or lines i l → i < length lines → HaveDone (take i lines) a b → LineWasDone l b c → HaveDone (take (i + 1) lines) a c
 done_next lines i l a b c is h x y =
     subst (λ (v : List VectorLine). HaveDone v a c) (sym (take_more lines i l h))
-    (done_more (take i lines) (get_or lines i l) a b c x (subst (λ (v : VectorLine). WasDone v b c) is y))
+    (done_more (take i lines) (get_or lines i l) a b c x (subst (λ (v : VectorLine). LineWasDone v b c) is y))
 
 -- what was done is still what was done
-still : (ls : List VectorLine) (a b c : RigState) → HaveDone ls a b → Stays b c → HaveDone ls a c
+still : (ls : List VectorLine) (a b c : RigState) → HaveDone ls a b → VectorsStay b c → HaveDone ls a c
 still ls a b c x y = record {
   entries = x.entries;
   log = y.log ∙ x.log;
@@ -81,7 +81,7 @@ still ls a b c x y = record {
 }
 
 -- where memory lacked at a line
-pub lacked_at : (lines : List VectorLine) (i : ℕ) (a b c : RigState) → HaveDone (take i lines) a b → Stays b c → HaveDoneSome lines a c
+pub lacked_at : (lines : List VectorLine) (i : ℕ) (a b c : RigState) → HaveDone (take i lines) a b → VectorsStay b c → HaveDoneSome lines a c
 lacked_at lines i a b c x y = record { first = take i lines; left = drop i lines; lines_are = sym (take-append-drop i lines); done = still (take i lines) a b c x y }
 
 -- all were done
@@ -93,7 +93,7 @@ calm_same a b c e q = subst (λ n. Calm n c) (sym e) q
 
 -- an exchange of the line's command, behind room for it, of its bytes and with room for what it reads, does the command
 pub was_done : (l : VectorLine) (a b c : RigState) (spare : Room) (o : Outcome) (cdb out before after : List ℕ) → b ≡ record a { room = spare } → a.armed ≡ [] → cdb ≡ l.cdb → out ≡ l.out → before ≡ replicate (room_of (size_of a.standing l) l.cdb) 0 → length after ≡ length before
-    → Exchanged b c l.dev cdb [] out before after o → WasDone l a c
+    → Exchanged b c l.dev cdb [] out before after o → LineWasDone l a c
 was_done l a b c spare o cdb out before after same calm ec eo eb long x =
     let size = size_of a.standing l in
     let room = room_of size l.cdb in

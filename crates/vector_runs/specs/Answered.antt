@@ -3,7 +3,7 @@ use Rattle.rig_api.specs.Head.{units_of}
 use Rattle.rig_api.specs.Telling.{units_told}
 use Rattle.rig_api.specs.State.{RigState}
 use Rattle.image_commands.specs.Causes.{CauseUnopened}
-use Rattle.image_commands.specs.Views.{HasKept, OpenedOnce, WasOpened}
+use Rattle.image_commands.specs.Views.{HasKept, OpenedOnce, ImageWasOpened}
 use Rattle.call_refusal.specs.declared.refusal.Refusal.{Refusal}
 use Rattle.call_refusal.specs.declared.refusal.Refusal.TheVariants as refusal
 use Rattle.vector_lines.specs.declared.line.VectorLine.{VectorLine}
@@ -14,7 +14,7 @@ use Rattle.vector_runs.specs.Ranges.{out_of_range}
 
 -- The image of this name was opened, its head is right, and its units are the devices. Its bytes and the records are as before, and no fault is armed.
 pub record IsReady (name : List ℕ) (old new : RigState) : Type 0 where
-  pub opened : WasOpened name None old new
+  pub opened : ImageWasOpened name None old new
   pub counted : new.standing.devices ≡ length (units_of new.standing.head)
   pub laid : new.units ≡ units_told new.standing new.image
   pub image : new.image ≡ old.image

@@ -16,7 +16,7 @@ abbrev pub size_of : Standing → VectorLine → ℕ
 size_of s l = (spec_at s l.dev).size
 
 -- The record is that of the line's command on the line's device, with this outcome and these bytes in the room for what it reads.
-pub record IsRecord (s : Standing) (l : VectorLine) (e : LogEntry) : Type 0 where
+pub record IsLineRecord (s : Standing) (l : VectorLine) (e : LogEntry) : Type 0 where
   pub outcome : Outcome
   pub into : List ℕ
   pub room : length into ≡ room_of (size_of s l) l.cdb
@@ -27,7 +27,7 @@ abbrev pub AreRecords : Standing → List VectorLine → List LogEntry → Type 
 AreRecords s [] [] = Unit {0}
 AreRecords s [] (e ∷ es) = ⊥
 AreRecords s (l ∷ ls) [] = ⊥
-AreRecords s (l ∷ ls) (e ∷ es) = IsRecord s l e × AreRecords s ls es
+AreRecords s (l ∷ ls) (e ∷ es) = IsLineRecord s l e × AreRecords s ls es
 
 -- ---- what they come to over units that are told, where no store call fails
 
@@ -76,10 +76,10 @@ pub record HaveDoneSome (lines : List VectorLine) (old new : RigState) : Type 0 
   pub done : HaveDone first old new
 
 -- The command of a line was done, or, where there was no memory, not.
-pub record WasDone (l : VectorLine) (old new : RigState) : Type 0 where
+pub record LineWasDone (l : VectorLine) (old new : RigState) : Type 0 where
   pub entry : LogEntry
   pub log : new.log ≡ old.log ++ (entry ∷ [])
-  pub is : IsRecord old.standing l entry
+  pub is : IsLineRecord old.standing l entry
   pub told : (us : List Stored) → old.units ≡ Some us → Calm old.faults new.faults
       → (entry ≡ entry_to old.standing us l) × (new.units ≡ Some (units_to old.standing us l))
   pub tells : is_some new.image ≡ is_some old.image
@@ -87,7 +87,7 @@ pub record WasDone (l : VectorLine) (old new : RigState) : Type 0 where
   pub standing : new.standing ≡ old.standing
   pub count : old.faults ≤ new.faults
 
-pub record Stays (old new : RigState) : Type 0 where
+pub record VectorsStay (old new : RigState) : Type 0 where
   pub log : new.log ≡ old.log
   pub units : new.units ≡ old.units
   pub image : new.image ≡ old.image

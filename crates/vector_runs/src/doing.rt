@@ -3,7 +3,7 @@
 ghost use Rattle.std.specs.Prelude.{◌≡◌, ◌*◌, ◌≤◌, [], true, IfOk, MatchResult, None, replicate};
 ghost use Rattle.target_answer.specs.Frames.{sent_size};
 ghost use Rattle.target_answer.specs.Requests.{blocks_of, transferred};
-ghost use Rattle.vector_runs.specs.Done.{HaveDone, HaveDoneSome, Stays, WasDone, room_by, room_of};
+ghost use Rattle.vector_runs.specs.Done.{HaveDone, HaveDoneSome, VectorsStay, LineWasDone, room_by, room_of};
 ghost use Rattle.vector_runs.specs.Ranges.{is_inside, out_of_range};
 
 use cdb_codec::Cdb;
@@ -56,7 +56,7 @@ fn do_line<R: Rig>(alloc: Global, line: &VectorLine, rig: &mut R) -> Result<(), 
     requires calm { (R.state rig.old).armed ≡ [] }
     ensures { let old = R.state rig.old in
         let new = R.state rig.new in
-        MatchResult result (λ _. WasDone line.now old new) (λ _. Stays old new) }
+        MatchResult result (λ _. LineWasDone line.now old new) (λ _. VectorsStay old new) }
 {
     let cdb = line.cdb.as_slice();
     let sent = line.out.as_slice();

@@ -98,12 +98,12 @@ abbrev pub is_of_other_size : ℕ → List DeviceInfo → Extent → Bool
 is_of_other_size size devices x = not (eqb (device devices x.dev).size size)
 
 -- a kind of fault, with whether the entry has it
-pub record Asked : Type 0 where
+pub record AskedKind : Type 0 where
   pub kind : VolumeKind
   pub found : Bool
 
 -- the kinds in their order
-abbrev pub asked_of : PiType → List Entry → Entry → List DeviceInfo → ℕ → List Asked
+abbrev pub asked_of : PiType → List Entry → Entry → List DeviceInfo → ℕ → List AskedKind
 asked_of ty before e devices size =
     record { kind = Gap; found = is_gap before e }
     ∷ record { kind = UnknownDevice; found = list_any (is_unknown devices) (extents e) }
@@ -115,7 +115,7 @@ asked_of ty before e devices size =
     ∷ record { kind = OtherSize; found = list_any (is_of_other_size size devices) (extents e) }
     ∷ []
 
-abbrev pub first_of : List Asked → Option VolumeKind
+abbrev pub first_of : List AskedKind → Option VolumeKind
 first_of [] = None
 first_of (a ∷ rest) = if a.found then Some a.kind else first_of rest
 

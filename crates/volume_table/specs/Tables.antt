@@ -33,7 +33,7 @@ pub record IsOn (devices : List DeviceInfo) (ty : PiType) (size dev at n : ℕ) 
   pub size_is : (device devices dev).size ≡ size
 
 -- k blocks after v, the run from v goes on: the block is the volume's, on the same device, k addresses further.
-pub record GoesOn (entries : List Entry) (v k : ℕ) : Type 0 where
+pub record RunGoesOn (entries : List Entry) (v k : ℕ) : Type 0 where
   pub within : v + k < volume_len entries
   pub place : place_in entries (v + k) ≡ ((place_in entries v).0, (place_in entries v).1 + k)
 
@@ -56,7 +56,7 @@ pub record MadeFor (t : Table) (devices : List DeviceInfo) (size : ℕ) : Type 0
   pub extents_inside : (e : Entry) → Contains t.entries e → All (λ x. IsOn devices t.ty size x.dev x.at x.len) (extents e)
   -- A run has a block, and its blocks lie on one device at consecutive addresses.
   pub some : (v : ℕ) → v < volume_len t.entries → 1 ≤ run_in t.entries v
-  pub runs : (v k : ℕ) → v < volume_len t.entries → k < run_in t.entries v → GoesOn t.entries v k
+  pub runs : (v k : ℕ) → v < volume_len t.entries → k < run_in t.entries v → RunGoesOn t.entries v k
 
 -- A table was made for some devices.
 pub record IsTable (t : Table) : Type 0 where

@@ -6,7 +6,7 @@ ghost use Rattle.volume_table.specs.declared.fault.VolumeFault.{VolumeFault};
 ghost use Rattle.volume_table.specs.Entries.{IsInRange};
 ghost use Rattle.volume_table.specs.Faults.{table_fault, volume_type};
 ghost use Rattle.volume_table.specs.Places.{holder, place_in, run_in, volume_len};
-ghost use Rattle.volume_table.specs.Tables.{EndFits, GoesOn, IsOn, IsTable, MadeFor};
+ghost use Rattle.volume_table.specs.Tables.{EndFits, RunGoesOn, IsOn, IsTable, MadeFor};
 
 use crate::device::DeviceInfo;
 use crate::entry::Entry;
@@ -87,7 +87,7 @@ impl VolumeTable {
         requires { v < volume_len self.now.entries }
         ensures value { result ≡ run_in self.now.entries v }
         ensures some { 1 ≤ result }
-        ensures runs { (k : ℕ) → k < result → GoesOn self.now.entries v k }
+        ensures runs { (k : ℕ) → k < result → RunGoesOn self.now.entries v k }
     {
         self.entry_of(v).run_from(v)
     }

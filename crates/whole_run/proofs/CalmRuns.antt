@@ -14,7 +14,7 @@ use Rattle.volume_table.specs.Places.{volume_len}
 use Rattle.block_path.specs.Acts.{State, act}
 use Rattle.block_path.specs.Serial.{plain, plain_tells}
 use Rattle.block_path.proofs.Cells.{below}
-use Rattle.whole_run.specs.CalmRun.{AllFit, Fits, IsCalm, IsCalmRun, LiesIn}
+use Rattle.whole_run.specs.CalmRun.{AllFit, Fits, IsCalm, IsCalmRun, LiesInImage}
 use Rattle.whole_run.specs.PlainMap.{Plain, all_pass, plain_answer, plain_from, plain_map, plain_replies, plain_replies_from, plain_step}
 use Rattle.whole_run.specs.ScriptWalk.{acts_of, replies_from, reply_of, script_replies, script_walk, walk_from}
 use Rattle.whole_run.specs.Settings.{Setting, block_of}
@@ -76,7 +76,7 @@ pub record Says (m : Setting) (ops : List Op) (opening : State) : Type 0 where
   pub under : IsUnder m (plain_map m ops (opened m opening)) opening.blocks (script_walk m ops opening)
 
 module _ (m' : Setting) (image : List (List ℕ)) (protect : 0 < m'.mode.protect) (free : all_pass m' ≡ false → m'.mode.mask ≡ 0)
-    (lies : LiesIn (quiet m' m'.mode.dix m'.mode.dif m'.ty) (volume_len m'.entries) image) where
+    (lies : LiesInImage (quiet m' m'.mode.dix m'.mode.dif m'.ty) (volume_len m'.entries) image) where
   abbrev m : Setting
   m = quiet m' m'.mode.dix m'.mode.dif m'.ty
 

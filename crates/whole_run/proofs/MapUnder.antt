@@ -11,7 +11,7 @@ use Rattle.pi_tuple.specs.declared.checks.PiType.TheVariants.{Zero, One, Two, Th
 use Rattle.pi_tuple.specs.declared.checks.Check.{Check}
 use Rattle.target_answer.specs.Frames.{data_of, frame_of, stored_size, tuple_of}
 use Rattle.block_path.proofs.Cells.{AllBelow, below}
-use Rattle.whole_run.specs.CalmRun.{LiesIn}
+use Rattle.whole_run.specs.CalmRun.{LiesInImage}
 use Rattle.whole_run.specs.PlainMap.{MapEntry, all_pass, kept_unless, no_entry}
 use Rattle.whole_run.specs.Settings.{Setting}
 use Rattle.whole_run.specs.UnderMap.{IsClean, address_of, held, home, map_from, stored_as, under}
@@ -44,7 +44,7 @@ pub under_length : (m : Setting) (image : List (List ℕ)) (v : ℕ) (map : List
 under_length m image v [] = refl
 under_length m image v (e ∷ map) = length-set (under m (suc v) map image) (home m v) (stored_as m (address_of m v) e) ∙ under_length m image (suc v) map
 
-module _ (m : Setting) (n : ℕ) (image : List (List ℕ)) (lies : LiesIn m n image) where
+module _ (m : Setting) (n : ℕ) (image : List (List ℕ)) (lies : LiesInImage m n image) where
   differ : (u v : ℕ) → u < v → v < n → home m u ≢ home m v
   differ u v l k e = let same = lies.apart u v (omega (arith, l, k)) k e in omega (arith, l, same)
 
@@ -135,7 +135,7 @@ proper_held Three m lba frame l h own free = record {
   expected = (own refl).app;
 }
 
-module _ (m : Setting) (n : ℕ) (image : List (List ℕ)) (lies : LiesIn m n image) (clean : (v : ℕ) → v < n → is_zero m.ty ≡ false → IsClean m (address_of m v) (get_or image (home m v) []))
+module _ (m : Setting) (n : ℕ) (image : List (List ℕ)) (lies : LiesInImage m n image) (clean : (v : ℕ) → v < n → is_zero m.ty ≡ false → IsClean m (address_of m v) (get_or image (home m v) []))
     (free : all_pass m ≡ false → m.mode.mask ≡ 0) where
   pub under_opened : (v k : ℕ) → v + k ≡ n → under m v (map_from m v k image) image ≡ image
   under_opened v zero s = refl

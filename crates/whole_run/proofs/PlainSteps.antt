@@ -25,7 +25,7 @@ use Rattle.block_path.specs.Serial.{plain, plain_tells}
 use Rattle.block_path.specs.WayIn.{way_in}
 use Rattle.block_path.specs.WayOut.{way_out}
 use Rattle.block_path.proofs.Cells.{AllBelow, gather_length}
-use Rattle.whole_run.specs.CalmRun.{LiesIn}
+use Rattle.whole_run.specs.CalmRun.{LiesInImage}
 use Rattle.whole_run.specs.PlainMap.{MapEntry, Plain, all_pass, as_expected, entry_of, finds_of_app, finds_plainly, handed, kept_unless, listed_by, no_entry, plain_answer, plain_step}
 use Rattle.whole_run.specs.ScriptWalk.{act_of, bad_from, reply_of, shown_reply, whole_or_bad}
 use Rattle.whole_run.specs.Settings.{Block, Setting, route}
@@ -200,7 +200,7 @@ module _ (m' : Setting) (n : ℕ) (image : List (List ℕ)) (protect : 0 < m'.mo
     pub same : Same tells said
     pub stands : Stands m n after
 
-  module _ (lies : LiesIn m n image) where
+  module _ (lies : LiesInImage m n image) where
     write_step : (b : Block) (app : ℕ) (body : List ℕ) (s : Plain) (logs : List (List (List ℕ))) (fates : List (Option Why)) →
         let step = Writes b app body in
         let c = cells_of s logs fates in

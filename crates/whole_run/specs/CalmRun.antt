@@ -23,14 +23,14 @@ pub record IsCalm (m : Setting) : Type 0 where
   pub mask : all_pass m ≡ false → m.mode.mask ≡ 0
 
 -- The volume lies in the image: each block has a stored block of its own, of the size that its type has, and made of bytes.
-pub record LiesIn (m : Setting) (n : ℕ) (image : List (List ℕ)) : Type 0 where
+pub record LiesInImage (m : Setting) (n : ℕ) (image : List (List ℕ)) : Type 0 where
   pub within : (v : ℕ) → v < n → home m v < length image
   pub apart : (u v : ℕ) → u < n → v < n → home m u ≡ home m v → u ≡ v
   pub size : (v : ℕ) → v < n → length (get_or image (home m v) []) ≡ stored_size m.ty m.size
   pub bytes : (v : ℕ) → v < n → All (λ x. x < 256) (get_or image (home m v) [])
 
 -- n blocks of the volume from v on, with so many bytes of data
-pub record AreBlocks (m : Setting) (v n : ℕ) (bytes : ℕ) : Type 0 where
+pub record AreVolumeBlocks (m : Setting) (v n : ℕ) (bytes : ℕ) : Type 0 where
   pub within : v + n ≤ volume_len m.entries
   pub bytes_are : bytes ≡ n * m.size
 
@@ -40,9 +40,9 @@ Fits m (Fill seg byte) = byte < 256
 Fits m (Put page off bytes) = All (λ x. x < 256) bytes
 Fits m (Show seg) = Unit {0}
 Fits m (Seal n body tuples app rtag) = Unit {0}
-Fits m (Write v n body app) = AreBlocks m v n (total body) × (app < 2 ^ 16)
+Fits m (Write v n body app) = AreVolumeBlocks m v n (total body) × (app < 2 ^ 16)
 Fits m (Fetch v n body) = v + n ≤ volume_len m.entries
-Fits m (WritePi v n body tuples) = AreBlocks m v n (total body) × ((total tuples ≡ n * TUPLE) × (m.mode.dix ≡ true))
+Fits m (WritePi v n body tuples) = AreVolumeBlocks m v n (total body) × ((total tuples ≡ n * TUPLE) × (m.mode.dix ≡ true))
 Fits m (FetchPi v n body tuples) = v + n ≤ volume_len m.entries
 Fits m (Overwrite dev lba change) = ⊥
 Fits m Wait = Unit {0}
@@ -55,7 +55,7 @@ AllFit m (op ∷ ops) = Fits m op × AllFit m ops
 pub record IsCalmRun (m : Setting) (ops : List Op) (opening : State) : Type 0 where
   pub calm : IsCalm m
   pub pages : All (λ x. x < 256) opening.bytes
-  pub lies : LiesIn m (volume_len m.entries) opening.blocks
+  pub lies : LiesInImage m (volume_len m.entries) opening.blocks
   pub clean : AreClean m opening.blocks
   pub fit : AllFit m ops
   pub no_escape : NoEscape m 1 ops opening

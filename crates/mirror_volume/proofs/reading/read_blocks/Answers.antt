@@ -8,7 +8,7 @@ use Rattle.leg_runs.proofs.Readings.{asked-same, first-long, on-other, read-by}
 use Rattle.leg_runs.proofs.Fetched.{rest-long}
 use Rattle.mirror_volume.proofs.Running.{none-run, run-both, run-so}
 use Rattle.mirror_volume.specs.declared.legs.Plan.{Plan}
-use Rattle.mirror_volume.specs.Running.{HasRun}
+use Rattle.mirror_volume.specs.Running.{HasRunOnLegs}
 use Rattle.leg_runs.specs.LegRuns.{LegRun}
 use Rattle.rig_api.specs.State.{RigState}
 use Rattle.mirror_volume.proofs.reading.read_blocks.Goals as goal
@@ -22,8 +22,8 @@ none-found P found n h never = h is-none
     is-none (Some why) k = absurd (never why k)
 
 -- what is run on leg 1 is a read of the same blocks
-abbrev of-other : {used used' : ℕ} {before after : RigState} {Came : List LegRun → Type 0} (p : Plan) (on0 : Piece) → HasRun p used used' before after (IsReadOf p.script p.half (record on0 { on1 = true })) Came
-    → HasRun p used used' before after (IsReadOf p.script p.half on0) Came
+abbrev of-other : {used used' : ℕ} {before after : RigState} {Came : List LegRun → Type 0} (p : Plan) (on0 : Piece) → HasRunOnLegs p used used' before after (IsReadOf p.script p.half (record on0 { on1 = true })) Came
+    → HasRunOnLegs p used used' before after (IsReadOf p.script p.half on0) Came
 of-other p on0 h = record { runs = h.runs; ran = h.ran; goes_on = h.goes_on; own = on-other p.script p.half on0 h.runs h.own; came = h.came; tells = h.tells }
 
 pub returns-in_err-vec-clause-ran : goal.returns-in_err-vec-clause-ran

@@ -2,7 +2,7 @@ use Rattle.std.proofs.Common.{◌≡◌, length, ap, sym, ◌∙◌, refl, rules
 use Rattle.std.specs.Prelude.{replicate}
 use Rattle.std.proofs.lemmas.Option.{none-some, same_Some}
 use Rattle.std.proofs.lemmas.Result.{IfOk-weaker}
-use Rattle.nvme_front.specs.Answers.{HasDevices}
+use Rattle.nvme_front.specs.Answers.{HasNamespaces}
 use Rattle.nvme_front.specs.Commands.{command_in}
 use Rattle.nvme_front.specs.Refusals.{device_at, meta_len}
 use Rattle.nvme_front.specs.Results.{IsAnswered}
@@ -43,5 +43,5 @@ returns-clause-medium g c = IfOk-weaker c.do_granted.result _ _ (λ r said. said
 
 pub returns-clause-devices : goal.returns-clause-devices
 returns-clause-devices g c =
-    subst (λ ds. HasDevices ds (g.R.Rig.state c.do_granted.new.rig).standing (g.R.Rig.state c.do_granted.new.rig).units) (sym c.do_granted.ensures.front)
+    subst (λ ds. HasNamespaces ds (g.R.Rig.state c.do_granted.new.rig).standing (g.R.Rig.state c.do_granted.new.rig).units) (sym c.do_granted.ensures.front)
     (devices-kept c.args.front.now _ _ _ _ _ _ c.requires.devices (g.met.R.Rig.laid c.args.rig.now) (g.met.R.Rig.laid c.do_granted.new.rig) c.do_granted.ensures.stays.standing c.do_granted.ensures.stays.tells)

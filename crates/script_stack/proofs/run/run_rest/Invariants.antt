@@ -3,13 +3,13 @@ use Rattle.stack_view.specs.Runs.{ScheduleEntry, most_steps}
 use Rattle.rig_api.specs.State.{Stays as RigStays}
 use Rattle.stack_core.specs.Going.{StandsOver, Went}
 use Rattle.script_stack.specs.Sends.{SendsBy}
-use Rattle.stack_core.specs.Stacks.{GoesOn, HasStep, Stays, plan_in}
+use Rattle.stack_core.specs.Stacks.{GoesOn, HasStep, StackStays, plan_in}
 use Rattle.script_stack.proofs.run.run_rest.Given as goal
 
 abbrev pub invariant-loop-stack : goal.invariant-loop-stack
 invariant-loop-stack g l = record {
   stands : StandsOver l.stack (g.R.Rig.state l.rig);
-  stays : Stays l.fn.stack l.stack;
+  stays : StackStays l.fn.stack l.stack;
   rig : RigStays (g.R.Rig.state l.fn.rig) (g.R.Rig.state l.rig);
   went : Went l.fn.stack (g.R.Rig.state l.fn.rig) l.stack (g.R.Rig.state l.rig);
   goes : GoesOn (g.R.Rig.state l.fn.rig) (g.R.Rig.state l.rig);

@@ -7,7 +7,7 @@ use Rattle.page_pool.specs.Cells.{flat}
 use Rattle.dix_adapter.specs.Carried.{any_bad, sends}
 use Rattle.dix_adapter.specs.Groups.{blocks_in, first_of, size}
 use Rattle.answered_record.specs.Answered.{Answers}
-use Rattle.stack_core.specs.Stacks.{Stays, plan_in}
+use Rattle.stack_core.specs.Stacks.{StackStays, plan_in}
 use Rattle.stack_core.proofs.Answering.{fetched_puts, sent_puts}
 use Rattle.stack_core.proofs.Goes.{either-way, goes-as-before}
 use Rattle.stack_core.proofs.Keeps.{is-stack}
@@ -119,7 +119,7 @@ returns-clause-went g c = λ ch.
     let old : RigState = g.R.Rig.state a in
     let new : RigState = g.R.Rig.state c.carry.new.rig in
     let after : Stack = record s { machine = c.fly.new.self; pool = c.carry.new.pool; scratch = c.carry.new.scratch; group = c.take.new.group; fates = c.carry.new.fates } in
-    let stays : Stays s after = record { sheet = refl; adapter = refl; host = refl } in
+    let stays : StackStays s after = record { sheet = refl; adapter = refl; host = refl } in
     let settles = settles-of c.take.new.group.items c.carry.new.fates.items (c.carry.ensures.settled.count ∙ ap size c.deref.ensures.value) c.carry.ensures.settled.settles in
     let flies = rw (c.deref-2.ensures.value, c.deref-3.ensures.value) at c.fly.ensures in
     let unsent = rw (c.ios.ensures, c.deref.ensures.value) at c.carry.ensures.unsent in
