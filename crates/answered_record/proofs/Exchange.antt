@@ -11,21 +11,7 @@ use Rattle.pi_tuple.specs.Finds.{is_zero}
 use Rattle.pi_tuple.specs.declared.checks.PiType.{PiType}
 use Rattle.pi_tuple.specs.declared.checks.PiType.TheVariants.{Zero, One, Two, Three}
 use Rattle.pi_tuple.specs.declared.checks.Check.{Check}
-use Rattle.sense_codes.specs.declared.Sense.{Sense}
-use Rattle.fault_schedule.specs.declared.Label.{Label}
-use Rattle.fault_schedule.specs.declared.fault.FaultLine.{FaultLine}
-use Rattle.fault_schedule.specs.declared.fault.Crossing.TheVariants.{MediumToTarget, TargetToAdapter}
-use Rattle.cdb_codec.specs.Decoded.{decoded}
-use Rattle.cdb_codec.specs.declared.command.Cdb.{Cdb}
-use Rattle.cdb_codec.specs.declared.command.CdbFault.{CdbFault}
-use Rattle.cdb_codec.specs.declared.command.Rw.{Rw}
-use Rattle.target_answer.specs.Frames.{data_of, joined, sent_size, stored_size}
-use Rattle.target_answer.specs.Passing.{crossed, found_in, from_medium, released, unless}
-use Rattle.target_answer.specs.Requests.{request_of}
-use Rattle.target_answer.specs.declared.passage.Passage.{Passage}
-use Rattle.target_answer.specs.declared.request.Request.{Request}
-use Rattle.target_answer.specs.declared.request.Request.TheVariants.{Read, ReadCapacity, Verify, Write}
-use Rattle.target_answer.specs.Target.{Answer, Refusal, Stored, answer_unless, capacity_data, carried_out, each, first_of, foreign_form, illegal, medium_address, no_tuples, outside, fetched_outside, passage, passed, read_by, refusal, refusals_of, refused, shape_of, stored_from, target_answer, wire_address, wrong_room, bytes_of}
+use Rattle.rig_api.specs.Passed.{data_of, joined, sent_size, stored_size, crossed, found_in, from_medium, released, unless, request_of, Passage, Request, Read, ReadCapacity, Verify, Write, Answer, Refusal, Stored, answer_unless, capacity_data, carried_out, each, first_of, foreign_form, illegal, medium_address, no_tuples, outside, fetched_outside, passage, passed, read_by, refusal, refusals_of, refused, shape_of, stored_from, target_answer, wire_address, wrong_room, bytes_of, Sense, decoded, Cdb, CdbFault, Rw, Label, FaultLine, MediumToTarget, TargetToAdapter}
 use Rattle.rig_api.specs.Log.{LogEntry, entry_of, frames_done, moved_by, moved_of, moved_under}
 use Rattle.rig_api.specs.Telling.{answer_of, at_front, spec_at, unit_at, with_blocks}
 use Rattle.rig_api.specs.declared.rig.Outcome.{Outcome}

@@ -2,10 +2,8 @@
 use Rattle.std.proofs.Common.{◌≡◌, ℕ, List, [], Option, Some, None, refl, ap}
 use Rattle.std.specs.Prelude.{Result, Ok, Err}
 use Rattle.pi_tuple.specs.declared.checks.Check.{Check}
-use Rattle.fault_schedule.specs.declared.Label.{Label}
-use Rattle.fault_schedule.specs.declared.fault.Crossing.{Crossing}
-use Rattle.fault_schedule.proofs.Unaltered.{altered_none}
-use Rattle.target_answer.specs.Passing.{crossed, then_crossed}
+use Rattle.rig_api.proofs.Passed.{altered_none}
+use Rattle.rig_api.specs.Passed.{crossed, then_crossed, Label, Crossing}
 
 pub crosses : (label : Option Label) (at : Crossing) (frame : List ℕ) → crossed [] label at frame ≡ frame
 crosses None at frame = refl

@@ -1,15 +1,7 @@
 use Rattle.std.specs.Prelude.{ℕ, ◌≡◌, ◌*◌, min, List, [], ◌∷◌, ◌++◌, length, replicate, Some, None, Result, Ok, Err}
 use Rattle.std.specs.List.{All}
 use Rattle.dix_base.specs.Told.{Calm}
-use Rattle.fault_schedule.specs.declared.Label.{Label}
-use Rattle.cdb_codec.specs.Decoded.{decoded}
-use Rattle.cdb_codec.specs.declared.command.Cdb.{Cdb}
-use Rattle.cdb_codec.specs.declared.command.CdbFault.{CdbFault}
-use Rattle.target_answer.specs.Frames.{joined, sent_size, stored_size}
-use Rattle.target_answer.specs.Requests.{request_of}
-use Rattle.target_answer.specs.declared.request.Request.{Request}
-use Rattle.target_answer.specs.declared.request.Request.TheVariants.{Read, ReadCapacity, Verify, Write}
-use Rattle.target_answer.specs.Target.{Answer, Stored}
+use Rattle.rig_api.specs.Passed.{joined, sent_size, stored_size, request_of, Request, Read, ReadCapacity, Verify, Write, Answer, Stored, decoded, Cdb, CdbFault, Label}
 use Rattle.rig_api.specs.Log.{LogEntry, moved_of}
 use Rattle.rig_api.specs.State.{Exchanged, RigState}
 use Rattle.rig_api.specs.Telling.{Standing, answer_of, at_front, spec_at, unit_at, with_blocks}

@@ -11,12 +11,11 @@ use Rattle.target_answer.specs.Image.{all_fresh, fresh, fresh_bytes, units_from}
 use Rattle.target_answer.specs.declared.units.UnitSpec.{UnitSpec}
 use Rattle.target_answer.proofs.FreshBlocks.{fresh_many, fresh_is}
 use Rattle.dix_adapter.specs.Ways.{blocks_told, cell_in, shapes_of}
-use Rattle.pi_scrub.specs.Scrubbed.{device_of}
 use Rattle.rig_discovery.specs.Discovery.{info_of}
-use Rattle.script_ground.specs.Bound.{IsAddress}
+use Rattle.run_command.specs.Passed.{IsAddress, device_of}
 use Rattle.whole_run.proofs.TupleFrames.{Small, data_is, tuple_is}
 use Rattle.big_run.specs.Plain.{fresh_unit}
-use Rattle.script_premises.proofs.Fresh.{first_found, bytes_are}
+use Rattle.run_command.proofs.Passed.{first_found, bytes_are}
 
 -- ---- their lengths
 

@@ -25,8 +25,8 @@ use Rattle.stack_ops.specs.declared.reply.Reply.TheVariants.{Silent, Whole, Bad,
 use Rattle.stack_ops.specs.Ops.{is_overwrite}
 use Rattle.volume_table.specs.Places.{place_in, volume_len}
 use Rattle.volume_table.specs.Tables.{MadeFor, Table}
-use Rattle.script_ground.specs.Bound.{IsAddress}
-use Rattle.script_ground.proofs.Places.{place-there}
+use Rattle.run_command.specs.Passed.{IsAddress}
+use Rattle.run_command.proofs.Passed.{place-there}
 use Rattle.script_text.specs.Generator.{after_op, big_entries, drawn, next_state, op_from, ops_from, page_start}
 use Rattle.std.specs.List.{list_any}
 use Rattle.std.proofs.lemmas.Bool.{or_from}

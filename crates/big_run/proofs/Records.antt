@@ -9,13 +9,9 @@ use Rattle.rig_api.specs.State.{RigState}
 use Rattle.rig_discovery.specs.Discovery.{LookAnswer, looks}
 use Rattle.stack_ops.specs.declared.reply.Reply.{Reply}
 use Rattle.stack_ops.specs.declared.reply.Reply.TheVariants.{Silent, Whole, Bad, Shown, Medium}
-use Rattle.stack_core.specs.Mediums.{medium_lines}
-use Rattle.stack_core.specs.OnRecord.{ListsNone, bad_blocks}
-use Rattle.stack_core.proofs.NoMedium.{none_named}
 use Rattle.stack_view.specs.Runs.{sends_of}
-use Rattle.script_stack.specs.Sends.{IsPlanFor, entries_of}
-use Rattle.script_stack.proofs.Ended.{known_from}
-use Rattle.script_stack.proofs.SendsBy.{recorded_long}
+use Rattle.run_command.specs.Passed.{IsPlanFor, entries_of, medium_lines, ListsNone, bad_blocks}
+use Rattle.run_command.proofs.Passed.{known_from, recorded_long, none_named}
 use Rattle.script_text.specs.Generator.{big}
 use Rattle.script_text.specs.declared.script.Script.{Script}
 use Rattle.run_command.specs.Texts.{has_bad}

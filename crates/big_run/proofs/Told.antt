@@ -3,12 +3,11 @@ use Rattle.std.proofs.Common.{ℕ, ◌≡◌, List, [], ◌∷◌, ◌++◌, len
 use Rattle.std.proofs.lemmas.List.{drop_at, take_at}
 use Rattle.pi_tuple.specs.declared.checks.PiType.TheVariants.{One}
 use Rattle.dix_adapter.specs.Ways.{cell_in, shapes_of}
-use Rattle.pi_scrub.specs.Scrubbed.{device_of}
 use Rattle.rig_api.specs.Head.{IsHeadOf, head_of, specs_under, units_of}
 use Rattle.rig_api.specs.Telling.{Standing, specs_of, units_told}
 use Rattle.rig_api.specs.State.{RigState}
 use Rattle.rig_discovery.specs.Discovery.{info_of}
-use Rattle.script_stack.specs.Followed.{none_fails}
+use Rattle.run_command.specs.Passed.{none_fails, device_of}
 use Rattle.script_text.specs.Generator.{big, big_entries}
 use Rattle.run_command.specs.Premises.{IsPlainRun, opening_told}
 use Rattle.run_command.specs.Verdict.{HasTable, WasAsked}

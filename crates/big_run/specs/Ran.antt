@@ -6,7 +6,7 @@ use Rattle.script_text.specs.Generator.{big, ops_from}
 use Rattle.run_command.specs.Texts.{has_bad}
 use Rattle.run_command.specs.Verdict.{HasRun}
 use Rattle.run_command.specs.declared.verdict.Finished.{Finished}
-use Rattle.script_stack.specs.Sends.{IsPlanFor, entries_of}
+use Rattle.run_command.specs.Passed.{IsPlanFor, entries_of}
 use Rattle.stack_view.specs.Plan.{Plan}
 use Rattle.stack_view.specs.Runs.{blocks_of_requests, sends_of}
 use Rattle.target_answer.specs.Image.{formatted}

@@ -1,5 +1,6 @@
-pub mod Sights
-pub mod ShowText
-pub mod UnitText
 pub mod DiffText
 pub mod Laws
+pub mod Passed
+pub mod ShowText
+pub mod Sights
+pub mod UnitText

@@ -2,7 +2,7 @@
 use Rattle.std.proofs.Common.{◌≡◌, ℕ, false, ◌||◌, List, [], Option, None, sym, ap, ◌∙◌}
 use Rattle.std.proofs.lemmas.Bool.{or_from, or_parts}
 use Rattle.bio_core.specs.declared.fate.Why.{Why}
-use Rattle.page_pool.specs.Cells.{scatter, share_a_cell}
+use Rattle.range_gate.specs.Passed.{scatter, share_a_cell}
 use Rattle.range_gate.specs.Cells.{cells_clash}
 use Rattle.block_path.specs.Acts.{State, Act, seen, effect, act, tell, conflict}
 use Rattle.block_path.specs.Serial.{Commutes}

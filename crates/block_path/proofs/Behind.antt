@@ -1,7 +1,7 @@
 -- Cells behind the first n, which nobody sees who looks at these alone.
 use Rattle.std.proofs.Common.{◌≡◌, ◌≤◌, ℕ, zero, suc, List, [], ◌∷◌, take, set, refl, ap, ◌∙◌, arith}
 use Rattle.std.specs.List.{All}
-use Rattle.page_pool.specs.Cells.{scatter}
+use Rattle.range_gate.specs.Passed.{scatter}
 
 abbrev pub AllFrom : ℕ → List ℕ → Type 0
 AllFrom n [] = Unit {0}

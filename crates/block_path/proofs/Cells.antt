@@ -4,7 +4,7 @@ use Rattle.std.specs.Prelude.{nat_eq}
 use Rattle.std.specs.List.{All, AllByRecursion, IsDistinct}
 use Rattle.std.proofs.lemmas.List.{get_or-set_other, get_or-set_same, set_comm, set-set, length-set}
 use Rattle.std.proofs.lemmas.Bool.{eqb-false, eq-eqb, eqb-true, or_from, or_parts, or_right}
-use Rattle.page_pool.specs.Cells.{gather, scatter, is_in, share_a_cell}
+use Rattle.range_gate.specs.Passed.{gather, scatter, is_in, share_a_cell}
 use Rattle.range_gate.specs.Cells.{Cells, cells_clash}
 
 pub get_past : {X : Type 0} (i : ℕ) (none : X) (at : List ℕ) (values cells : List X) → is_in i at ≡ false → get_or (scatter at values cells) i none ≡ get_or cells i none

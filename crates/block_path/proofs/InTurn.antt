@@ -6,13 +6,8 @@ use Rattle.pi_guard.specs.declared.GuardKind.{GuardKind}
 use Rattle.pi_tuple.specs.Finds.{own_tag}
 use Rattle.pi_tuple.specs.Tuples.{tuple_bytes}
 use Rattle.pi_tuple.specs.declared.checks.PiType.{PiType}
-use Rattle.page_pool.specs.Cells.{cell, flat, gather, joined, scatter, share_a_cell}
-use Rattle.page_pool.specs.Pages.{AllLieIn, AreWhole, Wrote, bytes_at}
-use Rattle.page_pool.specs.Places.{Apart, NoneTwice, PageByte, places_in, range_of, total}
-use Rattle.page_pool.specs.declared.segs.Seg.{Seg}
-use Rattle.page_pool.proofs.Celled.{apart-cells, read-cells, scatter-append, wrote-cells}
-use Rattle.page_pool.proofs.Ranges.{apart-lists, apart-ranges, range-sum}
-use Rattle.page_pool.proofs.Spreads.{length-range, range_stands}
+use Rattle.range_gate.specs.Passed.{cell, flat, gather, joined, scatter, share_a_cell, AllLieIn, AreWhole, Wrote, bytes_at, Apart, NoneTwice, PageByte, places_in, range_of, total, Seg}
+use Rattle.range_gate.proofs.Passed.{apart-cells, read-cells, scatter-append, wrote-cells, apart-lists, apart-ranges, range-sum, length-range, range_stands}
 use Rattle.integrity_payload.specs.Payloads.{made_bytes, tuple_places}
 use Rattle.ref_remap.specs.Remapped.{AreRemapped, remapped_bytes}
 use Rattle.block_path.specs.Acts.{State, act}

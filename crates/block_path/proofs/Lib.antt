@@ -4,9 +4,10 @@ pub mod Cells
 pub mod Change
 pub mod Given
 pub mod InTurn
+pub mod Passed
+pub mod PathLaws
 pub mod ReadMoves
 pub mod Serial
 pub mod Sizes
 pub mod Split
 pub mod WriteMoves
-pub mod PathLaws

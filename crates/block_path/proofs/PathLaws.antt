@@ -20,7 +20,7 @@ use Rattle.pi_tuple.specs.declared.checks.PiType.TheVariants.{Zero, One, Two, Th
 use Rattle.pi_guard.specs.declared.GuardKind.{GuardKind}
 use Rattle.pi_guard.specs.Guards.{guard_of, crc}
 use Rattle.pi_guard.specs.declared.GuardKind.TheVariants.{Crc, Ip}
-use Rattle.small_laws.proofs.Tests.{never}
+use Rattle.fault_schedule.proofs.Passed.{never}
 
 pub crossed_length : (faults : List FaultLine) (label : Option Label) (at : Crossing) (frame : List ℕ) → length (crossed faults label at frame) ≡ length frame
 crossed_length faults None at frame = refl

@@ -4,7 +4,7 @@ use Rattle.std.specs.List.{All}
 use Rattle.std.proofs.lemmas.List.{get_or-set_same, length-append, length-replicate}
 use Rattle.pi_tuple.specs.declared.checks.Check.{Check}
 use Rattle.integrity_payload.specs.declared.payload.Owner.{Owner}
-use Rattle.page_pool.specs.Cells.{gather, scatter}
+use Rattle.range_gate.specs.Passed.{gather, scatter}
 use Rattle.bio_core.specs.declared.fate.Why.{Why}
 use Rattle.block_path.specs.declared.route.Route.{Route}
 use Rattle.block_path.specs.Acts.{Effect, State, act, tell}

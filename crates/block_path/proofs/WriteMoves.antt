@@ -8,7 +8,7 @@ use Rattle.std.proofs.lemmas.List.{length-append, length-drop, length-take-le, t
 use Rattle.pi_tuple.specs.Finds.{has_ref_tag}
 use Rattle.pi_tuple.specs.Tuples.{ref_tag, tuple_bytes}
 use Rattle.pi_tuple.specs.declared.tuple.Tuple.{Tuple}
-use Rattle.page_pool.specs.Cells.{gather, scatter, share_a_cell}
+use Rattle.range_gate.specs.Passed.{gather, scatter, share_a_cell}
 use Rattle.ref_remap.specs.Remapped.{remapped_bytes, remapped_tag}
 use Rattle.target_answer.specs.Frames.{frame_of}
 use Rattle.block_path.specs.declared.route.Route.{Route}

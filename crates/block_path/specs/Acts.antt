@@ -1,6 +1,6 @@
 use Rattle.std.specs.Prelude.{ℕ, Bool, ◌||◌, List, [], Option, None}
 use Rattle.bio_core.specs.declared.fate.Why.{Why}
-use Rattle.page_pool.specs.Cells.{gather, scatter}
+use Rattle.range_gate.specs.Passed.{gather, scatter}
 use Rattle.range_gate.specs.Cells.{Cells, cells_clash}
 
 -- Acts on cells: what an act reads, computes and writes, and when two conflict.

@@ -2,6 +2,7 @@ pub mod Acts
 pub mod Blocks
 pub mod Moves
 pub mod Operations
+pub mod Passed
 pub mod Routes
 pub mod Senses
 pub mod Serial

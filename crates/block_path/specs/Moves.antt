@@ -2,7 +2,7 @@ use Rattle.std.specs.Prelude.{◌≡◌, ℕ, ◌+◌, ◌<◌, false, nat_eq, L
 use Rattle.std.specs.List.{All, IsDistinct}
 use Rattle.pi_tuple.specs.Tuples.{tuple_bytes}
 use Rattle.integrity_payload.specs.declared.payload.Owner.{Owner}
-use Rattle.page_pool.specs.Cells.{share_a_cell}
+use Rattle.range_gate.specs.Passed.{share_a_cell}
 use Rattle.ref_remap.specs.Remapped.{remapped_bytes}
 use Rattle.bio_core.specs.declared.fate.Why.{Why}
 use Rattle.bio_core.specs.declared.request.Dir.TheVariants.{Read}

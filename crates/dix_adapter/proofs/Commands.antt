@@ -7,7 +7,7 @@ use Rattle.cdb_codec.specs.declared.choice.Dir2.TheVariants.{In, Out}
 use Rattle.cdb_codec.specs.Forms.{Fits, form}
 use Rattle.cdb_codec.specs.Rule.{chosen, fits_10, is_two}
 use Rattle.cdb_codec.proofs.Inverse.{decoded_form}
-use Rattle.target_answer.specs.Requests.{blocks_in, blocks_of, request_of, transferred}
+use Rattle.rig_api.specs.Passed.{blocks_in, blocks_of, request_of, transferred}
 use Rattle.rig_api.specs.Log.{HasRoom, Room, capacity_by, capacity_len, capacity_under}
 use Rattle.dix_adapter.specs.declared.adapter.Adapter.{Adapter}
 use Rattle.dix_adapter.specs.Carried.{command_for}

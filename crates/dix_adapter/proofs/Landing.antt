@@ -14,11 +14,10 @@ use Rattle.integrity_payload.specs.declared.payload.Payload.{Payload}
 use Rattle.integrity_payload.proofs.Fills.{block_fits}
 use Rattle.bio_core.specs.declared.request.Io.{Io}
 use Rattle.bio_core.specs.Bios.{block_size}
-use Rattle.target_answer.specs.Passing.{unless}
+use Rattle.rig_api.specs.Passed.{unless, frames_of}
 use Rattle.bio_core.specs.declared.bio.Bio.{Bio}
 use Rattle.bio_core.specs.declared.fate.Fate.{Fate}
 use Rattle.bio_core.specs.Bios.{Block, blocks_from, blocks_of}
-use Rattle.target_answer.specs.Frames.{frames_of}
 use Rattle.dix_adapter.specs.declared.adapter.Adapter.{Adapter}
 use Rattle.dix_adapter.specs.Groups.{IsBio, IsCarriedGroup, block_len, blocks_in, data_cells, first_of, frame_cells, no_bio, request_of, route_by, size, tuple_cells}
 use Rattle.dix_adapter.specs.Carried.{arrives, carried, comes_by, comes_first, fates_in, frame_len, land, landed, lands_first}

@@ -15,9 +15,8 @@ use Rattle.cdb_codec.specs.Decoded.{decoded}
 use Rattle.cdb_codec.specs.Forms.{Fits, form}
 use Rattle.cdb_codec.specs.declared.choice.Dir2.TheVariants.{In, Out}
 use Rattle.cdb_codec.proofs.Inverse.{decoded_form}
-use Rattle.target_answer.specs.Frames.{frames_of, joined, sent_size}
-use Rattle.target_answer.specs.Requests.{blocks_of}
-use Rattle.target_answer.proofs.FrameLaws.{frames_length}
+use Rattle.rig_api.specs.Passed.{frames_of, joined, sent_size, blocks_of}
+use Rattle.rig_api.proofs.Passed.{frames_length}
 use Rattle.rig_api.specs.Log.{entry_of, moved_by, moved_under}
 use Rattle.rig_api.specs.Telling.{spec_at}
 use Rattle.rig_api.specs.declared.rig.Outcome.{Outcome}

@@ -1,8 +1,7 @@
 -- Blocks put in others' places one after another, in a unit and among all.
 use Rattle.std.proofs.Common.{◌≡◌, ◌<◌, ◌≤◌, ℕ, zero, suc, ◌+◌, ◌-◌, List, [], ◌∷◌, ◌++◌, length, take, drop, set, get_or, refl, ap, sym, ◌∙◌, arith}
 use Rattle.std.proofs.lemmas.List.{length-set, set-append_left, set-append_right}
-use Rattle.target_answer.specs.Frames.{placed}
-use Rattle.target_answer.specs.Target.{Stored, shape_of}
+use Rattle.rig_api.specs.Passed.{placed, Stored, shape_of}
 use Rattle.rig_api.specs.Telling.{unit_at, with_blocks}
 use Rattle.dix_adapter.specs.Ways.{blocks_told, cell_in, shapes_of}
 

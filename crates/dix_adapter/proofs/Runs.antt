@@ -18,10 +18,7 @@ use Rattle.bio_core.specs.Bios.{Block, block_size, blocks_from, blocks_of}
 use Rattle.fault_schedule.specs.Altered.{shift_of}
 use Rattle.fault_schedule.specs.declared.Label.{Label}
 use Rattle.fault_schedule.specs.declared.fault.Crossing.TheVariants.{AdapterToTarget, MediumToTarget}
-use Rattle.target_answer.specs.Frames.{frames_of, joined, sent_size}
-use Rattle.target_answer.specs.Passing.{to_medium}
-use Rattle.target_answer.specs.Target.{each, passage as passage_of}
-use Rattle.target_answer.specs.declared.units.UnitSpec.{UnitSpec}
+use Rattle.rig_api.specs.Passed.{frames_of, joined, sent_size, to_medium, each, passage as passage_of, UnitSpec}
 use Rattle.page_pool.proofs.Ranges.{take-sum}
 use Rattle.block_path.specs.Routes.{host_size, moved, passage, wire_lba, wire_size}
 use Rattle.block_path.proofs.Sizes.{out_size}

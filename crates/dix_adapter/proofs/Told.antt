@@ -11,8 +11,7 @@ use Rattle.cdb_codec.specs.Forms.{form}
 use Rattle.cdb_codec.specs.declared.choice.Dir2.TheVariants.{In, Out}
 use Rattle.fault_schedule.specs.Altered.{shift_of}
 use Rattle.fault_schedule.specs.declared.fault.Crossing.TheVariants.{AdapterToTarget, MediumToTarget}
-use Rattle.target_answer.specs.Frames.{frames_of, stored_size}
-use Rattle.target_answer.specs.Target.{Stop, Stored, has_blocks, shape_of}
+use Rattle.rig_api.specs.Passed.{frames_of, stored_size, Stop, Stored, has_blocks, shape_of}
 use Rattle.rig_api.specs.Log.{entry_of}
 use Rattle.rig_api.specs.Telling.{IsAnswer, IsStanding, answer_of, frame_size, spec_at, unit_at, units_told}
 use Rattle.rig_api.specs.State.{RigState}

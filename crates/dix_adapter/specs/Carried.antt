@@ -17,7 +17,7 @@ use Rattle.bio_core.specs.declared.request.Dir.{Dir}
 use Rattle.bio_core.specs.declared.request.Dir.TheVariants.{Read, Write}
 use Rattle.bio_core.specs.declared.request.Io.{Io}
 use Rattle.bio_core.specs.Bios.{Block}
-use Rattle.target_answer.specs.Frames.{frames_of, joined}
+use Rattle.rig_api.specs.Passed.{frames_of, joined}
 use Rattle.rig_api.specs.declared.rig.Outcome.{Outcome}
 use Rattle.rig_api.specs.State.{Exchanged, RigState}
 use Rattle.block_path.specs.Routes.{wire_size}

@@ -4,7 +4,7 @@ use Rattle.page_pool.specs.Cells.{flat}
 use Rattle.bio_core.specs.declared.bio.Bio.{Bio}
 use Rattle.bio_core.specs.declared.fate.Fate.{Fate}
 use Rattle.bio_core.specs.declared.request.Io.{Io}
-use Rattle.target_answer.specs.Target.{Stored}
+use Rattle.rig_api.specs.Passed.{Stored}
 use Rattle.rig_api.specs.Log.{HasRoom}
 use Rattle.rig_api.specs.Telling.{frame_size, greatest_size, spec_at, unit_at}
 use Rattle.rig_api.specs.State.{RigState}

@@ -1,8 +1,9 @@
-pub mod Room
-pub mod Groups
-pub mod Outcomes
-pub mod Walking
 pub mod Carried
-pub mod Ways
-pub mod OnTheWay
 pub mod Carrying
+pub mod Groups
+pub mod OnTheWay
+pub mod Outcomes
+pub mod Passed
+pub mod Room
+pub mod Walking
+pub mod Ways

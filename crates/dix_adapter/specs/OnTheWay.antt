@@ -5,7 +5,7 @@ use Rattle.page_pool.specs.Pages.{AreWhole}
 use Rattle.bio_core.specs.declared.bio.Bio.{Bio}
 use Rattle.bio_core.specs.declared.fate.Fate.{Fate}
 use Rattle.bio_core.specs.declared.request.Io.{Io}
-use Rattle.target_answer.specs.Frames.{frames_of}
+use Rattle.rig_api.specs.Passed.{frames_of}
 use Rattle.block_path.specs.Routes.{wire_size}
 use Rattle.dix_adapter.specs.declared.adapter.Adapter.{Adapter}
 use Rattle.dix_adapter.specs.Carried.{carried, comes_by, comes_first, fates_in, frame_len, land, landed, lands_first}

@@ -5,7 +5,7 @@ ghost use Rattle.std.specs.Vec.{vec_capacity};
 ghost use Rattle.page_pool.specs.Cells.{flat};
 ghost use Rattle.page_pool.specs.Pages.{AreWhole};
 ghost use Rattle.bio_core.specs.Bios.{block_size};
-ghost use Rattle.target_answer.specs.Passing.{unless};
+ghost use Rattle.rig_api.specs.Passed.{unless};
 ghost use Rattle.bio_core.specs.declared.request.Dir.TheVariants.{Read};
 ghost use Rattle.cdb_codec.specs.Forms.{Fits, form};
 ghost use Rattle.cdb_codec.specs.declared.choice.Dir2.TheVariants.{In};

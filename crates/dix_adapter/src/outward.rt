@@ -6,7 +6,7 @@ ghost use Rattle.std.specs.Vec.{vec_capacity};
 ghost use Rattle.bio_core.specs.Bios.{block_size, blocks_of};
 ghost use Rattle.page_pool.specs.Cells.{flat};
 ghost use Rattle.block_path.specs.Routes.{wire_size};
-ghost use Rattle.target_answer.specs.Passing.{unless};
+ghost use Rattle.rig_api.specs.Passed.{unless};
 ghost use Rattle.bio_core.specs.declared.fate.Fate.TheVariants.{Good};
 ghost use Rattle.cdb_codec.specs.Forms.{Fits, form};
 ghost use Rattle.cdb_codec.specs.declared.choice.Dir2.TheVariants.{Out};

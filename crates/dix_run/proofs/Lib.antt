@@ -2,4 +2,5 @@ mod Carrying
 mod Endings
 mod Layouts
 mod Opening
+pub mod Passed
 mod ScrubLines

@@ -1,5 +1,6 @@
-pub mod ScrubText
-pub mod Verdict
-pub mod Statuses
 pub mod Commands
 pub mod Headline
+pub mod Passed
+pub mod ScrubText
+pub mod Statuses
+pub mod Verdict

@@ -1,3 +1,4 @@
-pub mod Xored
+pub mod Passed
 mod Spans
 pub mod Unaltered
+pub mod Xored

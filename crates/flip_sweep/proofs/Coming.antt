@@ -35,7 +35,7 @@ use Rattle.flip_sweep.specs.Comes.{CameTo, came_to, seen_of}
 use Rattle.flip_sweep.specs.Swept.{CauseNoRun}
 use Rattle.flip_sweep.specs.declared.runs.Came.{Came as CameRun}
 use Rattle.dix_base.proofs.Counts.{never_rose}
-use Rattle.image_commands.proofs.Opened.{right_head as no_head_fault, told_is_good}
+use Rattle.run_command.proofs.Passed.{right_head as no_head_fault, told_is_good}
 
 -- ---- the formatted image
 

@@ -1,7 +1,7 @@
 -- Crossings of a script's blocks: each can be named by a fault line, and there are three for each block.
 use Rattle.std.proofs.Common.{◌≡◌, ℕ, zero, suc, ◌+◌, ◌*◌, ◌-◌, ◌<◌, ◌≤◌, List, [], ◌∷◌, ◌++◌, length, Bool, refl, sym, ap, arith, length-append}
 use Rattle.rig_api.specs.declared.change.Change.TheVariants.{Flip as FlipChange, Copy as CopyChange}
-use Rattle.script_ground.proofs.Bodies.{alone-of, both-of}
+use Rattle.run_command.proofs.Passed.{alone-of, both-of}
 use Rattle.script_laws.proofs.OpForms.{no_fault}
 use Rattle.script_laws.specs.Keeping.{Each, IsOp, Keeps, blocks_of}
 use Rattle.script_laws.specs.Lines.{line_of}

@@ -11,16 +11,12 @@ use Rattle.command_line.specs.declared.command.Command.{Command}
 use Rattle.command_line.specs.declared.command.Command.TheVariants as command
 use Rattle.report_text.specs.Report.{report}
 use Rattle.script_text.specs.declared.script.Script.{Script}
-use Rattle.run_command.proofs.Completing.{complete, same_script}
-use Rattle.run_command.specs.Texts.{has_bad}
-use Rattle.run_command.specs.Verdict.{CauseRefused, HasRun}
+use Rattle.image_scripts.proofs.Passed.{complete, same_script}
+use Rattle.image_scripts.specs.Passed.{has_bad, CauseRefused, HasRun, Finished}
 use Rattle.call_refusal.specs.declared.refusal.Refusal.{Refusal as Stop}
 use Rattle.call_refusal.specs.declared.refusal.Refusal.TheVariants as stop
-use Rattle.run_command.specs.declared.verdict.Finished.{Finished}
-use Rattle.mirror_command.proofs.Completing.{complete as mirror_complete}
-use Rattle.mirror_command.specs.Texts.{is_any_lost, mirror_text}
-use Rattle.mirror_command.specs.Verdict.{CauseRefused as CauseUnmirrored, HasMirrored}
-use Rattle.mirror_command.specs.declared.mirrored.Mirrored.{Mirrored}
+use Rattle.dix_run.proofs.Passed.{complete as mirror_complete}
+use Rattle.dix_run.specs.Passed.{is_any_lost, mirror_text, CauseRefused as CauseUnmirrored, HasMirrored, Mirrored}
 use Rattle.dix_run.specs.Commands.{mirror_work, run_work, work_of}
 use Rattle.dix_run.specs.Headline.{Carries}
 use Rattle.dix_run.specs.Verdict.{Cause, CauseNotMirrored, CauseNotRun, Done, EndedAs, Facts, Refused, Verdict, Work, Written, call_of, done_status, status_of, verdict_status, verdict_text}

@@ -22,7 +22,7 @@ use Rattle.whole_run.proofs.TupleFrames.{Small, data_is, tuple_is}
 use Rattle.image_layout.proofs.Heads.{layout_parts}
 use Rattle.script_premises.proofs.Fresh.{blocks_are, fresh_unit, shapes_are, cell_is}
 use Rattle.script_text.specs.declared.script.Script.{Script}
-use Rattle.run_command.specs.Verdict.{devices_of}
+use Rattle.image_scripts.specs.Passed.{devices_of}
 use Rattle.headline.specs.Headline.{blocks_in, half_over, mirror_over, volume_over}
 use Rattle.image_scripts.proofs.FreshHead.{units_back}
 

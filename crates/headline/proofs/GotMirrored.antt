@@ -3,12 +3,8 @@ use Rattle.std.proofs.Common.{◌≡◌, ℕ, List, Some, arith}
 use Rattle.dix_base.specs.Told.{Calm}
 use Rattle.target_answer.specs.Target.{Stored}
 use Rattle.script_text.specs.declared.script.Script.{Script}
-use Rattle.mirror_volume.specs.Enough.{WasEnough}
-use Rattle.mirror_volume.specs.Premises.{IsOneGoodRun}
-use Rattle.mirror_command.specs.Stages.{HasServedMirror}
-use Rattle.mirror_command.specs.Verdict.{HasMirrored}
-use Rattle.mirror_command.proofs.Mirroring.{calm-names-none, known-told}
-use Rattle.mirror_command.specs.declared.mirrored.Mirrored.{Mirrored}
+use Rattle.dix_run.specs.Passed.{HasServedMirror, HasMirrored, Mirrored, WasEnough, IsOneGoodRun}
+use Rattle.dix_run.proofs.Passed.{calm-names-none, known-told}
 use Rattle.rig_api.specs.State.{RigState}
 
 calm : (old new : ℕ) → new ≡ 0 → Calm old new

@@ -23,18 +23,9 @@ use Rattle.image_layout.proofs.Heads.{layout_parts}
 use Rattle.run_premises.proofs.Escapes.{none_supplied}
 use Rattle.script_premises.proofs.Fresh.{formatted_clean, shapes_are}
 use Rattle.script_text.specs.declared.script.Script.{Script}
-use Rattle.run_command.specs.Premises.{IsFormedRun, IsPlainRun}
-use Rattle.run_command.specs.Texts.{has_bad}
-use Rattle.run_command.specs.Verdict.{AllReadRightly, Followed, HasRun, WasAsked, devices_of, table_over}
-use Rattle.run_command.specs.declared.verdict.Finished.{Finished}
-use Rattle.run_command.proofs.Completing.{table_is}
-use Rattle.run_command.proofs.Devices.{image_devices}
-use Rattle.mirror_volume.specs.Enough.{BothHoldLast, WasEnough}
-use Rattle.mirror_volume.specs.Premises.{IsOneGoodRun}
-use Rattle.mirror_command.specs.Stages.{HasServedMirror}
-use Rattle.mirror_command.specs.Texts.{is_any_lost, mirror_text}
-use Rattle.mirror_command.specs.Verdict.{HasMirrored}
-use Rattle.mirror_command.specs.declared.mirrored.Mirrored.{Mirrored}
+use Rattle.image_scripts.specs.Passed.{IsFormedRun, IsPlainRun, has_bad, AllReadRightly, Followed, HasRun, WasAsked, devices_of, table_over, Finished}
+use Rattle.image_scripts.proofs.Passed.{table_is, image_devices}
+use Rattle.dix_run.specs.Passed.{HasServedMirror, is_any_lost, mirror_text, HasMirrored, Mirrored, BothHoldLast, WasEnough, IsOneGoodRun}
 use Rattle.report_text.specs.Report.{report}
 use Rattle.dix_run.specs.Headline.{Carries}
 use Rattle.dix_run.specs.Verdict.{Facts, done_status}

@@ -20,16 +20,12 @@ use Rattle.run_premises.specs.Forms.{escapes_none, shows_by_form}
 use Rattle.stack_ops.specs.Ops.{is_overwrite}
 use Rattle.script_text.specs.Language.{script_in}
 use Rattle.script_text.specs.declared.script.Script.{Script}
-use Rattle.run_command.specs.Texts.{has_bad}
-use Rattle.run_command.specs.Verdict.{AllReadRightly, devices_of}
+use Rattle.image_scripts.specs.Passed.{has_bad, AllReadRightly, devices_of}
 use Rattle.mirror_script.specs.MirrorFaults.{mirror_fault}
 use Rattle.mirror_walk.specs.Mirror.{mirror_replies}
 use Rattle.mirror_walk.specs.OneGood.{OneGood, script_asks}
 use Rattle.mirror_walk.specs.Repair.{WalkedRepair}
-use Rattle.leg_runs.specs.Standing.{half_of, mirror_setting}
-use Rattle.mirror_command.specs.Stages.{repair_over}
-use Rattle.mirror_command.specs.Texts.{is_any_lost, mirror_text}
-use Rattle.mirror_volume.specs.Enough.{AllReadLast, BothHoldLast}
+use Rattle.dix_run.specs.Passed.{repair_over, is_any_lost, mirror_text, AllReadLast, BothHoldLast, half_of, mirror_setting}
 use Rattle.report_text.specs.Report.{report}
 use Rattle.dix_run.specs.Verdict.{done_status}
 use Rattle.dix_run.specs.declared.status.Status.{Status}

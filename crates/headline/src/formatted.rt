@@ -1,11 +1,11 @@
 //! What `format` leaves.
 
 ghost use Rattle.std.specs.Prelude.{List, ℕ, ◌≡◌, true, map, None, Some};
-ghost use Rattle.image_commands.specs.Causes.{WasFormatted};
+ghost use Rattle.dix_run.specs.Passed.{WasFormatted};
 ghost use Rattle.rig_api.specs.Head.{head_fault, head_of, units_of};
 ghost use Rattle.rig_api.specs.State.{RigState};
 ghost use Rattle.rig_discovery.specs.Discovery.{info_of};
-ghost use Rattle.run_command.specs.Verdict.{WasAsked, devices_of};
+ghost use Rattle.image_scripts.specs.Passed.{WasAsked, devices_of};
 ghost use Rattle.target_answer.specs.Headers.{is_layout};
 ghost use Rattle.target_answer.specs.Image.{formatted};
 ghost use Rattle.target_answer.specs.declared.units.UnitSpec.{UnitSpec as AnyUnit};

@@ -6,7 +6,7 @@ use Rattle.target_answer.specs.declared.units.UnitSpec.{UnitSpec}
 use Rattle.rig_api.specs.Head.{IsHeadOf, head_fault, units_of, version_in}
 use Rattle.rig_api.specs.Telling.{IsMigrated, KeepsBlocks, KeepsUnits, Opened, migrated_count, units_told}
 use Rattle.rig_api.specs.State.{RigState}
-use Rattle.answered_record.specs.Answered.{Answers}
+use Rattle.rig_discovery.specs.Passed.{Answers}
 use Rattle.volume_table.specs.declared.device.DeviceInfo.{DeviceInfo}
 use Rattle.rig_discovery.specs.Discovery.{HasFault, HasFound}
 use Rattle.pi_scrub.specs.Faults.{all_faults}

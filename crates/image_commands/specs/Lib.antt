@@ -1,2 +1,3 @@
-pub mod Views
 pub mod Causes
+pub mod Passed
+pub mod Views

@@ -11,7 +11,7 @@ use Rattle.rig_api.specs.Head.{head_fault, head_of, units_of}
 use Rattle.dix_adapter.specs.Ways.{blocks_told}
 use Rattle.image_layout.proofs.Heads.{right_head, right_units}
 use Rattle.image_scripts.specs.Over.{blocks_in, image_with}
-use Rattle.image_commands.proofs.Bytes.{joined_frames}
+use Rattle.run_command.proofs.Passed.{joined_frames}
 
 joined_units : (us : List UnitSpec) (bytes : List ℕ) → joined (blocks_told (units_from us bytes)) ≡ take (all_bytes us) bytes
 joined_units [] bytes = refl

@@ -4,12 +4,10 @@ use Rattle.target_answer.specs.Target.{Stored}
 use Rattle.volume_table.specs.Tables.{Table}
 use Rattle.volume_table.specs.declared.device.DeviceInfo.{DeviceInfo}
 use Rattle.stack_ops.specs.declared.reply.Reply.{Reply}
-use Rattle.script_text.specs.declared.script.Script.{Script}
-use Rattle.script_stack.specs.Followed.{HasWalked, KnownBlocks}
-use Rattle.script_stack.proofs.Ended.{known_from}
+use Rattle.run_command.specs.Passed.{HasWalked, KnownBlocks, RoseBy, medium_lines, Script}
+use Rattle.run_command.proofs.Passed.{known_from}
 use Rattle.run_command.specs.Premises.{IsFormedRun, IsPlainRun}
 use Rattle.run_command.specs.Followed.{Followed, HasPlain, RunReadsRightly}
-use Rattle.stack_core.specs.Mediums.{RoseBy, medium_lines}
 use Rattle.rig_api.specs.State.{RigState}
 
 -- so no line names the medium

@@ -1,4 +1,5 @@
 pub mod Cut
 pub mod FreshHead
-pub mod Told
 pub mod Got
+pub mod Passed
+pub mod Told

@@ -10,9 +10,7 @@ use Rattle.block_path.specs.Acts.{State}
 use Rattle.whole_run.specs.ScriptWalk.{script_replies, script_walk}
 use Rattle.whole_run.specs.Settings.{Setting}
 use Rattle.run_laws.specs.ShownRun.{DevicesAreClean}
-use Rattle.script_text.specs.Bindings.{binding_fault}
-use Rattle.script_text.specs.Language.{script_in}
-use Rattle.script_text.specs.declared.script.Script.{Script}
+use Rattle.run_command.specs.Passed.{binding_fault, script_in, Script}
 use Rattle.run_command.specs.Verdict.{devices_of, opening_told, setting_told, table_over}
 
 -- the stored blocks of an image, one unit's behind another's

@@ -30,13 +30,12 @@ use Rattle.script_ground.proofs.Calm.{lies-in}
 use Rattle.script_ground.proofs.OverUnits.{IsBoundOver}
 use Rattle.script_ground.specs.Units.{AreStored}
 use Rattle.script_laws.proofs.Ranges.{all_in_range}
-use Rattle.script_premises.proofs.Fresh.{blocks_are, formatted_below, fresh_unit, shapes_are}
 use Rattle.script_text.specs.Bindings.{binding_fault}
 use Rattle.script_text.specs.Crossings.{crossing_of, is_read}
 use Rattle.script_text.specs.declared.fault.ScriptFault.{ScriptFault}
 use Rattle.script_text.specs.declared.script.Script.{Script}
-use Rattle.run_command.specs.Verdict.{devices_of}
-use Rattle.run_command.proofs.Tables.{all_end}
+use Rattle.image_scripts.specs.Passed.{devices_of}
+use Rattle.image_scripts.proofs.Passed.{all_end, blocks_are, formatted_below, fresh_unit, shapes_are}
 use Rattle.image_layout.proofs.Heads.{layout_parts}
 use Rattle.image_scripts.specs.Over.{setting_over, volume_over}
 use Rattle.image_scripts.proofs.Told.{devices_back, stored_back}

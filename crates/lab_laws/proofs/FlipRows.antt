@@ -17,7 +17,7 @@ use Rattle.script_laws.proofs.Keeping.{read_keeps}
 use Rattle.script_text.specs.Bindings.{binding_fault}
 use Rattle.script_text.specs.Language.{line_taken, script_in, taken}
 use Rattle.script_text.specs.declared.script.Script.{Script}
-use Rattle.run_command.specs.Verdict.{devices_of, table_over}
+use Rattle.image_scripts.specs.Passed.{devices_of, table_over}
 use Rattle.image_scripts.proofs.Told.{devices_back}
 use Rattle.flip_sweep.specs.Swept.{Sweep}
 use Rattle.lab_laws.specs.Flips.{IsPlainSweep, IsQuietSweep}

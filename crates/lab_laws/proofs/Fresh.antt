@@ -19,7 +19,7 @@ use Rattle.dix_adapter.specs.Ways.{blocks_told, cell_in}
 use Rattle.whole_run.specs.Settings.{Setting}
 use Rattle.whole_run.specs.UnderMap.{home}
 use Rattle.script_ground.specs.Units.{AreStored}
-use Rattle.script_premises.proofs.Fresh.{fresh_unit, formatted_clean}
+use Rattle.image_scripts.proofs.Passed.{fresh_unit, formatted_clean}
 use Rattle.lab_laws.proofs.Scrubbed.{sizes_of}
 
 run_stored : (ty : PiType) (size lba n : ℕ) → All (λ (b : List ℕ). length b ≡ stored_size ty size) (fresh_from ty size lba n)

@@ -34,10 +34,8 @@ use Rattle.run_laws.specs.ShownRun.{DevicesAreClean}
 use Rattle.run_premises.proofs.Near.{crc-zeros}
 use Rattle.script_laws.proofs.Keeping.{read_keeps}
 use Rattle.script_laws.proofs.Ranges.{all_in_range}
-use Rattle.script_premises.proofs.Fresh.{blocks_are, fresh_unit}
-use Rattle.run_command.specs.Premises.{setting_told}
-use Rattle.run_command.specs.Verdict.{HasTable, devices_of, table_over}
-use Rattle.run_command.proofs.Tables.{all_end}
+use Rattle.image_scripts.specs.Passed.{setting_told, HasTable, devices_of, table_over}
+use Rattle.image_scripts.proofs.Passed.{all_end, blocks_are, fresh_unit}
 use Rattle.image_layout.specs.Places.{block_place}
 use Rattle.image_layout.proofs.Heads.{layout_parts}
 use Rattle.image_layout.proofs.Units.{unit_found}

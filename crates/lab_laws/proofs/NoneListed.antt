@@ -25,7 +25,7 @@ use Rattle.run_premises.specs.Forms.{supplies_none}
 use Rattle.run_premises.proofs.Escapes.{none_supplied}
 use Rattle.script_ground.proofs.Calm.{calm-run}
 use Rattle.script_laws.specs.Keeping.{Each}
-use Rattle.script_premises.proofs.Fresh.{formatted_clean}
+use Rattle.image_scripts.proofs.Passed.{formatted_clean}
 use Rattle.script_text.specs.declared.script.Script.{Script}
 use Rattle.image_scripts.specs.Over.{opening_over, setting_over, volume_over}
 use Rattle.image_scripts.proofs.Told.{stored_back}

@@ -22,13 +22,12 @@ use Rattle.rig_api.specs.Telling.{Standing, answer_of, at_front, no_spec, spec_a
 use Rattle.answered_record.specs.Answered.{Answers, AreAnswersTo, FramesBy, FramesUnder, IsAnswerTo, answer_with, room_of}
 use Rattle.answered_record.proofs.Going.{answers_join}
 use Rattle.script_laws.proofs.Keeping.{read_keeps}
-use Rattle.script_stack.proofs.Ended.{known_from}
+use Rattle.image_scripts.proofs.Passed.{known_from}
 use Rattle.stack_core.specs.Mediums.{medium_lines}
 use Rattle.stack_core.proofs.NoMedium.{none_named}
 use Rattle.script_text.specs.declared.script.Script.{Script}
 use Rattle.source_text.specs.Reading.{most_bytes}
-use Rattle.run_command.specs.Verdict.{Facts, HasRun}
-use Rattle.run_command.specs.declared.verdict.Finished.{Finished}
+use Rattle.image_scripts.specs.Passed.{Facts, HasRun, Finished}
 use Rattle.vector_lines.specs.Printed.{is_sender, out_of, sends}
 use Rattle.vector_lines.specs.Texts.{list_in}
 use Rattle.script_text.specs.declared.fault.ScriptFault.{ScriptFault}

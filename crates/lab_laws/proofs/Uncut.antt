@@ -47,12 +47,9 @@ use Rattle.script_text.specs.declared.script.Script.{Script}
 use Rattle.script_laws.proofs.Keeping.{read_keeps}
 use Rattle.script_ground.proofs.Calm.{all-fit, calm-of}
 use Rattle.script_ground.proofs.OverUnits.{IsBoundOver, over}
-use Rattle.script_stack.specs.Followed.{HasFallen, failed_in, opening_of, setting_of, unit_of}
-use Rattle.script_stack.proofs.Ended.{known_from}
-use Rattle.script_stack.proofs.Following.{told-stored}
+use Rattle.image_scripts.proofs.Passed.{known_from, told-stored}
 use Rattle.rig_api.specs.State.{RigState}
-use Rattle.run_command.specs.Verdict.{HasRun}
-use Rattle.run_command.specs.declared.verdict.Finished.{Finished}
+use Rattle.image_scripts.specs.Passed.{HasRun, Finished, HasFallen, failed_in, opening_of, setting_of, unit_of}
 use Rattle.vector_runs.specs.Unplayed.{first_overwrite, named, unplayed, unplayed_line}
 use Rattle.run_laws.proofs.Labelled.{each_both}
 use Rattle.lab_laws.specs.Passing.{IsNotCut, RunPasses, VectorsPass, WasTaken, width}

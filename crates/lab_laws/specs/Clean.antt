@@ -17,8 +17,7 @@ use Rattle.whole_run.specs.Settings.{Setting}
 use Rattle.whole_run.specs.UnderMap.{AreClean, IsClean}
 use Rattle.run_laws.specs.ShownRun.{DevicesAreClean}
 use Rattle.script_text.specs.declared.script.Script.{Script}
-use Rattle.run_command.specs.Premises.{setting_told}
-use Rattle.run_command.specs.Verdict.{HasTable}
+use Rattle.image_scripts.specs.Passed.{setting_told, HasTable}
 use Rattle.image_blocks.specs.Places.{whole_in}
 use Rattle.image_blocks.specs.declared.stretch.Stretch.{Stretch}
 use Rattle.image_dumps.specs.Dumps.{imported, imported_block}

@@ -15,11 +15,10 @@ use Rattle.whole_run.specs.UnderMap.{NoEscape}
 use Rattle.stack_ops.specs.Ops.{first_virt}
 use Rattle.run_premises.specs.Forms.{escapes_none, op_of}
 use Rattle.script_laws.specs.Keeping.{Each}
-use Rattle.run_command.specs.Working.{IsSound}
+use Rattle.image_scripts.specs.Passed.{IsSound, devices_of}
 use Rattle.volume_table.specs.Faults.{table_fault}
 use Rattle.volume_table.specs.Places.{place_in}
 use Rattle.script_text.specs.Bindings.{binding_fault}
-use Rattle.run_command.specs.Verdict.{devices_of}
 use Rattle.image_scripts.specs.Over.{opening_over, setting_over, volume_over}
 use Rattle.flip_sweep.specs.Comes.{came_to}
 use Rattle.flip_sweep.specs.Flips.{own_fault, sites_of}

@@ -35,8 +35,7 @@ use Rattle.run_laws.specs.Records.{sents}
 use Rattle.rig_api.specs.State.{RigState}
 use Rattle.script_text.specs.Language.{script_in}
 use Rattle.script_text.specs.declared.script.Script.{Script}
-use Rattle.run_command.specs.Verdict.{Facts, HasRun}
-use Rattle.run_command.specs.declared.verdict.Finished.{Finished}
+use Rattle.image_scripts.specs.Passed.{Facts, HasRun, Finished}
 use Rattle.vector_runs.specs.Played.{HasPlayed}
 use Rattle.vector_runs.specs.Unplayed.{unplayed}
 use Rattle.vector_runs.specs.declared.playing.Played.TheVariants as played

@@ -14,7 +14,7 @@ use Rattle.stack_ops.specs.declared.reply.Reply.{Reply}
 use Rattle.stack_ops.specs.declared.reply.Reply.TheVariants.{Medium, Shown, Silent}
 use Rattle.volume_table.specs.declared.device.DeviceInfo.{DeviceInfo}
 use Rattle.script_text.specs.declared.script.Script.{Script}
-use Rattle.script_stack.specs.Causes.{table_of}
+use Rattle.mirror_legs.specs.Passed.{table_of}
 use Rattle.leg_runs.specs.LegRuns.{LegRun}
 use Rattle.leg_runs.specs.OnOps.{Altered, DidOp, OpRan, OverwriteTells, RanOp, Sides}
 use Rattle.leg_runs.specs.Standing.{op_at}

@@ -22,7 +22,7 @@ use Rattle.whole_run.specs.ScriptWalk.{bad_from, whole_or_bad}
 use Rattle.whole_run.specs.Settings.{Block, Setting}
 use Rattle.whole_run.specs.Steps.{each_from}
 use Rattle.script_text.specs.declared.script.Script.{Script}
-use Rattle.script_stack.specs.Causes.{table_of}
+use Rattle.mirror_legs.specs.Passed.{table_of}
 use Rattle.mirror_walk.specs.Mirror.{fresh, marks_of}
 use Rattle.mirror_walk.specs.OnLegs.{all_landed, come, comes_from, landed_by, why_of}
 use Rattle.mirror_walk.specs.Repair.{reading}

@@ -8,11 +8,8 @@ use Rattle.volume_table.specs.Tables.{MadeFor}
 use Rattle.dix_adapter.specs.Ways.{blocks_told, shapes_of}
 use Rattle.whole_run.specs.Settings.{Setting}
 use Rattle.script_text.specs.declared.script.Script.{Script}
-use Rattle.script_ground.specs.Units.{all_blocks}
-use Rattle.script_ground.proofs.AtTarget.{told-long}
-use Rattle.script_ground.proofs.Places.{one-each}
-use Rattle.script_ground.proofs.Units.{over-units}
-use Rattle.script_stack.specs.Causes.{table_of}
+use Rattle.mirror_legs.proofs.Passed.{told-long, one-each, over-units}
+use Rattle.mirror_legs.specs.Passed.{table_of, all_blocks}
 use Rattle.mirror_walk.specs.LegByLeg.{DeliversWhole, HasLegs}
 use Rattle.mirror_walk.specs.Sizes.{HasSizes}
 use Rattle.mirror_walk.proofs.Sizes.{delivers_whole}

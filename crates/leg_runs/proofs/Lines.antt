@@ -11,7 +11,7 @@ use Rattle.stack_ops.specs.declared.op.Op.TheVariants.{Fetch, FetchPi, Fill, Ove
 use Rattle.stack_ops.specs.declared.reply.BadBlock.{BadBlock}
 use Rattle.stack_ops.specs.declared.reply.Reply.{Reply}
 use Rattle.stack_ops.specs.declared.reply.Reply.TheVariants.{Bad, Medium, Shown, Silent, Whole}
-use Rattle.stack_core.specs.Mediums.{RoseBy, listed_mediums, medium_lines}
+use Rattle.mirror_legs.specs.Passed.{RoseBy, listed_mediums, medium_lines}
 use Rattle.volume_table.specs.declared.device.DeviceInfo.{DeviceInfo}
 use Rattle.volume_table.specs.Tables.{Table}
 use Rattle.whole_run.specs.ScriptWalk.{bad_from, whole_or_bad}

@@ -18,8 +18,7 @@ use Rattle.whole_run.specs.Settings.{Block, Setting}
 use Rattle.whole_run.specs.Steps.{each_from}
 use Rattle.whole_run.proofs.InSteps.{each_length}
 use Rattle.script_text.specs.declared.script.Script.{Script}
-use Rattle.script_ground.specs.Units.{AreStored}
-use Rattle.script_stack.specs.Followed.{HasWalked}
+use Rattle.mirror_legs.specs.Passed.{HasWalked, AreStored}
 use Rattle.mirror_walk.specs.OnLegs.{data_read, landed_by, why_of, whys_read}
 use Rattle.mirror_walk.specs.Repair.{good, reading}
 use Rattle.mirror_walk.proofs.Pieces.{each_shift}

@@ -10,7 +10,7 @@ use Rattle.block_path.specs.Blocks.{stored_cell}
 use Rattle.whole_run.specs.Past.{Brought}
 use Rattle.whole_run.specs.Settings.{Block, Setting, route}
 use Rattle.script_text.specs.declared.script.Script.{Script}
-use Rattle.script_stack.specs.Followed.{HasWalked, none_fails, setting_of}
+use Rattle.mirror_legs.specs.Passed.{HasWalked, none_fails, setting_of}
 use Rattle.mirror_walk.specs.OnLegs.{brought_each, stored_at, why_of, whys_written, written}
 use Rattle.mirror_walk.specs.Repair.{steady, writing}
 use Rattle.mirror_walk.specs.Stretches.{Fine, Lost, Need, On0, On1, due, due_data, whys_due}

@@ -14,12 +14,9 @@ use Rattle.stack_ops.specs.declared.op.Op.{Op}
 use Rattle.stack_ops.specs.declared.op.Op.TheVariants.{Fetch, FetchPi, Fill, Overwrite, Put, Seal, Show, Wait, Write, WritePi}
 use Rattle.stack_ops.specs.declared.reply.Reply.{Reply}
 use Rattle.stack_ops.specs.declared.reply.Reply.TheVariants.{Medium, Silent}
-use Rattle.stack_core.specs.Mediums.{medium_lines}
-use Rattle.stack_core.proofs.ToldOps.{is_told}
 use Rattle.script_text.specs.declared.script.Script.{Script}
-use Rattle.script_ground.specs.Units.{AreStored}
-use Rattle.script_stack.specs.Causes.{table_of}
-use Rattle.script_stack.proofs.Following.{told-shapes, told-stored}
+use Rattle.mirror_legs.specs.Passed.{table_of, medium_lines, AreStored}
+use Rattle.mirror_legs.proofs.Passed.{told-shapes, told-stored, is_told}
 use Rattle.leg_runs.specs.LegRuns.{LegRun, NamesNoMedium}
 use Rattle.leg_runs.specs.OnOps.{DidOp, OpBy, OpRan, OpWalked, Sides}
 use Rattle.leg_runs.specs.Standing.{HasLegDevices, IsBoundMirror, KeepsToWalk, StandsAt, half_of, op_at}

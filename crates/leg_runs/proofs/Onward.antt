@@ -15,9 +15,7 @@ use Rattle.whole_run.specs.Past.{steps_from}
 use Rattle.whole_run.specs.ScriptWalk.{reply_of}
 use Rattle.whole_run.specs.Settings.{Setting}
 use Rattle.script_text.specs.declared.script.Script.{Script}
-use Rattle.script_ground.specs.Units.{AreStored}
-use Rattle.script_stack.specs.Causes.{table_of}
-use Rattle.script_stack.specs.Followed.{none_fails, opening_of, setting_of}
+use Rattle.mirror_legs.specs.Passed.{table_of, none_fails, opening_of, setting_of, AreStored}
 use Rattle.mirror_walk.specs.Mirror.{Mirror, blocks_in, count_of, done, mirror_opened, replies_from}
 use Rattle.mirror_walk.specs.LegByLeg.{after_op, answers_of}
 use Rattle.mirror_walk.specs.declared.marks.Marks.{Marks}

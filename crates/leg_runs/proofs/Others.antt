@@ -33,11 +33,8 @@ use Rattle.whole_run.specs.Settings.{Setting}
 use Rattle.script_text.specs.declared.script.Script.{Script}
 use Rattle.script_text.specs.Ops.{data_fault}
 use Rattle.script_text.specs.Segments.{is_inside}
-use Rattle.script_ground.specs.SuitsStack.{IsStackOp}
-use Rattle.script_ground.proofs.AtTarget.{device-is, known-in}
-use Rattle.script_ground.proofs.Segments.{lies, one-stands}
-use Rattle.script_stack.specs.Causes.{table_of}
-use Rattle.mirror_script.specs.MirrorFaults.{op_fault}
+use Rattle.mirror_legs.proofs.Passed.{device-is, known-in, lies, one-stands, no_fault, found_inside}
+use Rattle.mirror_legs.specs.Passed.{table_of, IsStackOp, op_fault}
 use Rattle.mirror_walk.specs.Mirror.{Mirror, blocks_in, marks_of}
 use Rattle.mirror_walk.specs.LegByLeg.{Leaves}
 use Rattle.mirror_walk.proofs.OtherOps.{no_request}
@@ -48,7 +45,6 @@ use Rattle.leg_runs.proofs.Fetched.{fetch-goes}
 use Rattle.leg_runs.proofs.OneLeg.{ReadLaw}
 use Rattle.leg_runs.proofs.Requests.{overwrite-fits, request-fits}
 use Rattle.leg_runs.proofs.Wrote.{Goes, standing, write-goes}
-use Rattle.script_laws.proofs.OpForms.{no_fault, found_inside}
 
 -- ---- a stored block is changed
 

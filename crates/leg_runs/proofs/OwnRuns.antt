@@ -22,12 +22,8 @@ use Rattle.whole_run.specs.Settings.{Setting, block_of}
 use Rattle.whole_run.specs.Steps.{Reads, Writes, body_of, frame_at}
 use Rattle.run_laws.specs.Records.{recorded}
 use Rattle.run_laws.specs.TakenWalk.{taken_acts, taken_replies, taken_reply}
-use Rattle.run_follows.specs.Requests.{requests_from}
-use Rattle.run_follows.specs.Settling.{AreAllWhole}
-use Rattle.stack_core.specs.Stacks.{IsStack}
-use Rattle.stack_core.specs.declared.stack.Stack.{Stack}
 use Rattle.script_text.specs.declared.script.Script.{Script}
-use Rattle.script_stack.specs.Followed.{IsBackedBy, failed_in, opening_of, setting_of, unit_of}
+use Rattle.mirror_legs.specs.Passed.{IsBackedBy, failed_in, opening_of, setting_of, unit_of, requests_from, AreAllWhole, IsStack, Stack}
 use Rattle.mirror_legs.specs.declared.piece.Piece.{Piece}
 use Rattle.mirror_legs.specs.Inner.{first_virt, page_segs, pages_for, puts, read_pi_script, read_script, write_script}
 use Rattle.mirror_legs.proofs.Turns.{gathered, segs_cells}

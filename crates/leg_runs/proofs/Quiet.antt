@@ -20,10 +20,8 @@ use Rattle.whole_run.specs.Past.{Brought}
 use Rattle.whole_run.specs.Settings.{Block, Setting, route}
 use Rattle.script_text.specs.Bindings.{is_shift, or_else, request_at}
 use Rattle.script_text.specs.declared.script.Script.{Script}
-use Rattle.script_laws.specs.Keeping.{Each}
-use Rattle.script_ground.proofs.Bodies.{if-none}
-use Rattle.script_ground.proofs.Standing.{or-none}
-use Rattle.mirror_script.specs.MirrorFaults.{faults_fault, is_bad_line, is_past, length_fault, mirror_fault, mode_fault, ops_fault}
+use Rattle.mirror_legs.proofs.Passed.{if-none, or-none}
+use Rattle.mirror_legs.specs.Passed.{faults_fault, is_bad_line, is_past, length_fault, mirror_fault, mode_fault, ops_fault, Each}
 use Rattle.mirror_walk.specs.Repair.{reading, steady, writing}
 use Rattle.mirror_legs.specs.declared.piece.Piece.{Piece}
 use Rattle.mirror_legs.specs.Inner.{first_label, first_virt, own_faults, own_script, page_segs, pages_for, puts, read_pi_script, write_script}

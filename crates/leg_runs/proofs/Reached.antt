@@ -12,8 +12,8 @@ use Rattle.target_answer.specs.declared.units.UnitSpec.{UnitSpec}
 use Rattle.volume_table.specs.declared.device.DeviceInfo.{DeviceInfo}
 use Rattle.volume_table.specs.Faults.{device}
 use Rattle.volume_table.specs.Tables.{IsOn}
-use Rattle.stack_core.specs.Doing.{HasChangedBlocks}
-use Rattle.script_ground.proofs.Addresses.{IsChange}
+use Rattle.mirror_legs.specs.Passed.{HasChangedBlocks}
+use Rattle.mirror_legs.proofs.Passed.{IsChange}
 use Rattle.leg_runs.specs.Standing.{HasLegDevices}
 
 -- a block of the volume's kind, as a rig that tells its image has it

@@ -10,14 +10,12 @@ use Rattle.dix_adapter.specs.Ways.{shapes_of}
 use Rattle.stack_ops.specs.declared.reply.Reply.{Reply}
 use Rattle.volume_table.specs.declared.device.DeviceInfo.{DeviceInfo}
 use Rattle.script_text.specs.declared.script.Script.{Script}
-use Rattle.script_ground.specs.Units.{AreStored}
-use Rattle.script_stack.specs.Causes.{table_of}
-use Rattle.script_stack.proofs.Following.{told-shapes, told-stored}
+use Rattle.mirror_legs.specs.Passed.{table_of, AreStored}
+use Rattle.mirror_legs.proofs.Passed.{told-shapes, told-stored, is_told}
 use Rattle.leg_runs.specs.LegRuns.{AllWalked, LegRun, RanLegs}
 use Rattle.leg_runs.specs.Mending.{Mended, RepairBy, stretches_in}
 use Rattle.leg_runs.specs.OnOps.{Sides}
 use Rattle.leg_runs.specs.Standing.{HasLegDevices, IsBoundMirror, IsRepairedAs, RepairsAsWalk, StandsAt, half_of}
-use Rattle.stack_core.proofs.ToldOps.{is_told}
 
 -- what the law of a repair says
 abbrev pub RepairLaw : Type 0

@@ -18,9 +18,7 @@ use Rattle.whole_run.specs.Settings.{Block, Setting}
 use Rattle.whole_run.specs.Steps.{each_from}
 use Rattle.whole_run.proofs.InSteps.{each_length}
 use Rattle.script_text.specs.declared.script.Script.{Script}
-use Rattle.script_ground.specs.Units.{AreStored}
-use Rattle.script_stack.specs.Causes.{table_of}
-use Rattle.script_stack.specs.Followed.{none_fails, setting_of}
+use Rattle.mirror_legs.specs.Passed.{table_of, none_fails, setting_of, AreStored}
 use Rattle.mirror_walk.specs.Mirror.{fresh, is_none, marks_of}
 use Rattle.mirror_walk.specs.Repair.{WalkedRepair, good, mirror_repair, on_leg0, on_leg1, reading, repair_from, steady}
 use Rattle.mirror_walk.specs.Sizes.{KeepsSizes}

@@ -21,16 +21,8 @@ use Rattle.script_lines.specs.declared.kind.ScriptKind.TheVariants.{BadFault, Ba
 use Rattle.script_text.specs.Bindings.{is_alterable, is_bad_change, or_else}
 use Rattle.script_text.specs.declared.script.Script.{Script}
 use Rattle.script_text.specs.Ops.{data_fault}
-use Rattle.script_ground.specs.SuitsStack.{IsStackOp}
-use Rattle.script_ground.proofs.Addresses.{IsChange, good-change}
-use Rattle.script_ground.proofs.Bodies.{alone-of, if-none}
-use Rattle.script_ground.proofs.OverUnits.{op-keeps}
-use Rattle.script_ground.proofs.Segments.{distinct-body, stands}
-use Rattle.script_ground.proofs.Standing.{or-none}
-use Rattle.script_ground.proofs.Suits.{stack-op}
-use Rattle.script_ground.proofs.Ops.{line-none}
-use Rattle.script_stack.specs.Causes.{table_of}
-use Rattle.mirror_script.specs.MirrorFaults.{faults_fault, length_fault, mode_fault, op_fault, ops_fault, range_fault}
+use Rattle.mirror_legs.proofs.Passed.{IsChange, good-change, alone-of, if-none, op-keeps, distinct-body, stands, or-none, stack-op, line-none}
+use Rattle.mirror_legs.specs.Passed.{table_of, IsStackOp, faults_fault, length_fault, mode_fault, op_fault, ops_fault, range_fault}
 use Rattle.mirror_legs.specs.MirrorScript.{IsPiece}
 use Rattle.leg_runs.specs.OnOps.{whole_request}
 use Rattle.leg_runs.specs.Standing.{IsBoundMirror, half_of, op_at}

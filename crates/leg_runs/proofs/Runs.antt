@@ -2,10 +2,8 @@
 use Rattle.std.proofs.Common.{ℕ, ◌≡◌, ◌+◌, ◌≤◌, List, [], ◌∷◌, ◌++◌, length, min, inl, refl, sym, ap, subst, ◌∙◌, append_assoc, append-nil, arith}
 use Rattle.target_answer.specs.Target.{Stored}
 use Rattle.script_text.specs.declared.script.Script.{Script}
-use Rattle.script_stack.specs.Followed.{Ran}
-use Rattle.script_stack.proofs.Ended.{known_from}
-use Rattle.stack_core.specs.Mediums.{RoseBy, medium_lines}
-use Rattle.stack_core.specs.declared.stack.Stack.{Stack}
+use Rattle.mirror_legs.specs.Passed.{Ran, RoseBy, medium_lines, Stack}
+use Rattle.mirror_legs.proofs.Passed.{known_from}
 use Rattle.volume_table.specs.declared.device.DeviceInfo.{DeviceInfo}
 use Rattle.volume_table.specs.Tables.{Table}
 use Rattle.leg_runs.specs.LegRuns.{AllBacked, AllFallen, AllWalked, GoOn, LegRun, RanLegs, all_mediums, all_records}

@@ -4,7 +4,7 @@ use Rattle.page_pool.specs.Pages.{IsBlank}
 use Rattle.target_answer.specs.Target.{Stored}
 use Rattle.volume_table.specs.declared.device.DeviceInfo.{DeviceInfo}
 use Rattle.script_text.specs.declared.script.Script.{Script}
-use Rattle.script_stack.proofs.Begins.{blank-cells}
+use Rattle.mirror_legs.proofs.Passed.{blank-cells}
 use Rattle.mirror_walk.specs.Mirror.{fresh}
 use Rattle.leg_runs.specs.OnOps.{Sides}
 use Rattle.leg_runs.specs.Standing.{StandsAt, half_of}

@@ -2,8 +2,8 @@
 use Rattle.std.proofs.Common.{ℕ, List, ◌++◌, arith}
 use Rattle.dix_base.specs.Told.{Calm}
 use Rattle.stack_ops.specs.declared.reply.Reply.{Reply}
-use Rattle.stack_core.specs.Mediums.{RoseBy, medium_lines}
-use Rattle.stack_core.proofs.NoMedium.{none_named}
+use Rattle.mirror_legs.specs.Passed.{RoseBy, medium_lines}
+use Rattle.mirror_legs.proofs.Passed.{none_named}
 use Rattle.leg_runs.specs.LegRuns.{LegRun, NamesNoMedium, all_mediums}
 use Rattle.leg_runs.proofs.Lines.{lines-append}
 use Rattle.leg_runs.proofs.Runs.{all_mediums-append}

@@ -25,8 +25,7 @@ use Rattle.whole_run.specs.ScriptWalk.{bad_from, reply_of, whole_or_bad}
 use Rattle.whole_run.specs.Settings.{Block, Setting}
 use Rattle.whole_run.proofs.InSteps.{each_length}
 use Rattle.script_text.specs.declared.script.Script.{Script}
-use Rattle.script_stack.specs.Causes.{table_of}
-use Rattle.script_stack.specs.Followed.{HasWalked, none_fails, setting_of}
+use Rattle.mirror_legs.specs.Passed.{table_of, HasWalked, none_fails, setting_of}
 use Rattle.mirror_walk.specs.Mirror.{Mirror}
 use Rattle.mirror_walk.specs.OnLegs.{blocks_on, brought_each, listed_written, marks_written, whys_written, written}
 use Rattle.mirror_walk.specs.LegByLeg.{after_op, answers_of}

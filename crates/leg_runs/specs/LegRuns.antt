@@ -9,10 +9,7 @@ use Rattle.target_answer.specs.Target.{Stored}
 use Rattle.volume_table.specs.declared.device.DeviceInfo.{DeviceInfo}
 use Rattle.volume_table.specs.Tables.{Table}
 use Rattle.script_text.specs.declared.script.Script.{Script}
-use Rattle.script_stack.specs.Followed.{HasFallen, HasWalked, IsBackedBy}
-use Rattle.script_stack.specs.Sends.{SendsFor, by_words}
-use Rattle.stack_core.specs.Mediums.{RoseBy, medium_lines}
-use Rattle.stack_core.specs.declared.stack.Stack.{Stack}
+use Rattle.mirror_legs.specs.Passed.{HasFallen, HasWalked, IsBackedBy, SendsFor, by_words, RoseBy, medium_lines, Stack}
 
 -- Requests on the legs of a mirror, each as a stack of its own.
 

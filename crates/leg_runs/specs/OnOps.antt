@@ -21,7 +21,7 @@ use Rattle.rig_api.specs.State.{RigState}
 use Rattle.target_answer.specs.Target.{Stored}
 use Rattle.volume_table.specs.declared.device.DeviceInfo.{DeviceInfo}
 use Rattle.volume_table.specs.Tables.{Table}
-use Rattle.script_stack.specs.Causes.{table_of}
+use Rattle.mirror_legs.specs.Passed.{table_of}
 use Rattle.leg_runs.specs.LegRuns.{AllOwn, AllWalked, GoOn, LegRun, RanLegs, found_by, replies_of}
 use Rattle.leg_runs.specs.Asked.{IsReadOf, ReadBy}
 

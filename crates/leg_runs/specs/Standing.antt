@@ -13,11 +13,7 @@ use Rattle.stack_ops.specs.declared.reply.Reply.{Reply}
 use Rattle.whole_run.specs.Past.{steps_from}
 use Rattle.whole_run.specs.Settings.{Setting}
 use Rattle.script_text.specs.declared.script.Script.{Script}
-use Rattle.script_laws.specs.Keeping.{Keeps}
-use Rattle.script_ground.specs.Units.{AreStored}
-use Rattle.script_stack.specs.Causes.{table_of}
-use Rattle.script_stack.specs.Followed.{SizesAre, none_fails, opening_of, setting_of}
-use Rattle.mirror_script.specs.MirrorFaults.{mirror_fault}
+use Rattle.mirror_legs.specs.Passed.{table_of, SizesAre, none_fails, opening_of, setting_of, AreStored, mirror_fault, Keeps}
 use Rattle.mirror_walk.specs.Mirror.{Mirror, count_of, done, mirror_opened, replies_from}
 use Rattle.mirror_walk.specs.Repair.{mirror_repair}
 use Rattle.mirror_walk.specs.declared.marks.Marks.{Marks}

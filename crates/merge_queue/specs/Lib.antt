@@ -1,4 +1,5 @@
 pub mod Chains
+pub mod Counts
 pub mod Groups
 pub mod Index
-pub mod Counts
+pub mod Passed

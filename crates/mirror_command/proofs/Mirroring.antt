@@ -6,17 +6,14 @@ use Rattle.rig_api.specs.Telling.{IsStanding, Standing, units_told}
 use Rattle.rig_api.specs.State.{RigState}
 use Rattle.rig_discovery.specs.Discovery.{info_of}
 use Rattle.target_answer.specs.Target.{Stored}
-use Rattle.script_stack.proofs.Octets.{blocks_octets}
+use Rattle.run_command.proofs.Passed.{blocks_octets, known_from, one_left, still_told, sizes-found, told-shapes, told-stored, is_told}
 use Rattle.volume_table.specs.declared.device.DeviceInfo.{DeviceInfo}
 use Rattle.script_text.specs.declared.script.Script.{Script}
-use Rattle.script_stack.specs.Followed.{KnownBlocks, SizesAre}
-use Rattle.script_stack.proofs.Ended.{known_from, one_left, still_told}
-use Rattle.script_stack.proofs.Following.{sizes-found, told-shapes, told-stored}
+use Rattle.run_command.specs.Passed.{KnownBlocks, SizesAre}
 use Rattle.run_command.proofs.Devices.{has_device, image_holds, known_infos}
 use Rattle.run_command.specs.Verdict.{HoldsBlocks, WasAsked}
-use Rattle.leg_runs.specs.LegRuns.{NamesNoMedium}
-use Rattle.leg_runs.proofs.Unnamed.{calm-unnamed}
-use Rattle.leg_runs.specs.Standing.{HasLegDevices, IsBoundMirror, IsMirrorOver, IsRepairedAs}
+use Rattle.mirror_volume.specs.Passed.{NamesNoMedium, HasLegDevices, IsBoundMirror, IsMirrorOver, IsRepairedAs}
+use Rattle.mirror_volume.proofs.Passed.{calm-unnamed}
 use Rattle.mirror_volume.specs.declared.mirror.Mirror.{Mirror}
 use Rattle.mirror_volume.proofs.Enough.{repaired-all}
 use Rattle.mirror_volume.specs.Enough.{WasEnough}
@@ -27,7 +24,6 @@ use Rattle.mirror_command.specs.declared.mirrored.Mirrored.{Mirrored}
 use Rattle.mirror_walk.specs.Repair.{WalkedRepair}
 use Rattle.mirror_walk.specs.declared.marks.Marks.{Marks}
 use Rattle.stack_ops.specs.declared.reply.Reply.{Reply}
-use Rattle.stack_core.proofs.ToldOps.{is_told}
 
 -- the rig has the devices that were asked
 pub has-devices : (name : List ℕ) (devices : List DeviceInfo) (old told : RigState) → WasAsked name devices old told → told.units ≡ units_told told.standing told.image → HasLegDevices devices (is_some told.image) told.standing

@@ -10,19 +10,16 @@ use Rattle.volume_table.specs.declared.device.DeviceInfo.{DeviceInfo}
 use Rattle.volume_table.specs.Tables.{Table}
 use Rattle.dix_adapter.specs.Ways.{blocks_told, shapes_of}
 use Rattle.block_path.specs.Moves.{hidden}
-use Rattle.run_follows.specs.Falls.{of_blocks}
-use Rattle.run_follows.specs.Flips.{with_flips}
 use Rattle.stack_ops.specs.declared.op.Op.{Op}
 use Rattle.stack_ops.specs.declared.op.Op.TheVariants.{Fetch, FetchPi, Fill, Overwrite, Put, Seal, Show, Wait, Write, WritePi}
 use Rattle.stack_ops.specs.declared.reply.Reply.{Reply}
 use Rattle.stack_ops.specs.declared.reply.Reply.TheVariants.{Bad, Medium, Shown, Silent, Whole}
 use Rattle.script_text.specs.declared.script.Script.{Script}
-use Rattle.script_stack.specs.Followed.{HasFallen, failed_in, opening_of, setting_of}
+use Rattle.run_command.specs.Passed.{HasFallen, failed_in, opening_of, setting_of, of_blocks, with_flips}
 use Rattle.run_command.specs.Layers.{NamesFaults, is_fault}
 use Rattle.run_command.proofs.Layers.{names-faults}
-use Rattle.leg_runs.specs.LegRuns.{AllFallen, LegRun, RanLegs, replies_of}
-use Rattle.leg_runs.specs.OnOps.{OpBy, OpRan, OpTells, OverwriteTells, Sides}
-use Rattle.leg_runs.proofs.Listed.{EachLists, ListsOnly, op-lists}
+use Rattle.mirror_volume.specs.Passed.{AllFallen, LegRun, RanLegs, replies_of, OpBy, OpRan, OpTells, OverwriteTells, Sides}
+use Rattle.mirror_volume.proofs.Passed.{EachLists, ListsOnly, op-lists}
 
 -- ---- the two ways to say it
 

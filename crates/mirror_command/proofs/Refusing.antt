@@ -7,7 +7,7 @@ use Rattle.call_refusal.specs.Refusals.{of_script}
 use Rattle.call_refusal.proofs.WantOfMemory.{of_either}
 use Rattle.script_text.specs.declared.fault.ScriptFault.{ScriptFault}
 use Rattle.script_text.specs.declared.script.Script.{Script}
-use Rattle.script_stack.specs.Causes.{table_of}
+use Rattle.run_command.specs.Passed.{table_of}
 use Rattle.volume_table.specs.Tables.{MadeFor, Table}
 use Rattle.volume_table.specs.declared.device.DeviceInfo.{DeviceInfo}
 use Rattle.mirror_script.specs.MirrorFaults.{mirror_fault}
@@ -16,7 +16,7 @@ use Rattle.run_command.specs.Verdict.{Facts, HasRead, HasTable, WasAsked}
 use Rattle.run_command.specs.Working.{CauseNoTable, IsSound}
 use Rattle.call_refusal.specs.declared.refusal.Refusal.{Refusal}
 use Rattle.call_refusal.specs.declared.refusal.Refusal.TheVariants as refusal
-use Rattle.leg_runs.specs.Standing.{IsBoundMirror}
+use Rattle.mirror_volume.specs.Passed.{IsBoundMirror}
 use Rattle.mirror_command.specs.Verdict.{CauseRefused, CauseStopped, HasMirrored, HasMirroredSource}
 use Rattle.mirror_command.specs.Working.{CauseUnbound, IsFree}
 use Rattle.mirror_command.specs.declared.mirrored.Mirrored.{Mirrored}

@@ -13,9 +13,8 @@ use Rattle.stack_ops.specs.declared.reply.Reply.{Reply}
 use Rattle.volume_table.specs.declared.device.DeviceInfo.{DeviceInfo}
 use Rattle.volume_table.specs.Tables.{Table}
 use Rattle.whole_run.specs.Past.{steps_from}
-use Rattle.stack_core.specs.Mediums.{RoseBy, medium_lines}
 use Rattle.script_text.specs.declared.script.Script.{Script}
-use Rattle.script_stack.specs.Causes.{table_of}
+use Rattle.run_command.specs.Passed.{table_of, RoseBy, medium_lines}
 use Rattle.run_command.specs.Layers.{NamesFaults}
 use Rattle.mirror_walk.specs.Mirror.{Mirror as Walk, count_of, done, mirror_opened, replies_from}
 use Rattle.mirror_walk.specs.Repair.{WalkedRepair, mirror_repair}
@@ -23,17 +22,12 @@ use Rattle.mirror_walk.specs.declared.marks.Marks.{Marks}
 use Rattle.mirror_volume.specs.declared.mirror.Mirror.{Mirror}
 use Rattle.std.specs.declared.alloc.AllocError.{AllocError}
 use Rattle.mirror_volume.specs.declared.repair.Repair.{Repair as Done}
-use Rattle.leg_runs.specs.LegRuns.{AllBacked, AllOwn, GoOn, LegRun, NamesNoMedium, RanLegs, all_mediums, all_records}
-use Rattle.leg_runs.specs.Mending.{IsRepairOf, RepairBy, stretches_in}
-use Rattle.leg_runs.specs.OnOps.{OpAsks, OpBy, OpRan, OpTells, Sides}
+use Rattle.mirror_volume.specs.Passed.{AllBacked, AllOwn, GoOn, LegRun, NamesNoMedium, RanLegs, all_mediums, all_records, IsRepairOf, RepairBy, stretches_in, OpAsks, OpBy, OpRan, OpTells, Sides, HasLegDevices, IsRepairedAs, KeepsToWalk, RepairsAsWalk, StandsAt, half_of, mirror_setting, op_at, walked}
 use Rattle.mirror_volume.specs.declared.legs.Plan.{Plan}
 use Rattle.mirror_volume.specs.Enough.{opening_over}
 use Rattle.mirror_volume.specs.Plans.{IsMirror}
 use Rattle.mirror_volume.specs.Running.{CanGoOn}
-use Rattle.leg_runs.specs.Standing.{HasLegDevices, IsRepairedAs, KeepsToWalk, RepairsAsWalk, StandsAt, half_of, mirror_setting, op_at, walked}
-use Rattle.leg_runs.proofs.Lines.{lines-append, op-lines, rose-later}
-use Rattle.leg_runs.proofs.Unnamed.{unnamed-first, unnamed-last}
-use Rattle.leg_runs.proofs.Runs.{all_backed-append, all_mediums-append, all_records-append, go_on-append, rose-add}
+use Rattle.mirror_volume.proofs.Passed.{lines-append, op-lines, rose-later, unnamed-first, unnamed-last, all_backed-append, all_mediums-append, all_records-append, go_on-append, rose-add}
 use Rattle.mirror_command.proofs.Naming.{op-named}
 use Rattle.mirror_command.specs.Stages.{Broke, Finished, HasServedMirror, InStretches, OneMore, Served, Stage, repair_over, walk_over}
 use Rattle.rig_api.specs.State.{RigState}

@@ -1,3 +1,4 @@
+pub mod Passed
 pub mod Stages
 pub mod Texts
 pub mod Verdict

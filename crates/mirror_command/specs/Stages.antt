@@ -5,20 +5,16 @@ use Rattle.target_answer.specs.Target.{Stored}
 use Rattle.volume_table.specs.declared.device.DeviceInfo.{DeviceInfo}
 use Rattle.dix_adapter.specs.Ways.{blocks_told, shapes_of}
 use Rattle.stack_ops.specs.declared.reply.Reply.{Reply}
-use Rattle.stack_core.specs.Mediums.{RoseBy, medium_lines}
 use Rattle.script_text.specs.declared.script.Script.{Script}
-use Rattle.script_stack.specs.Causes.{table_of}
+use Rattle.run_command.specs.Passed.{table_of, RoseBy, medium_lines}
 use Rattle.run_command.specs.Layers.{NamesFaults}
 use Rattle.mirror_walk.specs.declared.marks.Marks.{Marks}
 use Rattle.mirror_walk.specs.Mirror.{Mirror as Walk, mirror_replies, mirror_walk}
 use Rattle.mirror_walk.specs.Repair.{WalkedRepair, mirror_repair}
 use Rattle.mirror_volume.specs.declared.mirror.Mirror.{Mirror}
-use Rattle.leg_runs.specs.LegRuns.{AllBacked, AllOwn, GoOn, LegRun, NamesNoMedium, RanLegs, all_mediums, all_records}
-use Rattle.leg_runs.specs.Mending.{IsRepairOf, RepairBy, stretches_in}
-use Rattle.leg_runs.specs.OnOps.{OpAsks, OpBy, OpRan, OpTells, Sides}
+use Rattle.mirror_volume.specs.Passed.{AllBacked, AllOwn, GoOn, LegRun, NamesNoMedium, RanLegs, all_mediums, all_records, IsRepairOf, RepairBy, stretches_in, OpAsks, OpBy, OpRan, OpTells, Sides, StandsAt, half_of, mirror_setting, op_at}
 use Rattle.mirror_volume.specs.Enough.{opening_over}
 use Rattle.mirror_volume.specs.Plans.{sides_of}
-use Rattle.leg_runs.specs.Standing.{StandsAt, half_of, mirror_setting, op_at}
 use Rattle.rig_api.specs.State.{RigState}
 
 -- Between two ops: pages and marks, how many entries of the schedule are used, the replies so far, the runs on the legs so far, and what the rig shows of itself.

@@ -11,7 +11,7 @@ use Rattle.volume_table.specs.declared.device.DeviceInfo.{DeviceInfo}
 use Rattle.script_text.specs.Language.{script_in}
 use Rattle.script_text.specs.declared.fault.ScriptFault.{ScriptFault}
 use Rattle.script_text.specs.declared.script.Script.{Script}
-use Rattle.script_stack.specs.Followed.{KnownBlocks}
+use Rattle.run_command.specs.Passed.{KnownBlocks}
 use Rattle.run_command.specs.Layers.{NamesFaults}
 use Rattle.run_command.specs.Verdict.{CauseUntaken, Facts, HasBadVolume, HasRead, HasTable, HoldsBlocks, IsFromOutside, StoppedShort, WasAsked, devices_of, table_over}
 use Rattle.call_refusal.specs.declared.refusal.Refusal.{Refusal}
@@ -19,8 +19,7 @@ use Rattle.call_refusal.specs.declared.refusal.Refusal.TheVariants as refusal
 use Rattle.mirror_script.specs.MirrorFaults.{mirror_fault}
 use Rattle.mirror_walk.specs.Mirror.{fresh}
 use Rattle.mirror_volume.specs.Plans.{IsMirror}
-use Rattle.leg_runs.specs.LegRuns.{NamesNoMedium}
-use Rattle.leg_runs.specs.Standing.{IsBoundMirror, half_of}
+use Rattle.mirror_volume.specs.Passed.{NamesNoMedium, IsBoundMirror, half_of}
 use Rattle.mirror_volume.specs.declared.mirror.Mirror.{Mirror}
 use Rattle.mirror_volume.specs.Enough.{WasEnough}
 use Rattle.mirror_volume.specs.Premises.{IsFormedMirror, IsOneGoodRun, IsStillMirror}

@@ -1,7 +1,7 @@
 //! The ops of a mirror, and its repair.
 
 ghost use Rattle.std.specs.Prelude.{◌≡◌, List, [], MatchResult, OnOk, is_some, length};
-ghost use Rattle.leg_runs.specs.LegRuns.{LegRun};
+ghost use Rattle.mirror_volume.specs.Passed.{LegRun};
 ghost use Rattle.mirror_volume.specs.Plans.{IsMirror};
 ghost use Rattle.mirror_volume.specs.Running.{CanGoOn};
 ghost use Rattle.mirror_command.specs.Stages.{Broke, Finished, IsMirrorBegun, Served, stage_of};

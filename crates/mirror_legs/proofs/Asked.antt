@@ -10,9 +10,8 @@ use Rattle.volume_table.specs.declared.device.DeviceInfo.{DeviceInfo}
 use Rattle.script_text.specs.Bindings.{is_shift, or_else, request_at}
 use Rattle.script_text.specs.declared.fault.ScriptFault.{ScriptFault}
 use Rattle.script_text.specs.declared.script.Script.{Script}
-use Rattle.script_laws.specs.Keeping.{Each, Keeps}
-use Rattle.script_ground.proofs.Bodies.{if-none}
-use Rattle.script_ground.proofs.Standing.{or-none}
+use Rattle.script_stack.specs.Passed.{Each, Keeps}
+use Rattle.script_stack.proofs.Passed.{if-none, or-none}
 use Rattle.mirror_script.specs.MirrorFaults.{faults_fault, is_bad_line, is_past, length_fault, mirror_fault, mode_fault, names_blocks, ops_fault}
 use Rattle.mirror_legs.specs.MirrorScript.{IsMirrorScript, without_faults}
 

@@ -1,11 +1,12 @@
-mod OwnPages
-pub mod Turns
-pub mod Renumbered
-pub mod Puts
-pub mod Blocks
-pub mod OnLeg
-pub mod ByApp
-pub mod WithTuples
-pub mod Suits
 pub mod Asked
+pub mod Blocks
+pub mod ByApp
+pub mod OnLeg
+mod OwnPages
+pub mod Passed
+pub mod Puts
+pub mod Renumbered
 mod Rows
+pub mod Suits
+pub mod Turns
+pub mod WithTuples

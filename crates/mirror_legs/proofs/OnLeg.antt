@@ -22,7 +22,6 @@ use Rattle.target_answer.specs.Target.{Stored}
 use Rattle.target_answer.specs.Frames.{stored_size}
 use Rattle.rig_api.specs.Log.{LogEntry}
 use Rattle.rig_discovery.specs.Discovery.{info_of}
-use Rattle.dix_adapter.specs.Ways.{blocks_told, cell_in, shapes_of}
 use Rattle.volume_table.specs.Places.{place_in}
 use Rattle.volume_table.specs.Tables.{MadeFor, Table}
 use Rattle.block_path.specs.Acts.{State}
@@ -39,8 +38,8 @@ use Rattle.whole_run.proofs.CalmRuns.{room as block_ends}
 use Rattle.run_laws.proofs.Layers.{unmoved}
 use Rattle.run_laws.specs.Suited.{IsAtTarget}
 use Rattle.script_text.specs.declared.script.Script.{Script}
-use Rattle.script_ground.specs.Units.{AreStored}
-use Rattle.script_ground.proofs.AtTarget.{TargetSuits, told-long}
+use Rattle.script_stack.specs.Passed.{AreStored, blocks_told, cell_in, shapes_of}
+use Rattle.script_stack.proofs.Passed.{TargetSuits, told-long}
 use Rattle.script_stack.specs.Followed.{HasWalked, opening_of}
 use Rattle.mirror_walk.specs.OnLegs.{data_read}
 use Rattle.mirror_walk.specs.Repair.{reading}

@@ -22,7 +22,7 @@ use Rattle.block_path.specs.Routes.{by_target, medium_lba, moved, passage, targe
 use Rattle.block_path.specs.WayIn.{Delivers, Spoils, Stops, WayIn, adapter_finds_in, at_host, from_device, from_wire, received, verified, way_in}
 use Rattle.block_path.specs.WayOut.{at_device, checked_out, from_adapter, mapped_out, to_wire, way_out}
 use Rattle.script_text.specs.Bindings.{is_shift}
-use Rattle.script_laws.specs.Keeping.{Each}
+use Rattle.script_stack.specs.Passed.{Each}
 use Rattle.mirror_legs.specs.declared.piece.Piece.{Piece}
 use Rattle.mirror_legs.specs.Inner.{first_label, own_faults}
 

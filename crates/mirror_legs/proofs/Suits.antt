@@ -26,8 +26,7 @@ use Rattle.script_text.specs.Rules.{is_count}
 use Rattle.script_text.specs.Segments.{any_share, are_few_each, are_inside, are_whole_tuples, do_overlap, few_from, is_inside, is_whole}
 use Rattle.script_text.specs.declared.fault.ScriptFault.{ScriptFault}
 use Rattle.script_text.specs.declared.script.Script.{Script}
-use Rattle.script_laws.specs.Keeping.{Each, IsWithin, blocks_of}
-use Rattle.script_ground.specs.SuitsStack.{IsStackOp}
+use Rattle.script_stack.specs.Passed.{IsStackOp, Each, IsWithin, blocks_of}
 use Rattle.mirror_script.specs.MirrorFaults.{names_blocks}
 use Rattle.mirror_legs.specs.declared.piece.Piece.{Piece}
 use Rattle.mirror_legs.specs.Inner.{first_label, first_virt, own_faults, page_segs, pages_for, puts, read_pi_script, read_script, write_script}
@@ -36,7 +35,7 @@ use Rattle.mirror_legs.specs.MirrorScript.{IsMirrorScript, IsPiece, IsPieceWithT
 use Rattle.mirror_legs.proofs.OnLeg.{pages_least, pages_room}
 use Rattle.mirror_legs.proofs.Puts.{puts_length}
 use Rattle.mirror_legs.proofs.Renumbered.{is_own, own_line}
-use Rattle.script_laws.proofs.Held.{tag_twice}
+use Rattle.script_stack.proofs.Passed.{tag_twice}
 
 -- ---- a limit
 

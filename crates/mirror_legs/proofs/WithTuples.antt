@@ -8,7 +8,6 @@ use Rattle.target_answer.specs.Target.{Stored}
 use Rattle.rig_api.specs.Log.{LogEntry}
 use Rattle.rig_discovery.specs.Discovery.{info_of}
 use Rattle.stack_ops.specs.declared.reply.Reply.{Reply}
-use Rattle.dix_adapter.specs.Ways.{blocks_told, shapes_of}
 use Rattle.volume_table.specs.Tables.{MadeFor, Table}
 use Rattle.block_path.specs.Acts.{State}
 use Rattle.whole_run.specs.ScriptWalk.{bad_from, whole_or_bad}
@@ -16,8 +15,8 @@ use Rattle.whole_run.specs.Settings.{Block, Setting, block_of}
 use Rattle.whole_run.specs.Steps.{body_of, tuple_of}
 use Rattle.run_laws.proofs.Parts.{tuple_part}
 use Rattle.script_text.specs.declared.script.Script.{Script}
-use Rattle.script_ground.specs.Units.{AreStored}
-use Rattle.script_ground.proofs.AtTarget.{TargetSuits}
+use Rattle.script_stack.specs.Passed.{AreStored, blocks_told, shapes_of}
+use Rattle.script_stack.proofs.Passed.{TargetSuits}
 use Rattle.script_stack.specs.Followed.{HasWalked, opening_of}
 use Rattle.mirror_walk.specs.OnLegs.{data_read}
 use Rattle.mirror_legs.specs.declared.piece.Piece.{Piece}

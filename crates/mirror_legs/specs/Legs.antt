@@ -4,7 +4,6 @@ use Rattle.page_pool.specs.Cells.{flat}
 use Rattle.bio_core.specs.declared.fate.Why.{Why}
 use Rattle.bio_core.specs.declared.fate.Why.TheVariants.{Adapter, App, Block as ByOwner, Medium, Refused, Short, Target}
 use Rattle.target_answer.specs.Target.{Stored}
-use Rattle.dix_adapter.specs.Ways.{blocks_told, shapes_of}
 use Rattle.stack_ops.specs.declared.reply.Reply.{Reply}
 use Rattle.stack_ops.specs.declared.reply.Reply.TheVariants.{Silent}
 use Rattle.volume_table.specs.declared.device.DeviceInfo.{DeviceInfo}
@@ -13,7 +12,7 @@ use Rattle.whole_run.specs.ScriptWalk.{bad_from, whole_or_bad}
 use Rattle.whole_run.specs.Settings.{Block, Setting}
 use Rattle.script_text.specs.declared.script.Script.{Script}
 use Rattle.script_text.specs.Bindings.{binding_fault}
-use Rattle.script_ground.specs.SuitsStack.{SuitsStack}
+use Rattle.script_stack.specs.Passed.{SuitsStack, blocks_told, shapes_of}
 use Rattle.script_stack.specs.Followed.{none_fails, setting_of}
 use Rattle.mirror_walk.specs.OnLegs.{blocks_on, brought_each, data_read, whys_read, whys_written, written}
 use Rattle.mirror_walk.specs.Repair.{reading}

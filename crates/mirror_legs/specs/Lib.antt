@@ -1,3 +1,4 @@
 pub mod Inner
-pub mod MirrorScript
 pub mod Legs
+pub mod MirrorScript
+pub mod Passed

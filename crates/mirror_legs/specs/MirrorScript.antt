@@ -4,7 +4,7 @@ use Rattle.volume_table.specs.Places.{volume_len}
 use Rattle.volume_table.specs.Tables.{Table}
 use Rattle.script_text.specs.Bindings.{is_shift}
 use Rattle.script_text.specs.declared.script.Script.{Script}
-use Rattle.script_laws.specs.Keeping.{Each, IsProtect, IsWithin}
+use Rattle.script_stack.specs.Passed.{Each, IsProtect, IsWithin}
 use Rattle.mirror_script.specs.MirrorFaults.{names_blocks}
 use Rattle.mirror_legs.specs.declared.piece.Piece.{Piece}
 use Rattle.mirror_legs.specs.Inner.{pages_for}

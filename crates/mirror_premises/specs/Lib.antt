@@ -1,2 +1,3 @@
-pub mod Forms
 pub mod FormedMirror
+pub mod Forms
+pub mod Passed

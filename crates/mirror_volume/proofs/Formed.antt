@@ -14,8 +14,7 @@ use Rattle.block_path.specs.Routes.{target}
 use Rattle.mirror_walk.specs.declared.marks.Marks.{Marks}
 use Rattle.script_text.specs.declared.script.Script.{Script}
 use Rattle.script_laws.specs.Keeping.{Each, IsOp as KeepsRules}
-use Rattle.script_ground.proofs.OverUnits.{cell-there}
-use Rattle.script_ground.proofs.Calm.{are-bytes}
+use Rattle.script_stack.proofs.Passed.{cell-there, are-bytes}
 use Rattle.script_stack.specs.Causes.{table_of}
 use Rattle.whole_run.specs.CalmRun.{LiesInImage}
 use Rattle.whole_run.specs.Detectable.{detectable}
@@ -23,7 +22,7 @@ use Rattle.whole_run.specs.Settings.{Setting}
 use Rattle.whole_run.specs.UnderMap.{AreClean, NoneEscapes, address_of, home}
 use Rattle.run_laws.specs.ShownRun.{DevicesAreClean}
 use Rattle.stack_ops.specs.Ops.{is_overwrite}
-use Rattle.run_premises.specs.Forms.{supplies_none}
+use Rattle.mirror_premises.specs.Passed.{supplies_none}
 use Rattle.mirror_walk.specs.OneGood.{AreBytes, OneGood, script_asks}
 use Rattle.mirror_premises.specs.Forms.{is_good_on_legs, spares_other_leg}
 use Rattle.mirror_premises.specs.FormedMirror.{AllPutBytes, HasFormedLegs, HasStillLegs, PutsBytes, ServesLast}

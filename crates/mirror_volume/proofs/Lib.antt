@@ -1,9 +1,10 @@
-pub mod Running
-pub mod Pieces
-pub mod Planned
-pub mod Stretched
-pub mod Helds
-pub mod Premises
 pub mod Enough
 pub mod Formed
+pub mod Helds
+pub mod Passed
+pub mod Pieces
+pub mod Planned
 pub mod PremiseRows
+pub mod Premises
+pub mod Running
+pub mod Stretched

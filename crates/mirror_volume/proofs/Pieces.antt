@@ -10,11 +10,10 @@ use Rattle.stack_ops.specs.declared.op.Op.{Op}
 use Rattle.stack_ops.specs.declared.op.Op.TheVariants.{Fetch, Write}
 use Rattle.script_lines.specs.declared.kind.ScriptKind.TheVariants.{BadRange}
 use Rattle.script_text.specs.Ops.{data_fault}
-use Rattle.script_ground.specs.SuitsStack.{IsStackOp}
-use Rattle.script_ground.proofs.Bodies.{alone-of, if-none}
-use Rattle.script_ground.proofs.Segments.{all-lie, once-both}
+use Rattle.script_stack.specs.Passed.{IsStackOp}
+use Rattle.script_stack.proofs.Passed.{alone-of, if-none, all-lie, once-both}
 use Rattle.script_stack.specs.Causes.{table_of}
-use Rattle.mirror_script.specs.MirrorFaults.{op_fault, range_fault}
+use Rattle.mirror_legs.specs.Passed.{op_fault, range_fault}
 use Rattle.mirror_volume.specs.declared.legs.Plan.{Plan}
 use Rattle.mirror_volume.specs.Plans.{IsPlan, IsRequestOf}
 use Rattle.leg_runs.specs.Standing.{half_of, op_at}

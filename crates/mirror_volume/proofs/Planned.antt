@@ -9,7 +9,7 @@ use Rattle.volume_table.proofs.Sums.{few}
 use Rattle.script_text.specs.declared.script.Script.{Script}
 use Rattle.script_laws.specs.Keeping.{Keeps}
 use Rattle.script_stack.specs.Causes.{table_of}
-use Rattle.mirror_script.specs.MirrorFaults.{mirror_fault}
+use Rattle.mirror_legs.specs.Passed.{mirror_fault}
 use Rattle.mirror_legs.specs.declared.piece.Piece.{Piece}
 use Rattle.mirror_legs.specs.MirrorScript.{IsMirrorScript, IsPiece, IsPieceWithTuples}
 use Rattle.mirror_legs.proofs.Suits.{block_sizes}

@@ -18,14 +18,9 @@ use Rattle.script_text.specs.Ops.{data_fault}
 use Rattle.script_text.specs.declared.script.Script.{Script}
 use Rattle.script_laws.specs.Keeping.{IsOp as KeepsRules}
 use Rattle.script_laws.proofs.OpForms.{no_fault}
-use Rattle.script_ground.proofs.AtTarget.{told-long}
-use Rattle.script_ground.proofs.Bodies.{alone-of}
-use Rattle.script_ground.proofs.Calm.{tag-fits}
-use Rattle.script_ground.proofs.OverUnits.{cell-there, on-address, op-keeps, own-setting}
-use Rattle.script_ground.proofs.Rooms.{body-cells}
-use Rattle.script_ground.proofs.Standing.{or-none}
+use Rattle.script_stack.proofs.Passed.{told-long, alone-of, tag-fits, cell-there, on-address, op-keeps, own-setting, body-cells, or-none}
 use Rattle.script_stack.specs.Causes.{table_of}
-use Rattle.mirror_script.specs.MirrorFaults.{faults_fault, length_fault, mode_fault, names_blocks, op_fault}
+use Rattle.mirror_legs.specs.Passed.{faults_fault, length_fault, mode_fault, names_blocks, op_fault}
 use Rattle.mirror_legs.proofs.Asked.{none_when}
 use Rattle.mirror_walk.specs.OneGood.{AllBind, Binds, IsMirrorRun}
 use Rattle.leg_runs.proofs.Ground.{fits, legs}

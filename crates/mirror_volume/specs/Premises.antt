@@ -10,7 +10,7 @@ use Rattle.whole_run.specs.Past.{brought_by}
 use Rattle.whole_run.specs.UnderMap.{NoneEscapes, home}
 use Rattle.run_laws.specs.ShownRun.{DevicesAreClean}
 use Rattle.stack_ops.specs.Ops.{is_overwrite}
-use Rattle.run_premises.specs.Forms.{escapes_none}
+use Rattle.mirror_premises.specs.Passed.{escapes_none}
 use Rattle.script_text.specs.declared.script.Script.{Script}
 use Rattle.script_stack.specs.Causes.{table_of}
 use Rattle.mirror_walk.specs.OneGood.{OneGood, script_asks}

@@ -12,7 +12,7 @@ ghost use Rattle.mirror_walk.specs.declared.marks.Marks.{Marks as AnyMarks};
 ghost use Rattle.leg_runs.specs.Standing.{IsMirrorOver, IsRepairedAs, StandsAt};
 ghost use Rattle.leg_runs.specs.OnOps.{Sides};
 ghost use Rattle.script_stack.specs.Causes.{table_of};
-ghost use Rattle.mirror_script.specs.MirrorFaults.{mirror_fault};
+ghost use Rattle.mirror_legs.specs.Passed.{mirror_fault};
 ghost use Rattle.mirror_volume.specs.Rows.{devices, script, still_script, us};
 ghost use Rattle.mirror_volume.specs.Enough.{AllReadLast, HasReadLast, WasEnough};
 ghost use Rattle.mirror_volume.specs.Premises.{HoldsBytes, IsFormedMirror, IsOneGoodRun, IsStillMirror};

@@ -3,10 +3,10 @@
 ghost use Rattle.std.specs.Prelude.{◌≡◌, ◌<◌, ◌≤◌, ◌+◌, ◌*◌, ◌^◌, IfOk, OnOk, None, drop, length, take};
 ghost use Rattle.page_pool.specs.Cells.{flat};
 ghost use Rattle.page_pool.specs.Pages.{AllLieIn};
-ghost use Rattle.script_ground.specs.SuitsStack.{SuitsStack};
+ghost use Rattle.script_stack.specs.Passed.{SuitsStack};
 ghost use Rattle.script_text.specs.Bindings.{binding_fault};
 ghost use Rattle.script_stack.specs.Causes.{table_of};
-ghost use Rattle.run_follows.specs.Requests.{requests_from};
+ghost use Rattle.stack_core.specs.Passed.{requests_from};
 ghost use Rattle.stack_core.specs.Stacks.{IsStack};
 ghost use Rattle.mirror_legs.specs.Inner.{page_segs, pages_for, read_pi_script, read_script, write_script};
 ghost use Rattle.leg_runs.specs.LegRuns.{OneRun, found_by, pool_of, replies_of};

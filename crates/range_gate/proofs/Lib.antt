@@ -1,6 +1,7 @@
 pub mod CellLaws
 pub mod Layouts
+pub mod Passed
 pub mod Rising
 pub mod Sweep
-pub mod Unended
 pub mod Turns
+pub mod Unended

@@ -1,5 +1,6 @@
-pub mod Octets
-pub mod State
 pub mod HeadLaws
-pub mod UnitLaws
+pub mod Octets
+pub mod Passed
 pub mod RoomLaws
+pub mod State
+pub mod UnitLaws

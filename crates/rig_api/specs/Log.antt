@@ -11,7 +11,7 @@ use Rattle.sense_codes.specs.declared.Sense.{Sense}
 use Rattle.fault_schedule.specs.declared.Label.{Label}
 use Rattle.rig_api.specs.declared.rig.Record.{Record}
 use Rattle.rig_api.specs.declared.rig.Outcome.{Outcome}
-use Rattle.pi_tuple.specs.declared.TheConstants.{TUPLE}
+use Rattle.cdb_codec.specs.Passed.{TUPLE}
 
 -- a record with its labels and its moved bytes
 pub record LogEntry : Type 0 where

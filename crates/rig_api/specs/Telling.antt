@@ -1,6 +1,6 @@
 use Rattle.std.specs.Prelude.{ℕ, ◌≡◌, ◌+◌, ◌-◌, ◌^◌, min, max, Bool, eqb, leb, ltb, ◌&&◌, ◌⊎◌, Result, Ok, Err, List, [], ◌∷◌, ◌++◌, length, take, drop, slice_index_or, slice_set, Option, Some, None}
 use Rattle.dix_base.specs.Told.{Rose, Becomes}
-use Rattle.pi_tuple.specs.declared.checks.PiType.TheVariants.{Zero}
+use Rattle.cdb_codec.specs.Passed.{Zero}
 use Rattle.fault_schedule.specs.Altered.{byte_at, xored_from}
 use Rattle.fault_schedule.specs.declared.Label.{Label}
 use Rattle.fault_schedule.specs.declared.fault.FaultLine.{FaultLine}

@@ -4,7 +4,7 @@ ghost use Rattle.std.specs.Prelude.{◌≡◌, ◌+◌, ◌*◌, ◌≤◌, ◌<
 ghost use Rattle.rig_api.specs.Log.{capacity_by, capacity_len, frames_done, labels_of, moved_by, moved_of};
 ghost use Rattle.target_answer.specs.Frames.{sent_size};
 ghost use Rattle.target_answer.specs.Requests.{blocks_of, transferred};
-ghost use Rattle.pi_tuple.specs.declared.TheConstants.{TUPLE, LARGEST_BLOCK};
+ghost use Rattle.cdb_codec.specs.Passed.{TUPLE, LARGEST_BLOCK};
 
 use crate::{Outcome, Record};
 use arrayvec::ArrayVec;

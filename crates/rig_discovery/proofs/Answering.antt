@@ -1,8 +1,7 @@
 -- What a rig that tells its blocks puts on record of a look is its unit's answer, whatever faults are armed and whatever its store does.
 use Rattle.std.proofs.Common.{◌≡◌, ℕ, List, [], ◌∷◌, Some, None, refl, sym, ap, ◌∙◌}
 use Rattle.std.specs.Prelude.{replicate}
-use Rattle.target_answer.specs.Frames.{joined}
-use Rattle.target_answer.specs.Target.{Answer, Stored}
+use Rattle.rig_api.specs.Passed.{joined, Answer, Stored}
 use Rattle.rig_api.specs.Log.{entry_of, moved_of}
 use Rattle.rig_api.specs.State.{Exchanged, RigState, Stays}
 use Rattle.rig_api.specs.Telling.{answer_of, at_front, spec_at, unit_at, with_blocks}

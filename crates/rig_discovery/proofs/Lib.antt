@@ -1,4 +1,5 @@
+mod Answering
+pub mod Passed
+mod Steps
 pub mod Telling
 pub mod ToldSizes
-mod Steps
-mod Answering

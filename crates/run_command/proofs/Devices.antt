@@ -3,13 +3,13 @@ use Rattle.std.proofs.Common.{ℕ, ◌≡◌, ◌<◌, true, List, [], ◌∷◌
 use Rattle.std.specs.Prelude.{is_some, map}
 use Rattle.image_commands.proofs.Bytes.{bytes_told, holds_blocks, some_unit}
 use Rattle.image_commands.proofs.Devices.{shapes}
-use Rattle.pi_scrub.specs.Scrubbed.{HasDevices}
+use Rattle.image_commands.specs.Passed.{HasDevices}
 use Rattle.rig_api.specs.Head.{head_of, units_of}
 use Rattle.rig_api.specs.Telling.{IsStanding, Standing, specs_of, units_told}
 use Rattle.rig_api.specs.State.{RigState}
 use Rattle.rig_api.proofs.HeadLaws.{headed, all_specs}
-use Rattle.rig_discovery.specs.Discovery.{info_of}
-use Rattle.dix_adapter.specs.Ways.{blocks_told}
+use Rattle.call_refusal.specs.Passed.{info_of}
+use Rattle.run_follows.specs.Passed.{blocks_told}
 use Rattle.target_answer.specs.Frames.{joined}
 use Rattle.target_answer.specs.Target.{Stored}
 use Rattle.target_answer.proofs.FrameLaws.{joined_append}

@@ -10,7 +10,7 @@ use Rattle.integrity_payload.specs.declared.payload.Owner.TheVariants.{App}
 use Rattle.block_path.specs.Acts.{State}
 use Rattle.block_path.specs.Blocks.{Sent}
 use Rattle.block_path.specs.Moves.{hidden}
-use Rattle.dix_adapter.specs.Ways.{blocks_told}
+use Rattle.run_follows.specs.Passed.{blocks_told}
 use Rattle.rig_api.specs.Log.{LogEntry}
 use Rattle.target_answer.specs.Target.{Stored}
 use Rattle.stack_ops.specs.declared.op.Op.{Op}
@@ -27,9 +27,7 @@ use Rattle.run_laws.specs.Records.{recorded}
 use Rattle.run_follows.specs.AtTheEnd.{EndsAsFalling, IsWrittenOrFails, ReadsOrFails}
 use Rattle.run_follows.specs.Falls.{of_blocks}
 use Rattle.script_text.specs.declared.script.Script.{Script}
-use Rattle.script_ground.proofs.Calm.{falling-run}
-use Rattle.script_ground.proofs.Landing.{room-of-read, room-of-write}
-use Rattle.script_ground.proofs.OverUnits.{IsBoundOver}
+use Rattle.script_stack.proofs.Passed.{falling-run, room-of-read, room-of-write, IsBoundOver}
 use Rattle.run_command.specs.Fallen.{AllReadOrFail, AllWriteOrFail, HasServed}
 use Rattle.run_command.specs.Premises.{IsQuietRun, opening_told, setting_told}
 

@@ -1,9 +1,10 @@
-pub mod Tables
-pub mod Devices
-pub mod Refusing
 pub mod Completing
-pub mod Premises
-pub mod PremiseRows
-pub mod Layers
-pub mod Walked
+pub mod Devices
 pub mod Fallen
+pub mod Layers
+pub mod Passed
+pub mod PremiseRows
+pub mod Premises
+pub mod Refusing
+pub mod Tables
+pub mod Walked

@@ -15,10 +15,10 @@ use Rattle.target_answer.specs.Passing.{found_in, from_medium, to_medium}
 use Rattle.target_answer.specs.Target.{Stored}
 use Rattle.target_answer.specs.declared.units.UnitSpec.{UnitSpec}
 use Rattle.rig_api.specs.Head.{head_fault, head_of}
-use Rattle.rig_discovery.specs.Discovery.{info_of}
+use Rattle.call_refusal.specs.Passed.{info_of}
 use Rattle.block_path.specs.WayIn.{from_wire}
 use Rattle.block_path.specs.WayOut.{to_wire}
-use Rattle.dix_adapter.specs.Ways.{blocks_told}
+use Rattle.run_follows.specs.Passed.{blocks_told}
 use Rattle.stack_ops.specs.declared.op.Op.TheVariants.{Fetch, Write}
 use Rattle.volume_table.specs.Faults.{table_fault}
 use Rattle.volume_table.specs.Tables.{Table}

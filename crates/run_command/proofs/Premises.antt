@@ -2,16 +2,14 @@
 use Rattle.std.proofs.Common.{◌≡◌, ◌<◌, List, map, sym, subst}
 use Rattle.std.specs.Prelude.{All}
 use Rattle.target_answer.specs.Target.{Stored}
-use Rattle.rig_discovery.specs.Discovery.{info_of}
-use Rattle.dix_adapter.specs.Ways.{blocks_told, shapes_of}
+use Rattle.call_refusal.specs.Passed.{info_of}
+use Rattle.run_follows.specs.Passed.{blocks_told, shapes_of}
 use Rattle.volume_table.specs.Tables.{Table}
 use Rattle.volume_table.specs.declared.device.DeviceInfo.{DeviceInfo}
 use Rattle.whole_run.specs.CalmRun.{IsCalmRun}
 use Rattle.run_laws.specs.ShownRun.{DevicesAreClean, IsShownRun}
 use Rattle.script_text.specs.declared.script.Script.{Script}
-use Rattle.script_ground.proofs.Calm.{calm-run}
-use Rattle.script_ground.proofs.OverUnits.{IsBoundOver}
-use Rattle.script_ground.proofs.Shown.{shown-run}
+use Rattle.script_stack.proofs.Passed.{calm-run, IsBoundOver, shown-run}
 use Rattle.run_command.specs.Premises.{IsDetectableRun, IsPlainRun, opening_told, setting_told}
 
 pub plain_run : (s : Script) (t : Table) (us : List Stored) → IsBoundOver s t us → All (All (λ x. x < 256)) (blocks_told us) → IsPlainRun s t us → IsCalmRun (setting_told s t us) s.ops (opening_told s us)

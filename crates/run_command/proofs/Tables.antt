@@ -1,7 +1,7 @@
 -- What a table asks of the devices.
 use Rattle.std.proofs.Common.{All, List, [], ◌∷◌}
 use Rattle.std.proofs.lemmas.List.Elements.{All-cons, All-nil}
-use Rattle.rig_discovery.specs.Discovery.{Ends}
+use Rattle.call_refusal.specs.Passed.{Ends}
 use Rattle.volume_table.specs.Tables.{EndFits}
 use Rattle.volume_table.specs.declared.device.DeviceInfo.{DeviceInfo}
 

@@ -27,10 +27,10 @@ use Rattle.script_stack.proofs.Ended.{BackedLaw, FallenLaw, IsOver, MediumLaw, T
 use Rattle.script_stack.proofs.SendsBy.{AllLaw, FewLaw}
 use Rattle.script_stack.proofs.Words.{sends_own}
 use Rattle.script_laws.specs.Keeping.{Keeps}
-use Rattle.script_ground.proofs.OverUnits.{IsBoundOver}
-use Rattle.rig_discovery.specs.Discovery.{info_of}
+use Rattle.script_stack.proofs.Passed.{IsBoundOver}
+use Rattle.call_refusal.specs.Passed.{info_of}
 use Rattle.script_stack.proofs.Octets.{blocks_octets}
-use Rattle.dix_adapter.specs.Ways.{blocks_told, shapes_of}
+use Rattle.run_follows.specs.Passed.{blocks_told, shapes_of}
 use Rattle.run_command.specs.Fallen.{HasServed}
 use Rattle.run_command.specs.Premises.{IsDetectableRun, IsFormedRun, IsPlainRun, IsQuietRun, opening_told, setting_told}
 use Rattle.run_command.specs.Layers.{NamesFaults, NamesLayers}
@@ -42,7 +42,7 @@ use Rattle.page_pool.specs.declared.segs.Seg.{Seg}
 use Rattle.integrity_payload.specs.declared.payload.Owner.{Owner}
 use Rattle.whole_run.specs.ReadsAs.{ReadsRightly, read_op}
 use Rattle.run_laws.specs.ShownRun.{DevicesAreClean, IsShownRun}
-use Rattle.run_premises.specs.Forms.{escapes_none}
+use Rattle.script_premises.specs.Passed.{escapes_none}
 use Rattle.script_premises.specs.FormedScript.{IsFormedOver, IsFormedScript}
 use Rattle.whole_run.specs.Detectable.{detectable}
 use Rattle.whole_run.specs.Past.{steps_from}

@@ -4,7 +4,7 @@ use Rattle.page_pool.specs.Cells.{flat}
 use Rattle.page_pool.specs.declared.segs.Seg.{Seg}
 use Rattle.integrity_payload.specs.declared.payload.Owner.{Owner}
 use Rattle.block_path.specs.Acts.{State}
-use Rattle.dix_adapter.specs.Ways.{blocks_told}
+use Rattle.run_follows.specs.Passed.{blocks_told}
 use Rattle.rig_api.specs.Log.{LogEntry}
 use Rattle.target_answer.specs.Target.{Stored}
 use Rattle.stack_ops.specs.declared.op.Op.{Op}

@@ -9,7 +9,7 @@ use Rattle.script_text.specs.declared.script.Script.{Script}
 use Rattle.script_stack.specs.Followed.{HasFallen, HasWalked, IsBackedBy, KnownBlocks, NoMediumLine}
 use Rattle.script_stack.specs.Sends.{SendsFor}
 use Rattle.block_path.specs.Acts.{State}
-use Rattle.dix_adapter.specs.Ways.{blocks_told}
+use Rattle.run_follows.specs.Passed.{blocks_told}
 use Rattle.page_pool.specs.declared.segs.Seg.{Seg}
 use Rattle.page_pool.specs.Cells.{flat, gather}
 use Rattle.integrity_payload.specs.declared.payload.Owner.{Owner}

@@ -1,12 +1,12 @@
 use Rattle.std.specs.Prelude.{ℕ, ◌≡◌, ◌+◌, ◌⊎◌, List, length, map, Option, Some, None, Err, Ok}
 use Rattle.dix_base.specs.Told.{Calm, Rose}
 use Rattle.page_pool.specs.Pages.{IsBlank}
-use Rattle.dix_adapter.specs.Groups.{mode_of}
+use Rattle.run_follows.specs.Passed.{mode_of, Holds}
 use Rattle.image_commands.specs.Causes.{CauseUntold, WasTold}
 use Rattle.image_commands.specs.Views.{HasKept, OpenedOnce}
 use Rattle.rig_api.specs.Head.{head_fault, head_of, units_of}
 use Rattle.rig_api.specs.State.{RigState}
-use Rattle.rig_discovery.specs.Discovery.{info_of}
+use Rattle.call_refusal.specs.Passed.{info_of}
 use Rattle.script_lines.specs.declared.kind.ScriptKind.TheVariants.{TooMany}
 use Rattle.script_text.specs.Bindings.{binding_fault}
 use Rattle.script_text.specs.Language.{script_in}
@@ -15,7 +15,6 @@ use Rattle.script_text.specs.declared.script.Script.{Script}
 use Rattle.run_follows.specs.Requests.{pages_from, requests_from}
 use Rattle.stack_core.specs.Stacks.{IsFinished, IsStack, StackStays, plan_in}
 use Rattle.stack_core.specs.declared.stack.Stack.{Stack}
-use Rattle.stack_steps.specs.Does.{Holds}
 use Rattle.stack_view.specs.View.{start}
 use Rattle.volume_table.specs.Faults.{table_fault, volume_type}
 use Rattle.volume_table.specs.Tables.{MadeFor, Table}

@@ -1,7 +1,7 @@
 //! The volume of a script over the devices of a rig.
 
 ghost use Rattle.std.specs.Prelude.{◌≡◌, IfErr, IfOk, None};
-ghost use Rattle.rig_discovery.specs.Discovery.{Ends};
+ghost use Rattle.call_refusal.specs.Passed.{Ends};
 ghost use Rattle.script_text.specs.Bindings.{binding_fault};
 ghost use Rattle.run_command.specs.Verdict.{HasTable};
 ghost use Rattle.run_command.specs.Working.{CauseNoTable, CauseUnbound, IsSound};

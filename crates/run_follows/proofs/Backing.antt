@@ -1,14 +1,10 @@
 -- The record of a finished stack.
 use Rattle.std.proofs.Common.{◌≡◌, ℕ, suc, Bool, true, List, [], ◌∷◌, refl, sym, ap, subst, ◌∙◌}
-use Rattle.rig_api.specs.Log.{LogEntry}
-use Rattle.stack_ops.specs.declared.op.Op.{Op}
-use Rattle.stack_ops.specs.declared.reply.Reply.{Reply}
+use Rattle.dix_adapter.specs.Passed.{LogEntry}
 use Rattle.block_path.specs.Acts.{State}
 use Rattle.block_path.specs.Blocks.{Sent}
 use Rattle.block_path.specs.Moves.{hidden}
-use Rattle.whole_run.specs.ScriptWalk.{reply_of}
-use Rattle.whole_run.specs.Settings.{Setting}
-use Rattle.whole_run.specs.Steps.{steps_of}
+use Rattle.run_laws.specs.Passed.{reply_of, Setting, steps_of, Op, Reply}
 use Rattle.run_laws.specs.BackedRun.{Backed, IsBacked}
 use Rattle.run_laws.specs.CarriedRun.{Carried}
 use Rattle.run_laws.specs.Records.{recorded}

@@ -1,11 +1,9 @@
 -- A script that is bound, over what stands on record.
 use Rattle.std.proofs.Common.{◌≤◌, ℕ, suc, ◌+◌, Bool, true, List, [], ◌∷◌, length, refl, subst}
-use Rattle.stack_ops.specs.declared.op.Op.{Op}
-use Rattle.stack_ops.specs.declared.op.Op.TheVariants.{Fetch, FetchPi, Fill, Overwrite, Put, Seal, Show, Wait, Write, WritePi}
 use Rattle.block_path.specs.Acts.{State}
 use Rattle.block_path.specs.Blocks.{Sent}
 use Rattle.block_path.specs.Routes.{told_by}
-use Rattle.whole_run.specs.Settings.{Setting, block_of, route}
+use Rattle.run_laws.specs.Passed.{Setting, block_of, route, Op, Fetch, FetchPi, Fill, Overwrite, Put, Seal, Show, Wait, Write, WritePi}
 use Rattle.run_laws.specs.ToldRun.{came_by, told}
 use Rattle.run_laws.specs.BoundRun.{AllBound, AllSuit, IsBound, IsBoundRun}
 use Rattle.run_laws.proofs.AtTarget.{fine_always}

@@ -14,14 +14,11 @@ use Rattle.bio_core.specs.declared.request.Io.{Io}
 use Rattle.bio_core.specs.Bios.{block_size}
 use Rattle.dix_adapter.specs.Groups.{data_cells, tuple_cells}
 use Rattle.dix_adapter.specs.Walking.{HasHost}
-use Rattle.stack_ops.specs.declared.op.Op.{Op}
-use Rattle.stack_ops.specs.declared.op.Op.TheVariants.{Fetch, FetchPi, Fill, Overwrite, Put, Seal, Show, Wait, Write, WritePi}
 use Rattle.block_path.specs.declared.route.Route.{Route}
 use Rattle.block_path.specs.Acts.{Act}
 use Rattle.block_path.specs.Blocks.{ActAnswer}
 use Rattle.block_path.specs.Moves.{make_tuple, map_back, map_out, settle}
-use Rattle.whole_run.specs.Settings.{Setting, block_of, route}
-use Rattle.whole_run.specs.Steps.{Reads, Step, Writes, WritesPi, body_of, frame_at, steps_of, tuple_of}
+use Rattle.run_laws.specs.Passed.{Setting, block_of, route, Reads, Step, Writes, WritesPi, body_of, frame_at, steps_of, tuple_of, Op, Fetch, FetchPi, Fill, Overwrite, Put, Seal, Show, Wait, Write, WritePi}
 use Rattle.run_laws.specs.ScriptMoves.{own_at}
 use Rattle.run_follows.specs.Sending.{carriage_of}
 use Rattle.run_follows.specs.Slots.{parts_of}

@@ -12,8 +12,7 @@ use Rattle.block_path.specs.Moves.{carried_in, carry_in, carry_out}
 use Rattle.block_path.specs.WayIn.{Delivers, Spoils, Stops, WayIn, comes_in}
 use Rattle.block_path.specs.WayOut.{Fails, Refuses, Stores, WayOut, goes_out}
 use Rattle.block_path.specs.Serial.{all_done, none_done}
-use Rattle.whole_run.specs.Settings.{Setting, route}
-use Rattle.whole_run.specs.Steps.{Alters, Reads, Seals, Sets, Shows, Step, Writes, WritesPi}
+use Rattle.run_laws.specs.Passed.{Setting, route, Alters, Reads, Seals, Sets, Shows, Step, Writes, WritesPi}
 use Rattle.run_laws.specs.EarlierWrites.{HasLog}
 use Rattle.run_laws.specs.Records.{Mixed, is_out, put_frame, put_sent, writes_at, sents}
 use Rattle.run_laws.specs.BoundRun.{fates, rooms}

@@ -17,9 +17,8 @@ use Rattle.std.specs.Prelude.{Option, Some, None}
 use Rattle.block_path.specs.declared.mode.Mode.{Mode}
 use Rattle.dix_adapter.specs.Groups.{blocks_in}
 use Rattle.dix_adapter.proofs.Blocks.{length-blocks}
-use Rattle.merge_queue.specs.Chains.{no_bio}
-use Rattle.merge_queue.specs.Groups.{size}
-use Rattle.merge_queue.proofs.Moves.{size-append}
+use Rattle.stack_view.specs.Passed.{no_bio, size}
+use Rattle.stack_view.proofs.Passed.{size-append}
 use Rattle.run_follows.specs.Settled.{AllSettled, BioSettled, Blanked, Judged, KeptFates, LeftBy, MappedBack, OneSettled, Settled, TupleBlanked}
 use Rattle.run_follows.specs.Settling.{AreFates, blocks_before}
 use Rattle.run_follows.specs.Sheets.{io_at}

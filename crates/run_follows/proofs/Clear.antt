@@ -10,7 +10,7 @@ use Rattle.pi_tuple.specs.declared.checks.Check.{Check}
 use Rattle.dix_adapter.specs.declared.adapter.Adapter.{Adapter}
 use Rattle.dix_adapter.specs.Carried.{any_bad, any_fails, arrives, carried, fates_in, unsent}
 use Rattle.dix_adapter.specs.Outcomes.{rest_of}
-use Rattle.rig_api.specs.declared.rig.Outcome.{Outcome}
+use Rattle.dix_adapter.specs.Passed.{Outcome}
 
 -- a group that is held back has a bad block
 pub held_fails : (rs : List (Result (List ℕ) Check)) → any_bad rs ≡ true → any_fails (map unsent rs) ≡ true

@@ -8,7 +8,7 @@ use Rattle.bio_core.specs.declared.fate.Why.{Why}
 use Rattle.dix_adapter.specs.Groups.{blocks_in}
 use Rattle.range_gate.specs.Gates.{is_waiting}
 use Rattle.range_gate.specs.declared.phase.Phase.{Phase}
-use Rattle.merge_queue.proofs.Lists.{total-one}
+use Rattle.stack_view.proofs.Passed.{total-one}
 use Rattle.stack_view.specs.Blocks.{BlockId, blocks, is_block, is_settled, settled_of, times}
 use Rattle.stack_view.specs.Plan.{Plan, request_at}
 use Rattle.stack_view.specs.Sound.{Sound, is_marked}

@@ -7,10 +7,9 @@ use Rattle.range_gate.specs.Layout.{IsLayoutOf}
 use Rattle.range_gate.specs.Prints.{chosen}
 use Rattle.range_gate.proofs.Layouts.{clash_means}
 use Rattle.bio_core.specs.declared.request.Io.{Io}
-use Rattle.merge_queue.specs.declared.limits.Limits.{Limits}
+use Rattle.stack_view.specs.Passed.{Limits}
 use Rattle.volume_table.specs.Tables.{Table}
-use Rattle.stack_ops.specs.declared.op.Op.{Op}
-use Rattle.stack_ops.specs.Footprints.{footprint}
+use Rattle.run_laws.specs.Passed.{Op, footprint}
 use Rattle.run_follows.specs.Sheets.{do_clash, layout_of, no_print, op_in, plan_of, prints_of}
 
 print_at : (ops : List Op) (shifted : List Bool) (i : ℕ) → get_or (prints_of ops shifted) i no_print ≡ footprint (op_in ops i) (get_or shifted i false)

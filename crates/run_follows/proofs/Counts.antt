@@ -1,8 +1,8 @@
 -- How many blocks the first requests have.
 use Rattle.std.proofs.Common.{◌≡◌, ◌≤◌, ◌<◌, ℕ, zero, suc, ◌+◌, List, [], ◌∷◌, ◌++◌, length, get_or, map, take, refl, ap, ◌∙◌, add-one, below_more, arith}
 use Rattle.std.proofs.lemmas.List.{get_or_append_left, get_or_push, map-append}
-use Rattle.merge_queue.specs.Groups.{numbers}
-use Rattle.merge_queue.proofs.Joins.{numbers-split}
+use Rattle.stack_view.specs.Passed.{numbers}
+use Rattle.stack_view.proofs.Passed.{numbers-split}
 use Rattle.bio_core.specs.declared.request.Io.{Io}
 use Rattle.stack_view.specs.Runs.{blocks_of_requests}
 use Rattle.run_follows.specs.Sheets.{io_at, request_in}

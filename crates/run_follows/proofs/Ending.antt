@@ -2,13 +2,8 @@
 use Rattle.std.proofs.Common.{◌≡◌, ◌<◌, ◌≤◌, ℕ, suc, ◌+◌, Bool, true, false, ◌||◌, eqb, if◌then◌else◌, List, [], ◌∷◌, length, map, take, get_or, Option, Some, None, refl, sym, ap, subst, ◌∙◌, arith}
 use Rattle.std.specs.Prelude.{Result, IfOk, IfSome}
 use Rattle.std.proofs.lemmas.Bool.{eq-eqb, eqb-true, false≢true}
-use Rattle.target_answer.specs.Frames.{stored_size}
+use Rattle.block_path.specs.Passed.{stored_size}
 use Rattle.bio_core.specs.declared.fate.Why.{Why}
-use Rattle.stack_ops.specs.declared.op.Op.{Op}
-use Rattle.stack_ops.specs.declared.op.Op.TheVariants.{Fetch, FetchPi, Fill, Overwrite, Put, Seal, Show, Wait, Write, WritePi}
-use Rattle.stack_ops.specs.declared.reply.BadBlock.{BadBlock}
-use Rattle.stack_ops.specs.declared.reply.Reply.{Reply}
-use Rattle.stack_ops.specs.declared.reply.Reply.TheVariants.{Bad, Medium as MediumReply, Shown, Silent, Whole}
 use Rattle.page_pool.specs.Cells.{gather}
 use Rattle.range_gate.specs.Cells.{cells_of}
 use Rattle.block_path.specs.Acts.{State, act, tell}
@@ -17,10 +12,7 @@ use Rattle.block_path.specs.Moves.{hidden}
 use Rattle.block_path.specs.Routes.{wire_size}
 use Rattle.block_path.specs.Serial.{plain, plain_tells}
 use Rattle.block_path.proofs.InTurn.{plain_append}
-use Rattle.whole_run.specs.Past.{steps_from}
-use Rattle.whole_run.specs.ScriptWalk.{act_of, bad_from, replies_from, reply_of, walk_from, whole_or_bad}
-use Rattle.whole_run.specs.Settings.{Setting, block_of, route}
-use Rattle.whole_run.specs.Steps.{Alters, Reads, Seals, Sets, Shows, Step, Writes, WritesPi, steps_of}
+use Rattle.run_laws.specs.Passed.{steps_from, act_of, bad_from, replies_from, reply_of, walk_from, whole_or_bad, Setting, block_of, route, Alters, Reads, Seals, Sets, Shows, Step, Writes, WritesPi, steps_of, Op, Fetch, FetchPi, Fill, Overwrite, Put, Seal, Show, Wait, Write, WritePi, BadBlock, Reply, Bad, Medium as MediumReply, Shown, Silent, Whole}
 use Rattle.run_laws.specs.FallingReads.{falling_replies}
 use Rattle.run_laws.specs.StoreFaults.{falling_walk, may_fall}
 use Rattle.run_laws.specs.BoundRun.{AllBound, AllSuit, IsBound, IsBoundRun}

@@ -2,16 +2,11 @@
 use Rattle.std.proofs.Common.{◌≡◌, ℕ, zero, suc, ◌+◌, Bool, true, false, List, [], ◌∷◌, ◌++◌, length, map, take, drop, get_or, Option, Some, None, refl, sym, ap, subst, ◌∙◌, arith, length-append}
 use Rattle.integrity_payload.specs.declared.payload.Owner.TheVariants.{Block as OfBlock, App as OfApp}
 use Rattle.bio_core.specs.declared.fate.Why.{Why}
-use Rattle.stack_ops.specs.declared.op.Op.{Op}
-use Rattle.stack_ops.specs.declared.op.Op.TheVariants.{Fetch, FetchPi, Fill, Overwrite, Put, Seal, Show, Wait, Write, WritePi}
-use Rattle.stack_ops.specs.declared.reply.Reply.TheVariants.{Shown}
 use Rattle.block_path.specs.Acts.{State, act, conflict, tell}
 use Rattle.block_path.specs.Blocks.{ActAnswer, Sent, silent}
 use Rattle.block_path.specs.Serial.{Serial, all_done}
 use Rattle.block_path.proofs.Serial.{ends}
-use Rattle.whole_run.specs.ScriptWalk.{bad_from, reply_of, whole_or_bad}
-use Rattle.whole_run.specs.Settings.{Setting, block_of}
-use Rattle.whole_run.specs.Steps.{Alters, Reads, Seals, Sets, Shows, Step, Writes, WritesPi, body_of, each_from, frame_at, steps_of}
+use Rattle.run_laws.specs.Passed.{bad_from, reply_of, whole_or_bad, Setting, block_of, Alters, Reads, Seals, Sets, Shows, Step, Writes, WritesPi, body_of, each_from, frame_at, steps_of, Op, Fetch, FetchPi, Fill, Overwrite, Put, Seal, Show, Wait, Write, WritePi, Shown}
 use Rattle.run_laws.specs.Records.{Mixed, put_sent, sents}
 use Rattle.run_laws.specs.BoundRun.{IsBoundRun}
 use Rattle.run_laws.specs.ScriptMoves.{all_moves, answers_from, blocks_from, blocks_of, by_moves, carried_by, fates_of, joins, moves_from, own_at, replies_from_moves, room_of, script_moves}

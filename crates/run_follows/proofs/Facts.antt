@@ -8,10 +8,9 @@ use Rattle.std.proofs.lemmas.List.Elements.{All-nil, All-cons, All-head, All-get
 use Rattle.bio_core.specs.declared.bio.Bio.{Bio}
 use Rattle.bio_core.specs.declared.fate.Fate.{Fate}
 use Rattle.bio_core.specs.declared.request.Io.{Io}
-use Rattle.merge_queue.specs.declared.limits.Limits.{Limits}
-use Rattle.merge_queue.specs.Groups.{size}
+use Rattle.stack_view.specs.Passed.{Limits, size}
 use Rattle.volume_table.specs.Tables.{Table}
-use Rattle.stack_ops.specs.declared.op.Op.{Op}
+use Rattle.run_laws.specs.Passed.{Op}
 use Rattle.stack_view.specs.Blocks.{place_of}
 use Rattle.stack_view.specs.Formed.{IsGroup, Named}
 use Rattle.stack_view.specs.Pieces.{bio_of, cut_to, greatest_piece}

@@ -5,14 +5,14 @@ use Rattle.std.proofs.lemmas.Bool.{eq-eqb, eqb-true, false≢true}
 use Rattle.fault_schedule.specs.declared.Label.{Label}
 use Rattle.bio_core.specs.Bios.{Block}
 use Rattle.bio_core.specs.declared.fate.Why.{Why}
-use Rattle.stack_ops.specs.declared.op.Op.{Op}
+use Rattle.run_laws.specs.Passed.{Op}
 use Rattle.block_path.specs.Blocks.{Sent, Site}
 use Rattle.run_laws.specs.Records.{find, is_labelled, is_out, put_frame, stamped, writes_at}
 use Rattle.dix_adapter.specs.Groups.{label_of}
 use Rattle.run_follows.specs.OnRecord.{put_each}
 use Rattle.run_follows.specs.Sending.{IsElsewhere, is_carried}
 use Rattle.run_follows.specs.Slots.{Cut, Status}
-use Rattle.target_answer.specs.Target.{Stop}
+use Rattle.block_path.specs.Passed.{Stop}
 use Rattle.block_path.specs.Routes.{Device}
 use Rattle.run_follows.specs.Falls.{Falls, forgive, forgiven, left_of, none_falls, put_really, really, writes_of}
 use Rattle.run_follows.specs.FollowsFalling.{LeavesSized}

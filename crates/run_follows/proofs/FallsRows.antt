@@ -10,19 +10,13 @@ use Rattle.bio_core.specs.Bios.{Block}
 use Rattle.bio_core.specs.declared.fate.Why.TheVariants.{Medium}
 use Rattle.bio_core.specs.declared.request.Dir.TheVariants.{Write as ToUnit}
 use Rattle.bio_core.specs.declared.request.Io.{Io}
-use Rattle.stack_ops.specs.declared.op.Op.{Op}
-use Rattle.stack_ops.specs.declared.op.Op.TheVariants.{Put, Write}
-use Rattle.stack_ops.specs.declared.reply.Reply.TheVariants.{Bad, Silent}
 use Rattle.block_path.specs.Acts.{State, act, tell}
 use Rattle.block_path.specs.Blocks.{Sent, silent}
 use Rattle.block_path.specs.Routes.{told_by}
 use Rattle.block_path.specs.Serial.{plain, plain_tells}
 use Rattle.block_path.specs.WayOut.{to_wire}
-use Rattle.whole_run.specs.ScriptWalk.{acts_of}
-use Rattle.whole_run.specs.Settings.{Setting, block_of}
-use Rattle.whole_run.specs.Steps.{Writes, body_of}
-use Rattle.whole_run.specs.UnderMap.{home}
-use Rattle.whole_run.proofs.ScriptRows.{faulty, opening, seg}
+use Rattle.run_laws.specs.Passed.{acts_of, Setting, block_of, Writes, body_of, home, Op, Put, Write, Bad, Silent}
+use Rattle.run_laws.proofs.Passed.{faulty, opening, seg}
 use Rattle.run_laws.proofs.ShownRows.{one_list}
 use Rattle.run_laws.specs.BoundRun.{IsBoundRun, Suits}
 use Rattle.run_laws.specs.OpsApart.{IsPlaced, OneCellEach}

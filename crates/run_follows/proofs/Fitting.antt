@@ -3,7 +3,7 @@ use Rattle.std.proofs.Common.{◌≡◌, ◌≤◌, ℕ, ◌*◌, Bool, true, fa
 use Rattle.std.specs.Prelude.{Result, Err, IfOk, ltb}
 use Rattle.page_pool.specs.Cells.{flat}
 use Rattle.fault_schedule.specs.declared.Label.{Label}
-use Rattle.target_answer.specs.Frames.{frames_of}
+use Rattle.block_path.specs.Passed.{frames_of}
 use Rattle.bio_core.specs.Bios.{Block}
 use Rattle.bio_core.specs.declared.bio.Bio.{Bio}
 use Rattle.bio_core.specs.declared.fate.Fate.{Fate}
@@ -13,7 +13,7 @@ use Rattle.bio_core.specs.declared.request.Io.{Io}
 use Rattle.block_path.specs.Blocks.{Sent, Site}
 use Rattle.block_path.specs.Routes.{wire_size}
 use Rattle.block_path.specs.Senses.{why_ended}
-use Rattle.whole_run.specs.Settings.{Block as ScriptBlock, Setting, route}
+use Rattle.run_laws.specs.Passed.{Block as ScriptBlock, Setting, route}
 use Rattle.run_laws.specs.Records.{came_of, find, is_labelled, recorded, stamped}
 use Rattle.run_laws.specs.ToldRun.{came_in}
 use Rattle.dix_adapter.specs.declared.adapter.Adapter.{Adapter}
@@ -29,7 +29,7 @@ use Rattle.run_follows.specs.OnRecord.{put_each}
 use Rattle.run_follows.proofs.Puts.{goes_in, goes_out}
 use Rattle.run_follows.specs.Finished.{FramesFit}
 use Rattle.run_follows.proofs.Recording.{arrived}
-use Rattle.rig_api.specs.State.{RigState}
+use Rattle.dix_adapter.specs.Passed.{RigState}
 
 abbrev Fits : ℕ → Result (List ℕ) Why → Type 0
 Fits w came = IfOk came (λ frame. length frame ≡ w)

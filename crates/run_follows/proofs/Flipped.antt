@@ -1,23 +1,16 @@
 -- Ops of which some flip their blocks move as they did.
 use Rattle.std.proofs.Common.{◌≡◌, ◌⊎◌, inl, inr, ℕ, zero, suc, ◌+◌, ◌<◌, ◌≤◌, Bool, true, false, eqb, if◌then◌else◌, List, [], ◌∷◌, ◌++◌, length, map, take, get_or, Option, Some, None, refl, sym, ap, subst, ◌∙◌, arith}
 use Rattle.std.proofs.lemmas.Bool.{eq-eqb, eqb-true}
-use Rattle.rig_api.specs.declared.change.Change.{Change}
-use Rattle.rig_api.specs.declared.change.Change.TheVariants.{Flip}
+use Rattle.dix_adapter.specs.Passed.{Change, Flip}
 use Rattle.range_gate.specs.Conflicts.{Conflict}
 use Rattle.range_gate.specs.declared.footprint.Footprint.{Footprint}
 use Rattle.bio_core.specs.Bios.{Block}
 use Rattle.bio_core.specs.declared.request.Io.{Io}
-use Rattle.stack_ops.specs.declared.op.Op.{Op}
-use Rattle.stack_ops.specs.declared.op.Op.TheVariants.{Fetch, FetchPi, Fill, Overwrite, Put, Seal, Show, Wait, Write, WritePi}
-use Rattle.stack_ops.specs.Footprints.{footprint}
 use Rattle.block_path.specs.Acts.{Act, State}
 use Rattle.block_path.specs.Blocks.{ActAnswer}
-use Rattle.whole_run.specs.Settings.{Setting}
-use Rattle.whole_run.specs.Steps.{steps_of}
+use Rattle.run_laws.specs.Passed.{Setting, steps_of, reply_of, Op, Fetch, FetchPi, Fill, Overwrite, Put, Seal, Show, Wait, Write, WritePi, footprint, Reply}
 use Rattle.fault_schedule.specs.Altered.{byte_at, xored_from}
 use Rattle.fault_schedule.proofs.Xored.{length-xored}
-use Rattle.stack_ops.specs.declared.reply.Reply.{Reply}
-use Rattle.whole_run.specs.ScriptWalk.{reply_of}
 use Rattle.run_follows.specs.Finished.{AllEnded, HaveEnded, answers_of, replies_of}
 use Rattle.run_follows.specs.Takes.{AllTakeAny, OpTakesAny}
 use Rattle.run_laws.specs.BoundRun.{AllBound, IsBound, IsBoundRun, fates, rooms}

@@ -1,18 +1,13 @@
 -- An overwrite that waits may be another one of its block: a flip of it.
 use Rattle.std.proofs.Common.{◌≡◌, ℕ, suc, ◌+◌, false, ◌||◌, List, [], ◌∷◌, ◌++◌, length, Option, Some, None, refl, sym, ap, subst, ◌∙◌, arith, length-append}
 use Rattle.std.proofs.lemmas.Bool.{or_from, or_parts}
-use Rattle.rig_api.specs.declared.change.Change.{Change}
-use Rattle.rig_api.specs.declared.change.Change.TheVariants.{Flip}
-use Rattle.stack_ops.specs.declared.op.Op.{Op}
-use Rattle.stack_ops.specs.declared.op.Op.TheVariants.{Overwrite}
+use Rattle.dix_adapter.specs.Passed.{Change, Flip}
 use Rattle.block_path.specs.Acts.{Act, State, act, conflict, tell}
 use Rattle.block_path.specs.Blocks.{ActAnswer, Sent, untouched}
 use Rattle.block_path.specs.Serial.{Answered, FreeOfDone, InOrder, walk}
 use Rattle.page_pool.specs.Cells.{share_a_cell}
 use Rattle.range_gate.specs.Cells.{cells_clash}
-use Rattle.whole_run.specs.ScriptWalk.{act_of, source_of}
-use Rattle.whole_run.specs.Settings.{Setting}
-use Rattle.whole_run.specs.Steps.{Alters, Step, steps_of}
+use Rattle.run_laws.specs.Passed.{act_of, source_of, Setting, Alters, Step, steps_of, Op, Overwrite}
 use Rattle.run_laws.specs.ScriptMoves.{all_moves, blocks_from, blocks_of, by_moves, fates_of, moves_from, own_at, room_of, script_moves}
 use Rattle.run_follows.specs.Following.{AllStand, Follows, StandFrom}
 use Rattle.run_follows.specs.Slots.{Status, Waits, parts_of, so_far, done_by}

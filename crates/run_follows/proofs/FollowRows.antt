@@ -6,18 +6,13 @@ use Rattle.std.proofs.lemmas.List.Elements.{All-nil}
 use Rattle.page_pool.specs.Places.{run}
 use Rattle.bio_core.specs.declared.fate.Why.{Why}
 use Rattle.run_laws.specs.ScriptMoves.{own_at}
-use Rattle.stack_ops.specs.declared.op.Op.{Op}
-use Rattle.stack_ops.specs.declared.op.Op.TheVariants.{Put, Write}
 use Rattle.block_path.specs.Acts.{State, act, tell}
 use Rattle.block_path.specs.Blocks.{Sent, silent}
 use Rattle.block_path.specs.Moves.{first_why}
 use Rattle.block_path.specs.Routes.{told_by}
 use Rattle.block_path.specs.Serial.{plain, plain_tells}
-use Rattle.whole_run.specs.ScriptWalk.{acts_of}
-use Rattle.whole_run.specs.Settings.{Setting, block_of}
-use Rattle.whole_run.specs.Steps.{Writes, body_of}
-use Rattle.whole_run.specs.UnderMap.{home}
-use Rattle.whole_run.proofs.ScriptRows.{faulty, opening, seg}
+use Rattle.run_laws.specs.Passed.{acts_of, Setting, block_of, Writes, body_of, home, Op, Put, Write}
+use Rattle.run_laws.proofs.Passed.{faulty, opening, seg}
 use Rattle.run_laws.proofs.ShownRows.{one_list}
 use Rattle.run_laws.specs.Records.{put_sent}
 use Rattle.run_laws.specs.BoundRun.{IsBoundRun, Suits}

@@ -3,15 +3,13 @@ use Rattle.std.proofs.Common.{◌≡◌, ℕ, zero, suc, ◌+◌, ◌<◌, ◌�
 use Rattle.std.proofs.lemmas.List.{get_or-set_other, get_or-set_same, length-append, length-set}
 use Rattle.bio_core.specs.declared.fate.Why.{Why}
 use Rattle.page_pool.specs.Cells.{scatter}
-use Rattle.stack_ops.specs.declared.op.Op.{Op}
 use Rattle.block_path.specs.declared.route.Route.{Route}
 use Rattle.block_path.specs.Acts.{Act, State, act, effect, seen, tell}
 use Rattle.block_path.specs.Blocks.{ActAnswer, Sent, silent}
 use Rattle.block_path.specs.Moves.{carried_in, carry_in, settle}
 use Rattle.block_path.specs.WayIn.{Delivers, Spoils, Stops, WayIn, comes_in}
 use Rattle.block_path.specs.Serial.{Answered, walk}
-use Rattle.whole_run.specs.Settings.{Setting, route}
-use Rattle.whole_run.specs.Steps.{Alters, Reads, Seals, Sets, Shows, Step, Writes, WritesPi, steps_of}
+use Rattle.run_laws.specs.Passed.{Setting, route, Alters, Reads, Seals, Sets, Shows, Step, Writes, WritesPi, steps_of, Op}
 use Rattle.run_laws.specs.BoundRun.{fates}
 use Rattle.run_laws.specs.ScriptMoves.{all_moves, blocks_from, by_moves, fates_of, lands_in, moves_from, own_at, room_of, write_moves}
 use Rattle.run_follows.specs.Following.{AllStand, Follows, StandFrom}

@@ -2,11 +2,11 @@
 use Rattle.std.proofs.Common.{◌≡◌, ℕ, suc, Bool, List, [], ◌∷◌, length, get_or, refl, ap, arith}
 use Rattle.std.proofs.lemmas.List.{length-map}
 use Rattle.bio_core.specs.declared.request.Io.{Io}
-use Rattle.merge_queue.specs.declared.limits.Limits.{Limits}
+use Rattle.stack_view.specs.Passed.{Limits}
 use Rattle.range_gate.specs.Gates.{Gated, IsGateFor, conflict_at}
 use Rattle.range_gate.proofs.Layouts.{clash_means}
 use Rattle.volume_table.specs.Tables.{Table}
-use Rattle.stack_ops.specs.declared.op.Op.{Op}
+use Rattle.run_laws.specs.Passed.{Op}
 use Rattle.stack_steps.specs.Shows.{IsGateOf}
 use Rattle.run_follows.specs.Sheets.{do_clash, layout_of, no_print, plan_of, prints_of, request_in}
 use Rattle.run_follows.proofs.Conflicting.{own_layout}

@@ -6,10 +6,9 @@ use Rattle.bio_core.specs.declared.bio.Bio.{Bio}
 use Rattle.bio_core.specs.declared.fate.Fate.{Fate}
 use Rattle.bio_core.specs.declared.request.Dir.TheVariants.{Write}
 use Rattle.bio_core.specs.declared.request.Io.{Io}
-use Rattle.stack_ops.specs.declared.op.Op.{Op}
 use Rattle.block_path.specs.Acts.{State}
 use Rattle.block_path.specs.Blocks.{Sent}
-use Rattle.whole_run.specs.Settings.{Setting}
+use Rattle.run_laws.specs.Passed.{Setting, Op}
 use Rattle.dix_adapter.specs.declared.adapter.Adapter.{Adapter}
 use Rattle.dix_adapter.specs.Carried.{Unsent, sends, unsent}
 use Rattle.dix_adapter.specs.Groups.{IsCarriedGroup, blocks_in, first_of}

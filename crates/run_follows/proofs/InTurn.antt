@@ -6,8 +6,7 @@ use Rattle.bio_core.specs.declared.bio.Bio.{Bio}
 use Rattle.bio_core.specs.declared.fate.Fate.{Fate}
 use Rattle.bio_core.specs.declared.request.Io.{Io}
 use Rattle.block_path.specs.declared.mode.Mode.{Mode}
-use Rattle.merge_queue.specs.Chains.{no_bio}
-use Rattle.merge_queue.specs.Groups.{size}
+use Rattle.stack_view.specs.Passed.{no_bio, size}
 use Rattle.run_follows.specs.Sheets.{io_at, no_io}
 use Rattle.run_follows.specs.Settled.{AllSettled, BioSettled, KeptFates}
 

@@ -5,13 +5,11 @@ use Rattle.bio_core.specs.declared.fate.Why.{Why}
 use Rattle.range_gate.specs.Gates.{has_ended, is_waiting}
 use Rattle.range_gate.specs.declared.phase.Phase.{Phase}
 use Rattle.range_gate.specs.declared.phase.Phase.TheVariants.{Waiting, Admitted as OpAdmitted, Ended}
-use Rattle.stack_ops.specs.declared.op.Op.{Op}
 use Rattle.stack_view.specs.Plan.{Plan, request_at}
 use Rattle.stack_view.specs.Sound.{Sound}
 use Rattle.stack_view.specs.View.{View, op_at}
 use Rattle.stack_view.proofs.Enabled.{all-at}
-use Rattle.whole_run.specs.Settings.{Setting}
-use Rattle.whole_run.specs.Steps.{Step}
+use Rattle.run_laws.specs.Passed.{Setting, Step, Op}
 use Rattle.run_laws.specs.ScriptMoves.{fates_of}
 use Rattle.run_follows.specs.Gate.{AreOver, is_over}
 use Rattle.run_follows.specs.Slots.{Status}

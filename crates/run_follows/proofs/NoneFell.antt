@@ -1,11 +1,10 @@
 -- Where no block is listed for the medium no store call failed, and the walk in which some fail is the walk.
 use Rattle.std.proofs.Common.{◌≡◌, ℕ, Bool, true, false, if◌then◌else◌, List, [], Option, Some, None, refl, sym, subst, ◌∙◌}
 use Rattle.std.specs.Prelude.{IfSome}
-use Rattle.stack_ops.specs.declared.op.Op.{Op}
 use Rattle.block_path.specs.Acts.{State}
 use Rattle.block_path.specs.Blocks.{Sent}
 use Rattle.fault_schedule.specs.declared.Label.{Label}
-use Rattle.whole_run.specs.Settings.{Setting}
+use Rattle.run_laws.specs.Passed.{Setting, Op}
 use Rattle.run_follows.specs.Following.{Follows}
 use Rattle.run_follows.specs.Slots.{Status}
 use Rattle.run_follows.specs.Falls.{Falls, forgive, forgiven, none_falls, over_falls, put_really, writes_of}

@@ -3,12 +3,7 @@ use Rattle.std.proofs.Common.{◌≡◌, ◌⊎◌, inl, inr, ℕ, zero, suc, �
 use Rattle.bio_core.specs.Bios.{Block}
 use Rattle.bio_core.specs.declared.request.Io.{Io}
 use Rattle.page_pool.specs.Places.{total}
-use Rattle.stack_ops.specs.declared.op.Op.{Op}
-use Rattle.stack_ops.specs.declared.op.Op.TheVariants.{Fetch, FetchPi, Fill, Overwrite, Put, Seal, Show, Wait, Write, WritePi}
-use Rattle.whole_run.specs.CalmRun.{AreVolumeBlocks}
-use Rattle.whole_run.specs.ScriptWalk.{act_of, acts_of}
-use Rattle.whole_run.specs.Settings.{Setting}
-use Rattle.whole_run.specs.Steps.{Alters, Reads, Seals, Sets, Shows, Step, Writes, WritesPi, body_of, each_from, steps_of, tuple_of}
+use Rattle.run_laws.specs.Passed.{AreVolumeBlocks, act_of, acts_of, Setting, Alters, Reads, Seals, Sets, Shows, Step, Writes, WritesPi, body_of, each_from, steps_of, tuple_of, Op, Fetch, FetchPi, Fill, Overwrite, Put, Seal, Show, Wait, Write, WritePi}
 use Rattle.run_laws.specs.EarlierWrites.{HasLog}
 use Rattle.run_laws.specs.BoundRun.{fates, rooms}
 use Rattle.run_laws.specs.OpsApart.{HasBlocks, IsPlaced, IsSpread, OpsConflict}

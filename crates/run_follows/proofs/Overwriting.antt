@@ -4,15 +4,11 @@ use Rattle.std.proofs.lemmas.List.{ext_get_or}
 use Rattle.std.specs.Int.Bits.{xor_assoc, xor_self, xor_zero_l}
 use Rattle.fault_schedule.specs.Altered.{byte_at, xored_from}
 use Rattle.fault_schedule.proofs.Xored.{length-xored, get-xored}
-use Rattle.rig_api.specs.declared.change.Change.{Change}
-use Rattle.rig_api.specs.declared.change.Change.TheVariants.{Flip}
-use Rattle.stack_ops.specs.declared.op.Op.{Op}
-use Rattle.stack_ops.specs.declared.op.Op.TheVariants.{Overwrite, Wait}
+use Rattle.dix_adapter.specs.Passed.{Change, Flip}
 use Rattle.block_path.specs.Acts.{State, act}
 use Rattle.block_path.specs.Blocks.{Sent}
 use Rattle.block_path.specs.Serial.{plain}
-use Rattle.whole_run.specs.ScriptWalk.{acts_of}
-use Rattle.whole_run.specs.Settings.{Setting}
+use Rattle.run_laws.specs.Passed.{acts_of, Setting, Op, Overwrite, Wait}
 use Rattle.run_laws.specs.OpsApart.{IsPlaced, OneCellEach}
 use Rattle.run_follows.specs.Following.{Follows}
 use Rattle.run_follows.specs.Gate.{AllPlaced, BecomesDone, LetsIn}

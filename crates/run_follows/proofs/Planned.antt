@@ -4,11 +4,11 @@ use Rattle.std.specs.Prelude.{◌^◌}
 use Rattle.std.proofs.lemmas.List.{length-map}
 use Rattle.std.proofs.lemmas.List.Elements.{All-get_or}
 use Rattle.bio_core.specs.declared.request.Io.{Io}
-use Rattle.merge_queue.specs.declared.limits.Limits.{Limits}
+use Rattle.stack_view.specs.Passed.{Limits}
 use Rattle.volume_table.specs.Faults.{device}
 use Rattle.volume_table.specs.Tables.{EndFits, IsTable, Table}
 use Rattle.volume_table.specs.Places.{place_in, run_in, volume_len}
-use Rattle.stack_ops.specs.declared.op.Op.{Op}
+use Rattle.run_laws.specs.Passed.{Op}
 use Rattle.stack_view.specs.Plan.{request_at}
 use Rattle.stack_view.specs.Runs.{blocks_of_requests}
 use Rattle.stack_steps.specs.Fine.{Fine}

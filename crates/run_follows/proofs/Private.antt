@@ -7,7 +7,7 @@ use Rattle.page_pool.specs.Walking.{AllStandIn}
 use Rattle.page_pool.proofs.Placing.{among-append, segments_stand}
 use Rattle.page_pool.proofs.Separate.{once-append, run-once, within}
 use Rattle.integrity_payload.specs.Payloads.{AreWholeTuples}
-use Rattle.merge_queue.specs.Groups.{numbers}
+use Rattle.stack_view.specs.Passed.{numbers}
 use Rattle.run_follows.specs.Requests.{pages_for, private_tuples, tuple_page}
 
 -- the tuples of the pages k to k + m - 1

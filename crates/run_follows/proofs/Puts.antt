@@ -17,13 +17,12 @@ use Rattle.cdb_codec.specs.Forms.{Fits, form}
 use Rattle.cdb_codec.specs.declared.choice.Dir2.TheVariants.{In, Out}
 use Rattle.cdb_codec.specs.declared.command.Rw.{Rw}
 use Rattle.cdb_codec.proofs.Inverse.{decoded_form}
-use Rattle.target_answer.specs.Frames.{frames_of, joined, sent_size}
-use Rattle.target_answer.proofs.FrameLaws.{frames_length}
-use Rattle.rig_api.specs.Log.{LogEntry}
-use Rattle.rig_api.specs.State.{RigState}
+use Rattle.block_path.specs.Passed.{frames_of, joined, sent_size}
+use Rattle.block_path.proofs.Passed.{frames_length}
+use Rattle.dix_adapter.specs.Passed.{LogEntry, RigState}
 use Rattle.block_path.specs.Blocks.{Sent, Site}
 use Rattle.block_path.specs.Senses.{why_ended}
-use Rattle.whole_run.specs.Settings.{Setting}
+use Rattle.run_laws.specs.Passed.{Setting}
 use Rattle.run_laws.specs.Records.{came_of, put_blocks, put_decoded, put_entries, put_request, put_rw, recorded, stamped}
 use Rattle.dix_adapter.specs.declared.adapter.Adapter.{Adapter}
 use Rattle.dix_adapter.specs.Carried.{any_bad, command_for, command_of, frame_len, frame_sent, sends, way_of}

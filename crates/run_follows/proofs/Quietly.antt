@@ -9,8 +9,7 @@ use Rattle.block_path.specs.Blocks.{ActAnswer, silent}
 use Rattle.block_path.specs.Moves.{first_why, left_by, settle, settled_by}
 use Rattle.block_path.specs.Serial.{plain_tells}
 use Rattle.block_path.specs.WayIn.{delivered_unless, mapped_back, owner_finds}
-use Rattle.whole_run.specs.Settings.{Setting, route}
-use Rattle.whole_run.specs.Steps.{Alters, Reads, Seals, Sets, Shows, Step, Writes, WritesPi}
+use Rattle.run_laws.specs.Passed.{Setting, route, Alters, Reads, Seals, Sets, Shows, Step, Writes, WritesPi}
 use Rattle.run_laws.specs.ScriptMoves.{by_moves, carried_by, lands_in}
 use Rattle.run_follows.specs.Slots.{before_carrying, parts_of, write_parts}
 use Rattle.run_follows.proofs.Runs.{AllQuiet, IsQuiet}

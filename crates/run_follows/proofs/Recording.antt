@@ -6,10 +6,9 @@ use Rattle.std.proofs.lemmas.List.{length-map, length-take}
 use Rattle.page_pool.specs.Cells.{flat}
 use Rattle.pi_tuple.specs.declared.checks.Check.{Check}
 use Rattle.fault_schedule.specs.declared.Label.{Label}
-use Rattle.target_answer.specs.Frames.{frames_of}
-use Rattle.target_answer.proofs.FrameLaws.{frames_length}
-use Rattle.rig_api.specs.declared.rig.Outcome.{Outcome}
-use Rattle.rig_api.specs.State.{RigState}
+use Rattle.block_path.specs.Passed.{frames_of}
+use Rattle.block_path.proofs.Passed.{frames_length}
+use Rattle.dix_adapter.specs.Passed.{Outcome, RigState}
 use Rattle.bio_core.specs.Bios.{Block}
 use Rattle.bio_core.specs.declared.bio.Bio.{Bio}
 use Rattle.bio_core.specs.declared.fate.Fate.{Fate}
@@ -18,13 +17,12 @@ use Rattle.bio_core.specs.declared.fate.Why.{Why}
 use Rattle.bio_core.specs.declared.fate.Why.TheVariants.{Adapter as ByAdapter}
 use Rattle.bio_core.specs.declared.request.Dir.TheVariants.{Read, Write}
 use Rattle.bio_core.specs.declared.request.Io.{Io}
-use Rattle.stack_ops.specs.declared.op.Op.{Op}
 use Rattle.block_path.specs.Acts.{State}
 use Rattle.block_path.specs.Blocks.{Sent, Site}
 use Rattle.block_path.specs.Routes.{told_by}
 use Rattle.block_path.specs.WayOut.{Refuses, Stores, at_device, from_adapter, goes_out, to_wire}
 use Rattle.block_path.specs.Senses.{why_ended}
-use Rattle.whole_run.specs.Settings.{Setting}
+use Rattle.run_laws.specs.Passed.{Setting, Op}
 use Rattle.run_laws.specs.Records.{came_of, find, is_labelled, recorded, stamped}
 use Rattle.run_laws.specs.ToldRun.{came_by, came_in, told}
 use Rattle.dix_adapter.specs.declared.adapter.Adapter.{Adapter}

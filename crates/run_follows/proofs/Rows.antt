@@ -2,9 +2,9 @@
 use Rattle.std.proofs.Common.{[], ◌∷◌, take, refl}
 use Rattle.bio_core.specs.declared.bio.Bio.{Bio}
 use Rattle.bio_core.specs.declared.request.Dir.TheVariants.{Read, Write}
-use Rattle.rig_api.specs.declared.rig.Outcome.{Outcome}
+use Rattle.dix_adapter.specs.Passed.{Outcome}
 use Rattle.dix_adapter.specs.Groups.{no_bio}
-use Rattle.whole_run.proofs.ScriptRows.{formatted}
+use Rattle.run_laws.proofs.Passed.{formatted}
 use Rattle.run_laws.proofs.RecordRows.{log, m, sense}
 use Rattle.run_follows.specs.OnRecord.{GoesOnRecord}
 

@@ -1,10 +1,8 @@
 -- A stack that follows the walk by some statuses follows it by others that say the same.
 use Rattle.std.proofs.Common.{◌≡◌, ◌<◌, ◌≤◌, ℕ, zero, suc, ◌+◌, List, [], ◌∷◌, length, Option, sym, subst, arith}
-use Rattle.stack_ops.specs.declared.op.Op.{Op}
 use Rattle.block_path.specs.Acts.{State}
 use Rattle.block_path.specs.Blocks.{ActAnswer, Sent}
-use Rattle.whole_run.specs.Settings.{Setting}
-use Rattle.whole_run.specs.Steps.{Step, steps_of}
+use Rattle.run_laws.specs.Passed.{Setting, Step, steps_of, Op}
 use Rattle.run_laws.specs.ScriptMoves.{by_moves, fates_of, own_at, room_of}
 use Rattle.run_follows.specs.Following.{AllStand, Follows, StandFrom}
 use Rattle.run_follows.specs.Slots.{SlotStands, Status, parts_of}

@@ -5,7 +5,7 @@ use Rattle.bio_core.specs.declared.fate.Fate.{Fate}
 use Rattle.bio_core.specs.declared.fate.Fate.TheVariants.{Good, Bad, Untouched}
 use Rattle.bio_core.specs.declared.fate.Why.{Why}
 use Rattle.dix_adapter.specs.Groups.{blocks_in}
-use Rattle.merge_queue.proofs.Lists.{total-one}
+use Rattle.stack_view.proofs.Passed.{total-one}
 use Rattle.stack_view.specs.Blocks.{blocks, times}
 use Rattle.stack_view.specs.Plan.{Plan, request_at}
 use Rattle.stack_view.specs.Sound.{Sound, in_groups, in_queues}

@@ -10,15 +10,13 @@ use Rattle.bio_core.specs.declared.fate.Why.TheVariants.{Adapter as ByAdapter}
 use Rattle.bio_core.specs.declared.request.Dir.{Dir}
 use Rattle.bio_core.specs.declared.request.Dir.TheVariants.{Read, Write}
 use Rattle.bio_core.specs.declared.request.Io.{Io}
-use Rattle.stack_ops.specs.declared.op.Op.{Op}
 use Rattle.block_path.specs.declared.route.Route.{Route}
 use Rattle.block_path.specs.Acts.{Act, Effect, State, act, effect, tell}
 use Rattle.block_path.specs.Blocks.{ActAnswer, Sent, own_cell, stored_cell, written_by}
 use Rattle.block_path.specs.Moves.{carried_in, carry_in, carry_out}
 use Rattle.block_path.specs.WayIn.{at_host, from_device, from_wire}
 use Rattle.block_path.specs.WayOut.{Fails, Refuses, Stores, from_adapter, goes_out, to_wire}
-use Rattle.whole_run.specs.Settings.{Setting, route}
-use Rattle.whole_run.specs.Steps.{Alters, Reads, Seals, Sets, Shows, Step, Writes, WritesPi, steps_of}
+use Rattle.run_laws.specs.Passed.{Setting, route, Alters, Reads, Seals, Sets, Shows, Step, Writes, WritesPi, steps_of, Op}
 use Rattle.run_laws.specs.Records.{find, put_sent, stamped, writes_at}
 use Rattle.run_laws.specs.BoundRun.{fates, rooms}
 use Rattle.run_laws.specs.OpsApart.{OpsConflict}

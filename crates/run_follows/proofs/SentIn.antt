@@ -2,22 +2,19 @@
 use Rattle.std.proofs.Common.{◌≡◌, ◌≤◌, ◌+◌, ℕ, suc, List, [], ◌∷◌, ◌++◌, length, Option, refl, sym, ap, subst, ◌∙◌, arith, append-nil}
 use Rattle.std.specs.Prelude.{IfSome, ltb}
 use Rattle.page_pool.specs.Cells.{flat}
-use Rattle.target_answer.specs.Frames.{frames_of, joined, stored_size}
-use Rattle.target_answer.specs.Target.{Stop, Stored}
-use Rattle.target_answer.proofs.FrameLaws.{frames_length}
-use Rattle.rig_api.specs.Log.{LogEntry}
-use Rattle.rig_api.specs.State.{RigState}
+use Rattle.block_path.specs.Passed.{frames_of, joined, stored_size, Stop, Stored}
+use Rattle.block_path.proofs.Passed.{frames_length}
+use Rattle.dix_adapter.specs.Passed.{LogEntry, RigState}
 use Rattle.bio_core.specs.Bios.{Block}
 use Rattle.bio_core.specs.declared.bio.Bio.{Bio}
 use Rattle.bio_core.specs.declared.fate.Fate.{Fate}
 use Rattle.bio_core.specs.declared.request.Dir.TheVariants.{Read}
 use Rattle.bio_core.specs.declared.request.Io.{Io}
-use Rattle.stack_ops.specs.declared.op.Op.{Op}
 use Rattle.block_path.specs.Acts.{State}
 use Rattle.block_path.specs.Blocks.{Site}
 use Rattle.block_path.specs.WayIn.{Delivers, Spoils, Stops, WayIn}
 use Rattle.block_path.specs.Senses.{why_ended}
-use Rattle.whole_run.specs.Settings.{Setting}
+use Rattle.run_laws.specs.Passed.{Setting, Op}
 use Rattle.run_laws.specs.Records.{came_of, recorded}
 use Rattle.dix_adapter.specs.declared.adapter.Adapter.{Adapter}
 use Rattle.dix_adapter.specs.Carried.{frame_len}

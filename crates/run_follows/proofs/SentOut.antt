@@ -3,23 +3,20 @@ use Rattle.std.proofs.Common.{◌≡◌, ◌≤◌, ℕ, suc, true, false, List,
 use Rattle.std.specs.Prelude.{IfSome, min, ltb}
 use Rattle.std.proofs.lemmas.List.{length-map, length-take}
 use Rattle.page_pool.specs.Cells.{flat}
-use Rattle.target_answer.specs.Frames.{stored_size}
-use Rattle.target_answer.specs.Target.{Stop, Stored}
-use Rattle.rig_api.specs.Log.{LogEntry}
-use Rattle.rig_api.specs.State.{RigState}
+use Rattle.block_path.specs.Passed.{stored_size, Stop, Stored}
+use Rattle.dix_adapter.specs.Passed.{LogEntry, RigState}
 use Rattle.bio_core.specs.Bios.{Block}
 use Rattle.bio_core.specs.declared.bio.Bio.{Bio}
 use Rattle.bio_core.specs.declared.fate.Fate.{Fate}
 use Rattle.bio_core.specs.declared.request.Dir.{Dir}
 use Rattle.bio_core.specs.declared.request.Dir.TheVariants.{Write}
 use Rattle.bio_core.specs.declared.request.Io.{Io}
-use Rattle.stack_ops.specs.declared.op.Op.{Op}
 use Rattle.block_path.specs.Acts.{State, act}
 use Rattle.block_path.specs.Blocks.{Sent, Site}
 use Rattle.block_path.specs.Serial.{plain}
 use Rattle.block_path.specs.WayOut.{Fails, Refuses, Stores, WayOut}
 use Rattle.block_path.specs.Senses.{why_ended}
-use Rattle.whole_run.specs.Settings.{Setting}
+use Rattle.run_laws.specs.Passed.{Setting, Op}
 use Rattle.run_laws.specs.Records.{came_of, recorded}
 use Rattle.dix_adapter.specs.declared.adapter.Adapter.{Adapter}
 use Rattle.dix_adapter.specs.Carried.{any_bad, frame_sent, sends}

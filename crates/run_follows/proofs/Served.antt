@@ -2,14 +2,11 @@
 use Rattle.std.proofs.Common.{◌<◌, ℕ, List, ◌∷◌, ◌++◌, length, sym, subst}
 use Rattle.page_pool.specs.declared.segs.Seg.{Seg}
 use Rattle.integrity_payload.specs.declared.payload.Owner.{Owner}
-use Rattle.stack_ops.specs.declared.op.Op.{Op}
-use Rattle.stack_ops.specs.declared.reply.Reply.{Reply}
 use Rattle.block_path.specs.Acts.{State}
 use Rattle.block_path.specs.Blocks.{Sent}
 use Rattle.block_path.specs.Moves.{hidden}
-use Rattle.whole_run.specs.Settings.{Setting}
+use Rattle.run_laws.specs.Passed.{Setting, read_op, Op, Reply}
 use Rattle.run_laws.specs.FallingReads.{HasRoom}
-use Rattle.whole_run.specs.ReadsAs.{read_op}
 use Rattle.run_laws.specs.StoreFaults.{IsFallingRun}
 use Rattle.run_laws.proofs.FallingOps.{reads_or_fails}
 use Rattle.run_follows.specs.AtTheEnd.{EndsAsFalling, ReadsOrFails}

@@ -2,7 +2,7 @@
 use Rattle.std.proofs.Common.{◌≡◌, ◌≤◌, ℕ, ◌+◌, ◌*◌, true, List, arith}
 use Rattle.std.proofs.Math.Nat.{mul-le-mul_left}
 use Rattle.bio_core.specs.declared.fate.Fate.{Fate}
-use Rattle.rig_api.specs.Log.{HasRoom, Room}
+use Rattle.dix_adapter.specs.Passed.{HasRoom, Room}
 use Rattle.stack_view.specs.Plan.{Plan}
 use Rattle.stack_view.specs.Room.{exchanges_left, frames_left}
 use Rattle.stack_view.specs.Sound.{Answered}

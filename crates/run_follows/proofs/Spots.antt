@@ -1,10 +1,7 @@
 -- The blocks of a script as spots of it, and when one may move.
 use Rattle.std.proofs.Common.{◌≡◌, ◌⊎◌, ℕ, zero, suc, ◌+◌, ◌-◌, ◌<◌, ◌≤◌, List, [], ◌∷◌, ◌++◌, length, get_or, take, drop, refl, sym, ap, subst, ◌∙◌, arith}
-use Rattle.stack_ops.specs.declared.op.Op.{Op}
-use Rattle.stack_ops.specs.declared.op.Op.TheVariants.{Fetch, FetchPi, Fill, Overwrite, Put, Seal, Show, Wait, Write, WritePi}
-use Rattle.whole_run.specs.Settings.{Setting}
-use Rattle.whole_run.specs.Steps.{each_from, steps_of}
-use Rattle.whole_run.proofs.InSteps.{each_length}
+use Rattle.run_laws.specs.Passed.{Setting, each_from, steps_of, Op, Fetch, FetchPi, Fill, Overwrite, Put, Seal, Show, Wait, Write, WritePi}
+use Rattle.run_laws.proofs.Passed.{each_length}
 use Rattle.run_laws.specs.OpsApart.{IsPlaced, IsSpread, OpsConflict}
 use Rattle.run_laws.specs.ScriptMoves.{fates_of}
 use Rattle.run_follows.specs.Gate.{AllPlaced, AreOver, LetsIn, MayMove, number, ops_of, place}

@@ -12,14 +12,11 @@ use Rattle.bio_core.specs.declared.fate.Why.{Why}
 use Rattle.bio_core.specs.declared.fate.Why.TheVariants.{Medium}
 use Rattle.bio_core.specs.declared.request.Dir.TheVariants.{Read, Write as WriteDir}
 use Rattle.bio_core.specs.declared.request.Io.{Io}
-use Rattle.stack_ops.specs.declared.op.Op.{Op}
 use Rattle.block_path.specs.Acts.{State, act, tell}
 use Rattle.block_path.specs.Blocks.{ActAnswer, Sent, silent}
 use Rattle.block_path.specs.Moves.{first_why}
 use Rattle.block_path.specs.Serial.{plain, plain_tells}
-use Rattle.whole_run.specs.ScriptWalk.{acts_of}
-use Rattle.whole_run.specs.Settings.{Setting}
-use Rattle.whole_run.specs.Steps.{Alters, Reads, Seals, Sets, Shows, Step, Writes, WritesPi}
+use Rattle.run_laws.specs.Passed.{acts_of, Setting, Alters, Reads, Seals, Sets, Shows, Step, Writes, WritesPi, Op}
 use Rattle.run_laws.specs.BoundRun.{fates, rooms}
 use Rattle.run_laws.specs.OpsApart.{IsPlaced, OneCellEach}
 use Rattle.run_laws.specs.ScriptMoves.{own_at}

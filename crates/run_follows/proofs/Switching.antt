@@ -5,8 +5,6 @@ use Rattle.std.proofs.lemmas.Bool.{false≢true}
 use Rattle.page_pool.specs.Cells.{gather, scatter}
 use Rattle.pi_tuple.specs.declared.checks.Check.{Check}
 use Rattle.integrity_payload.specs.declared.payload.Owner.TheVariants.{Block as OfBlock, App as OfApp}
-use Rattle.stack_ops.specs.declared.op.Op.{Op}
-use Rattle.stack_ops.specs.declared.op.Op.TheVariants.{Fetch, FetchPi, Fill, Overwrite, Put, Seal, Show, Wait, Write, WritePi}
 use Rattle.block_path.specs.declared.route.Route.{Route}
 use Rattle.block_path.specs.Acts.{Act, Effect, State, act, conflict, effect, tell}
 use Rattle.block_path.specs.Blocks.{ActAnswer, Sent, fetched_cell, own_cell, silent, written_by}
@@ -17,8 +15,7 @@ use Rattle.block_path.specs.WayIn.{from_device}
 use Rattle.block_path.specs.WayOut.{at_device, from_adapter, to_wire}
 use Rattle.block_path.proofs.Acts.{same_cells}
 use Rattle.block_path.proofs.Given.{stand_for}
-use Rattle.whole_run.specs.Settings.{Block, Setting, block_of, route}
-use Rattle.whole_run.specs.Steps.{Alters, Reads, Seals, Sets, Shows, Step, Writes, WritesPi, body_of, each_from, frame_at, steps_of, tuple_of}
+use Rattle.run_laws.specs.Passed.{Block, Setting, block_of, route, Alters, Reads, Seals, Sets, Shows, Step, Writes, WritesPi, body_of, each_from, frame_at, steps_of, tuple_of, Op, Fetch, FetchPi, Fill, Overwrite, Put, Seal, Show, Wait, Write, WritePi}
 use Rattle.run_laws.specs.ScriptMoves.{all_moves, blocks_from, blocks_of, by_moves, carried_by, fates_of, lands_in, moves_from, own_at, room_of, script_moves, write_moves}
 use Rattle.run_follows.specs.Following.{AllStand, Follows, StandFrom}
 use Rattle.run_follows.specs.Sending.{is_carried}

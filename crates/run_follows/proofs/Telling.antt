@@ -5,10 +5,8 @@ use Rattle.std.proofs.lemmas.Bool.{false≢true, or_parts}
 use Rattle.std.proofs.lemmas.List.{length-map, length-take}
 use Rattle.page_pool.specs.Cells.{flat}
 use Rattle.pi_tuple.specs.declared.checks.Check.{Check}
-use Rattle.target_answer.specs.Frames.{frames_of, joined}
-use Rattle.target_answer.specs.Target.{Stored}
-use Rattle.rig_api.specs.Log.{LogEntry}
-use Rattle.rig_api.specs.State.{RigState}
+use Rattle.block_path.specs.Passed.{frames_of, joined, Stored, UnitSpec}
+use Rattle.dix_adapter.specs.Passed.{LogEntry, RigState}
 use Rattle.bio_core.specs.Bios.{Block}
 use Rattle.bio_core.specs.declared.bio.Bio.{Bio}
 use Rattle.bio_core.specs.declared.fate.Fate.{Fate}
@@ -16,7 +14,6 @@ use Rattle.bio_core.specs.declared.fate.Fate.TheVariants.{Bad, Good, Untouched}
 use Rattle.bio_core.specs.declared.fate.Why.{Why}
 use Rattle.bio_core.specs.declared.request.Dir.TheVariants.{Read, Write}
 use Rattle.bio_core.specs.declared.request.Io.{Io}
-use Rattle.stack_ops.specs.declared.op.Op.{Op}
 use Rattle.block_path.specs.Acts.{State, act}
 use Rattle.block_path.specs.Blocks.{Site, fetched_cell}
 use Rattle.block_path.specs.Moves.{carry_out}
@@ -25,7 +22,7 @@ use Rattle.block_path.specs.Serial.{plain}
 use Rattle.block_path.specs.WayIn.{Delivers, Spoils, Stops, WayIn, at_host, from_device, from_wire}
 use Rattle.block_path.specs.WayOut.{Refuses, at_device, from_adapter, goes_out}
 use Rattle.block_path.specs.Senses.{why_ended}
-use Rattle.whole_run.specs.Settings.{Setting}
+use Rattle.run_laws.specs.Passed.{Setting, Op}
 use Rattle.run_laws.specs.Records.{came_of, recorded}
 use Rattle.dix_adapter.specs.declared.adapter.Adapter.{Adapter}
 use Rattle.dix_adapter.specs.Carried.{any_bad, frame_len, frame_sent, is_bad, sends}
@@ -34,8 +31,7 @@ use Rattle.dix_adapter.specs.Outcomes.{done_of}
 use Rattle.dix_adapter.specs.Ways.{CameIn, RecordedIn, RecordedOut, WentOut, acts_out, blocks_told, fates_of_in, fates_out, frames_in, frames_out, shapes_of, site_of, ways_in, ways_out}
 use Rattle.dix_adapter.proofs.Blocks.{length-in}
 use Rattle.dix_adapter.proofs.Runs.{AllLong, cut-joined}
-use Rattle.target_answer.specs.declared.units.UnitSpec.{UnitSpec}
-use Rattle.target_answer.proofs.FrameLaws.{frames_length}
+use Rattle.block_path.proofs.Passed.{frames_length}
 use Rattle.run_follows.specs.OnRecord.{put_each}
 use Rattle.run_follows.proofs.Puts.{InTurn, goes_in, goes_out as went_out, turn}
 use Rattle.run_follows.specs.Following.{Follows}

@@ -1,12 +1,11 @@
 -- Blocks that move on one after another.
 use Rattle.std.proofs.Common.{◌≡◌, ℕ, ◌+◌, false, true, List, [], ◌∷◌, refl, sym, ap, subst, ◌∙◌}
 use Rattle.std.proofs.lemmas.Bool.{false≢true}
-use Rattle.stack_ops.specs.declared.op.Op.{Op}
 use Rattle.block_path.specs.Acts.{State, act}
 use Rattle.block_path.specs.Blocks.{Sent}
 use Rattle.block_path.specs.Serial.{plain}
 use Rattle.block_path.proofs.InTurn.{plain_append}
-use Rattle.whole_run.specs.Settings.{Setting}
+use Rattle.run_laws.specs.Passed.{Setting, Op}
 use Rattle.run_laws.specs.BoundRun.{fates, rooms}
 use Rattle.run_laws.specs.ScriptMoves.{own_at}
 use Rattle.run_follows.specs.Following.{Becomes, Follows}

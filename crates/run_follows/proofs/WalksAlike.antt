@@ -16,9 +16,7 @@ use Rattle.block_path.specs.Moves.{on_bytes}
 use Rattle.block_path.specs.Routes.{Device}
 use Rattle.block_path.specs.WayIn.{WayIn, Delivers, Spoils, Stops, from_device, verified}
 use Rattle.block_path.specs.WayOut.{at_device, from_adapter, mapped_out, to_wire}
-use Rattle.whole_run.specs.ScriptWalk.{act_of, changed, source_of}
-use Rattle.whole_run.specs.Settings.{Block, Setting, route}
-use Rattle.whole_run.specs.Steps.{Alters, Reads, Seals, Sets, Shows, Step, Writes, WritesPi}
+use Rattle.run_laws.specs.Passed.{act_of, changed, source_of, Block, Setting, route, Alters, Reads, Seals, Sets, Shows, Step, Writes, WritesPi}
 use Rattle.run_laws.specs.StoreFaults.{failing, leaving, may_fall, or_fallen}
 use Rattle.run_follows.specs.Falls.{Falls, falling, of_blocks, over_falls, sends_or, stores_or}
 

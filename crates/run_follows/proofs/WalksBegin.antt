@@ -11,8 +11,7 @@ use Rattle.integrity_payload.specs.declared.payload.Payload.{Payload}
 use Rattle.bio_core.specs.declared.request.Io.{Io}
 use Rattle.bio_core.specs.Bios.{block_size}
 use Rattle.dix_adapter.specs.Walking.{HasHost}
-use Rattle.stack_ops.specs.declared.op.Op.{Op}
-use Rattle.stack_ops.specs.declared.op.Op.TheVariants.{Fill, Put, Show, Seal, Write, Fetch, WritePi, FetchPi, Overwrite, Wait}
+use Rattle.run_laws.specs.Passed.{Op, Fill, Put, Show, Seal, Write, Fetch, WritePi, FetchPi, Overwrite, Wait}
 use Rattle.run_follows.specs.Sheets.{io_at, no_io, op_in}
 use Rattle.run_follows.specs.Settling.{HasTuples, IsWhole}
 use Rattle.run_follows.specs.Requests.{first_page, own_blocks, page_after, pages_for, pages_from, private_tuples, request_of, requests_from}

@@ -4,12 +4,11 @@ use Rattle.std.specs.Prelude.{if◌then◌else◌, eqb, nat_le, nat_lt}
 use Rattle.bio_core.specs.declared.fate.Fate.{Fate}
 use Rattle.std.proofs.lemmas.Bool.{cases_Bool, cases_eq, cases_lt, eqb-true}
 use Rattle.bio_core.specs.declared.fate.Why.{Why}
-use Rattle.stack_ops.specs.declared.op.Op.{Op}
 use Rattle.range_gate.specs.Gates.{is_waiting}
 use Rattle.stack_view.specs.Plan.{Plan, request_at}
 use Rattle.stack_view.specs.Sound.{Sound}
 use Rattle.stack_view.specs.View.{Command, OpView, View, op_at}
-use Rattle.whole_run.specs.Settings.{Setting}
+use Rattle.run_laws.specs.Passed.{Setting, Op}
 use Rattle.run_follows.specs.Pieces.{with_all}
 use Rattle.run_follows.specs.Slots.{Admitted, Cut, Done, Settled, Status, Waits}
 use Rattle.run_follows.specs.Ground.{IsPlanOf}

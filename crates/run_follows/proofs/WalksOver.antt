@@ -1,9 +1,7 @@
 -- What holds of a script over its rig holds of it over a device of which is told what came of each block.
 use Rattle.std.proofs.Common.{ℕ, suc, List, get_or, subst}
-use Rattle.stack_ops.specs.declared.op.Op.{Op}
 use Rattle.block_path.specs.Routes.{told_by}
-use Rattle.whole_run.specs.Settings.{Setting}
-use Rattle.whole_run.specs.Steps.{Step}
+use Rattle.run_laws.specs.Passed.{Setting, Step, Op}
 use Rattle.run_laws.specs.EarlierWrites.{HasLog}
 use Rattle.run_follows.proofs.OverDevice.{all_placed_over, log_over, same_steps, spread_over}
 use Rattle.run_follows.proofs.Switch.{Told, over}

@@ -1,8 +1,7 @@
 -- Some blocks of one op that move on together: their statuses, and that they may.
 use Rattle.std.proofs.Common.{◌≡◌, ◌⊎◌, ℕ, zero, suc, ◌+◌, ◌<◌, ◌≤◌, List, length, refl, sym, ap, ◌∙◌, arith, ⊎_elim}
 use Rattle.std.proofs.lemmas.Bool.{cases_eq}
-use Rattle.stack_ops.specs.declared.op.Op.{Op}
-use Rattle.whole_run.specs.Settings.{Setting}
+use Rattle.run_laws.specs.Passed.{Setting, Op}
 use Rattle.run_laws.specs.ScriptMoves.{fates_of}
 use Rattle.run_follows.specs.Gate.{number, place}
 use Rattle.run_follows.specs.Pieces.{AllMayMove, IsNoneOf, with_all}

@@ -3,17 +3,11 @@ use Rattle.page_pool.specs.declared.segs.Seg.{Seg}
 use Rattle.page_pool.specs.Cells.{gather}
 use Rattle.integrity_payload.specs.declared.payload.Owner.{Owner}
 use Rattle.bio_core.specs.declared.fate.Why.TheVariants.{Medium}
-use Rattle.stack_ops.specs.declared.op.Op.{Op}
-use Rattle.stack_ops.specs.declared.reply.Reply.{Reply}
-use Rattle.stack_ops.specs.declared.reply.Reply.TheVariants.{Silent}
 use Rattle.block_path.specs.Acts.{State}
 use Rattle.block_path.specs.Blocks.{Sent}
 use Rattle.block_path.specs.Moves.{hidden}
-use Rattle.whole_run.specs.FirstLayer.{last_accepted}
-use Rattle.whole_run.specs.Past.{steps_from}
-use Rattle.whole_run.specs.Settings.{Block, Setting, block_of}
+use Rattle.run_laws.specs.Passed.{last_accepted, steps_from, Block, Setting, block_of, landing, listed_in, read_op, Op, Reply, Silent}
 use Rattle.run_laws.specs.FallingReads.{IsReadAs, falling_replies}
-use Rattle.whole_run.specs.ReadsAs.{landing, listed_in, read_op}
 use Rattle.run_laws.specs.StoreFaults.{falling_past, falling_walk, is_lost}
 use Rattle.run_laws.specs.ToldRun.{IsRecordOfRun}
 use Rattle.run_follows.specs.Falls.{Falls, of_blocks, over_falls, put_really}

@@ -1,14 +1,10 @@
 use Rattle.std.specs.Prelude.{ℕ, suc, ◌≡◌, List, [], ◌∷◌, length, Option, IfOk}
 use Rattle.bio_core.specs.declared.fate.Why.{Why}
-use Rattle.stack_ops.specs.declared.op.Op.{Op}
-use Rattle.stack_ops.specs.declared.reply.Reply.{Reply}
 use Rattle.block_path.specs.Acts.{State}
 use Rattle.block_path.specs.Blocks.{ActAnswer, Sent, silent}
 use Rattle.block_path.specs.Moves.{hidden}
-use Rattle.whole_run.specs.ScriptWalk.{reply_of, script_replies, script_walk}
+use Rattle.run_laws.specs.Passed.{reply_of, script_replies, script_walk, Block, Setting, route, Alters, Reads, Seals, Sets, Shows, Step, Writes, WritesPi, steps_of, Op, Reply}
 use Rattle.block_path.specs.Routes.{wire_size}
-use Rattle.whole_run.specs.Settings.{Block, Setting, route}
-use Rattle.whole_run.specs.Steps.{Alters, Reads, Seals, Sets, Shows, Step, Writes, WritesPi, steps_of}
 use Rattle.run_laws.specs.ToldRun.{IsRecordOfRun, came_by}
 use Rattle.run_follows.specs.Slots.{Admitted, Carried, Cut, Done, Settled, Status, Waits}
 

@@ -1,7 +1,6 @@
 use Rattle.std.specs.Prelude.{ℕ, suc, List, [], ◌∷◌, Option, Some, None}
-use Rattle.rig_api.specs.declared.change.Change.TheVariants.{Flip}
-use Rattle.stack_ops.specs.declared.op.Op.{Op}
-use Rattle.stack_ops.specs.declared.op.Op.TheVariants.{Fetch, FetchPi, Fill, Overwrite, Put, Seal, Show, Wait, Write, WritePi}
+use Rattle.dix_adapter.specs.Passed.{Flip}
+use Rattle.run_laws.specs.Passed.{Op, Fetch, FetchPi, Fill, Overwrite, Put, Seal, Show, Wait, Write, WritePi}
 
 -- Overwrites whose store call fails, as ops: such a one leaves in its own block what it may, of the block's size. So it flips some bits of it.
 

@@ -1,10 +1,8 @@
 use Rattle.std.specs.Prelude.{ℕ, suc, ◌+◌, ◌≡◌, List, [], ◌∷◌, ◌++◌, length, get_or, Option, Some, None}
-use Rattle.stack_ops.specs.declared.op.Op.{Op}
 use Rattle.block_path.specs.Acts.{State, act, conflict, tell}
 use Rattle.block_path.specs.Blocks.{ActAnswer, Sent}
 use Rattle.block_path.specs.Serial.{Serial}
-use Rattle.whole_run.specs.Settings.{Setting}
-use Rattle.whole_run.specs.Steps.{Step, steps_of}
+use Rattle.run_laws.specs.Passed.{Setting, Step, steps_of, Op}
 use Rattle.run_laws.specs.Records.{Mixed, put_sent, writes_at}
 use Rattle.run_laws.specs.ScriptMoves.{by_moves, fates_of, own_at, room_of, script_moves}
 use Rattle.run_follows.specs.Slots.{SlotStands, Status, parts_of, so_far}

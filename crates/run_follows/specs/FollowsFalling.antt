@@ -1,11 +1,10 @@
 use Rattle.std.specs.Prelude.{ℕ, ◌≡◌, List, [], length, Some, IfSome}
 use Rattle.bio_core.specs.declared.fate.Why.TheVariants.{Medium}
 use Rattle.fault_schedule.specs.declared.Label.{Label}
-use Rattle.target_answer.specs.Frames.{stored_size}
-use Rattle.stack_ops.specs.declared.op.Op.{Op}
+use Rattle.block_path.specs.Passed.{stored_size}
 use Rattle.block_path.specs.Acts.{State}
 use Rattle.block_path.specs.Blocks.{Sent}
-use Rattle.whole_run.specs.Settings.{Setting}
+use Rattle.run_laws.specs.Passed.{Setting, Op}
 use Rattle.run_follows.specs.Following.{Follows}
 use Rattle.run_follows.specs.Slots.{Admitted, Carried, Cut, Done, Settled, Status, Waits}
 use Rattle.run_follows.specs.Falls.{Falls, forgiven, none_falls, over_falls, put_really}

@@ -1,12 +1,8 @@
 use Rattle.std.specs.Prelude.{ℕ, suc, ◌+◌, ◌≡◌, ◌⊎◌, Bool, true, false, List, [], ◌∷◌, ◌++◌, length, get_or}
-use Rattle.stack_ops.specs.declared.op.Op.{Op}
-use Rattle.stack_ops.specs.declared.op.Op.TheVariants.{Fetch, FetchPi, Fill, Overwrite, Put, Seal, Show, Wait, Write, WritePi}
 use Rattle.block_path.specs.Acts.{State, act, tell}
 use Rattle.block_path.specs.Blocks.{silent}
 use Rattle.block_path.specs.Serial.{plain_tells}
-use Rattle.whole_run.specs.ScriptWalk.{acts_of}
-use Rattle.whole_run.specs.Settings.{Setting}
-use Rattle.whole_run.specs.Steps.{Step, steps_of}
+use Rattle.run_laws.specs.Passed.{acts_of, Setting, Step, steps_of, Op, Fetch, FetchPi, Fill, Overwrite, Put, Seal, Show, Wait, Write, WritePi}
 use Rattle.run_laws.specs.BoundRun.{fates, rooms}
 use Rattle.run_laws.specs.OpsApart.{IsPlaced, IsSpread, OneCellEach, OpsConflict}
 use Rattle.run_laws.specs.ScriptMoves.{own_at}

@@ -1,8 +1,7 @@
 -- What a stack stands on: its plan is that of the script, whose ops lie in the pages and in the volume.
 use Rattle.std.specs.Prelude.{◌≡◌, ◌⊎◌, ℕ, suc, ◌<◌, false, List, length}
-use Rattle.stack_ops.specs.declared.op.Op.{Op}
 use Rattle.stack_view.specs.Plan.{Plan, request_at}
-use Rattle.whole_run.specs.Settings.{Setting}
+use Rattle.run_laws.specs.Passed.{Setting, Op}
 use Rattle.run_laws.specs.OpsApart.{IsSpread, OneCellEach, OpsConflict}
 use Rattle.run_laws.specs.ScriptMoves.{fates_of}
 use Rattle.run_laws.specs.EarlierWrites.{HasLog}

@@ -2,11 +2,10 @@ use Rattle.std.specs.Prelude.{ℕ, ◌≡◌, List, [], ◌∷◌, ◌++◌, Res
 use Rattle.bio_core.specs.Bios.{Block}
 use Rattle.bio_core.specs.declared.bio.Bio.{Bio}
 use Rattle.bio_core.specs.declared.fate.Why.{Why}
-use Rattle.rig_api.specs.declared.rig.Outcome.{Outcome}
+use Rattle.dix_adapter.specs.Passed.{Outcome, LogEntry}
 use Rattle.block_path.specs.Blocks.{Sent, Site}
 use Rattle.dix_adapter.specs.Groups.{blocks_in, label_of, size}
-use Rattle.whole_run.specs.Settings.{Setting}
-use Rattle.rig_api.specs.Log.{LogEntry}
+use Rattle.run_laws.specs.Passed.{Setting}
 use Rattle.run_laws.specs.Records.{came_of, recorded, stamped}
 
 -- A group that was carried by one command, as it goes on record: block by block.

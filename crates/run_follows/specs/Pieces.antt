@@ -1,8 +1,7 @@
 use Rattle.std.specs.Prelude.{ℕ, ◌≡◌, List, [], ◌∷◌, ◌++◌}
-use Rattle.stack_ops.specs.declared.op.Op.{Op}
 use Rattle.block_path.specs.Acts.{Act}
 use Rattle.block_path.specs.Blocks.{ActAnswer}
-use Rattle.whole_run.specs.Settings.{Setting}
+use Rattle.run_laws.specs.Passed.{Setting, Op}
 use Rattle.run_follows.specs.Gate.{MayMove, BlockSpot, number, ops_of, parts_at, place}
 use Rattle.run_follows.specs.Sending.{with_status}
 use Rattle.run_follows.specs.Slots.{Status}

@@ -6,9 +6,8 @@ use Rattle.integrity_payload.specs.declared.payload.Payload.{Payload}
 use Rattle.bio_core.specs.declared.request.Dir.{Dir}
 use Rattle.bio_core.specs.declared.request.Dir.TheVariants.{Read, Write as WriteDir}
 use Rattle.bio_core.specs.declared.request.Io.{Io}
-use Rattle.merge_queue.specs.Groups.{numbers}
-use Rattle.stack_ops.specs.declared.op.Op.{Op}
-use Rattle.stack_ops.specs.declared.op.Op.TheVariants.{Fill, Put, Show, Seal, Write, Fetch, WritePi, FetchPi, Overwrite, Wait}
+use Rattle.stack_view.specs.Passed.{numbers}
+use Rattle.run_laws.specs.Passed.{Op, Fill, Put, Show, Seal, Write, Fetch, WritePi, FetchPi, Overwrite, Wait}
 use Rattle.run_follows.specs.Sheets.{no_io}
 use Rattle.page_pool.specs.declared.TheConstants.{PAGE}
 use Rattle.pi_tuple.specs.declared.TheConstants.{TUPLE}

@@ -6,17 +6,15 @@ use Rattle.bio_core.specs.declared.fate.Why.{Why}
 use Rattle.bio_core.specs.declared.request.Dir.{Dir}
 use Rattle.bio_core.specs.declared.request.Dir.TheVariants.{Read, Write as WriteDir}
 use Rattle.bio_core.specs.declared.request.Io.{Io}
-use Rattle.stack_ops.specs.declared.op.Op.{Op}
 use Rattle.block_path.specs.declared.route.Route.{Route}
 use Rattle.block_path.specs.Acts.{Act, State, act}
 use Rattle.block_path.specs.Blocks.{ActAnswer, Sent, fetched_cell}
 use Rattle.block_path.specs.Moves.{carry_out}
 use Rattle.block_path.specs.Serial.{plain}
 use Rattle.block_path.specs.WayOut.{Refuses, Stores, goes_out}
-use Rattle.whole_run.specs.Settings.{Setting, route}
-use Rattle.whole_run.specs.Steps.{Alters, Reads, Seals, Sets, Shows, Step, Writes, WritesPi}
+use Rattle.run_laws.specs.Passed.{Setting, route, Alters, Reads, Seals, Sets, Shows, Step, Writes, WritesPi, Op}
 use Rattle.run_laws.specs.EarlierWrites.{HasLog}
-use Rattle.rig_api.specs.Log.{LogEntry}
+use Rattle.dix_adapter.specs.Passed.{LogEntry}
 use Rattle.run_laws.specs.Records.{find, recorded}
 use Rattle.run_laws.specs.ToldRun.{told}
 use Rattle.run_laws.specs.BoundRun.{rooms}

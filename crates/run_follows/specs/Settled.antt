@@ -8,7 +8,7 @@ use Rattle.pi_tuple.specs.Tuples.{ref_tag}
 use Rattle.pi_tuple.specs.declared.checks.PiType.{PiType}
 use Rattle.integrity_payload.specs.declared.payload.Payload.{Payload}
 use Rattle.integrity_payload.specs.Payloads.{all_asked, block_of, tuple_of, tuple_places}
-use Rattle.ref_remap.specs.Remapped.{AreRemapped}
+use Rattle.block_path.specs.Passed.{AreRemapped}
 use Rattle.bio_core.specs.declared.bio.Bio.{Bio}
 use Rattle.bio_core.specs.declared.fate.Fate.{Fate}
 use Rattle.bio_core.specs.declared.fate.Fate.TheVariants.{Good, Bad, Untouched}
@@ -17,8 +17,7 @@ use Rattle.bio_core.specs.declared.request.Dir.TheVariants.{Read, Write}
 use Rattle.bio_core.specs.declared.request.Io.{Io}
 use Rattle.bio_core.specs.Bios.{block_size}
 use Rattle.block_path.specs.declared.mode.Mode.{Mode}
-use Rattle.merge_queue.specs.Chains.{no_bio}
-use Rattle.merge_queue.specs.Groups.{size}
+use Rattle.stack_view.specs.Passed.{no_bio, size}
 use Rattle.run_follows.specs.Sheets.{io_at}
 use Rattle.run_follows.specs.Settling.{fate_by}
 

@@ -5,12 +5,10 @@ use Rattle.bio_core.specs.declared.request.Io.{Io}
 use Rattle.bio_core.specs.Bios.{HasTuplesFor, data_segs, tuple_segs}
 use Rattle.range_gate.specs.declared.footprint.Footprint.{Footprint}
 use Rattle.range_gate.specs.Prints.{KeptPrint, chosen, clash}
-use Rattle.merge_queue.specs.declared.limits.Limits.{Limits}
+use Rattle.stack_view.specs.Passed.{Limits}
 use Rattle.volume_table.specs.Tables.{Table}
 use Rattle.volume_table.specs.Places.{place_in, run_in, volume_len}
-use Rattle.stack_ops.specs.declared.op.Op.{Op}
-use Rattle.stack_ops.specs.declared.op.Op.TheVariants.{Wait}
-use Rattle.stack_ops.specs.Footprints.{footprint}
+use Rattle.run_laws.specs.Passed.{Op, Wait, footprint}
 use Rattle.stack_view.specs.Plan.{Plan, Place, PlannedOp}
 use Rattle.stack_steps.specs.Fine.{Fine}
 

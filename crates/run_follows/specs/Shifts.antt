@@ -4,7 +4,7 @@ use Rattle.std.specs.List.{list_any}
 use Rattle.fault_schedule.specs.declared.fault.FaultKind.{FaultKind}
 use Rattle.fault_schedule.specs.declared.fault.FaultKind.TheVariants.{Flip, Shift}
 use Rattle.fault_schedule.specs.declared.fault.FaultLine.{FaultLine}
-use Rattle.merge_queue.specs.Groups.{numbers}
+use Rattle.stack_view.specs.Passed.{numbers}
 
 abbrev pub is_shift : FaultKind → Bool
 is_shift (Flip off bytes) = false

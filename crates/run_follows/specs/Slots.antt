@@ -3,9 +3,7 @@ use Rattle.bio_core.specs.declared.fate.Why.{Why}
 use Rattle.block_path.specs.Acts.{Act}
 use Rattle.block_path.specs.Blocks.{ActAnswer, silent}
 use Rattle.block_path.specs.Moves.{carry_in, carry_out, make_tuple, map_back, map_out, settle}
-use Rattle.whole_run.specs.ScriptWalk.{act_of}
-use Rattle.whole_run.specs.Settings.{Block, Setting, route}
-use Rattle.whole_run.specs.Steps.{Alters, Reads, Seals, Sets, Shows, Step, Writes, WritesPi}
+use Rattle.run_laws.specs.Passed.{act_of, Block, Setting, route, Alters, Reads, Seals, Sets, Shows, Step, Writes, WritesPi}
 use Rattle.run_laws.specs.Records.{put_sent, sents}
 use Rattle.run_laws.specs.ScriptMoves.{lands_in}
 

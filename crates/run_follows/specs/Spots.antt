@@ -1,9 +1,6 @@
 -- The blocks of a script by the number of their op and their place in it.
 use Rattle.std.specs.Prelude.{ℕ, zero, suc, List, [], ◌∷◌, get_or, take, drop}
-use Rattle.stack_ops.specs.declared.op.Op.{Op}
-use Rattle.stack_ops.specs.declared.op.Op.TheVariants.{Wait}
-use Rattle.whole_run.specs.Settings.{Setting}
-use Rattle.whole_run.specs.Steps.{Alters, Reads, Seals, Sets, Shows, Step, Writes, WritesPi, steps_of}
+use Rattle.run_laws.specs.Passed.{Setting, Alters, Reads, Seals, Sets, Shows, Step, Writes, WritesPi, steps_of, Op, Wait}
 use Rattle.run_follows.specs.Gate.{BlockSpot}
 
 abbrev pub op_in : List Op → ℕ → Op

@@ -5,13 +5,11 @@ use Rattle.page_pool.specs.Places.{Apart, NoneTwice, places_in, total}
 use Rattle.page_pool.specs.declared.segs.Seg.{Seg}
 use Rattle.integrity_payload.specs.Payloads.{AreWholeTuples}
 use Rattle.dix_adapter.specs.Groups.{IsProtect}
-use Rattle.merge_queue.specs.declared.limits.Limits.{Limits}
+use Rattle.stack_view.specs.Passed.{Limits}
 use Rattle.volume_table.specs.declared.device.DeviceInfo.{DeviceInfo}
 use Rattle.volume_table.specs.Tables.{MadeFor, Table}
 use Rattle.volume_table.specs.Places.{volume_len}
-use Rattle.stack_ops.specs.declared.op.Op.{Op}
-use Rattle.stack_ops.specs.declared.op.Op.TheVariants.{Fill, Put, Show, Seal, Write, Fetch, WritePi, FetchPi, Overwrite, Wait}
-use Rattle.stack_ops.specs.Footprints.{put_seg}
+use Rattle.run_laws.specs.Passed.{Op, Fill, Put, Show, Seal, Write, Fetch, WritePi, FetchPi, Overwrite, Wait, put_seg}
 use Rattle.stack_view.specs.Runs.{blocks_of_requests}
 use Rattle.run_follows.specs.Sheets.{op_in, request_in}
 use Rattle.run_follows.specs.Requests.{requests_from}

@@ -1,9 +1,7 @@
 use Rattle.std.specs.Prelude.{ℕ, suc, ◌≡◌, ◌<◌, Bool, true, List, [], ◌∷◌, length}
-use Rattle.target_answer.specs.Frames.{stored_size}
-use Rattle.stack_ops.specs.declared.op.Op.{Op}
-use Rattle.stack_ops.specs.declared.op.Op.TheVariants.{Fetch, FetchPi, Fill, Overwrite, Put, Seal, Show, Wait, Write, WritePi}
+use Rattle.block_path.specs.Passed.{stored_size}
 use Rattle.block_path.specs.Blocks.{stored_cell}
-use Rattle.whole_run.specs.Settings.{Setting, block_of, route}
+use Rattle.run_laws.specs.Passed.{Setting, block_of, route, Op, Fetch, FetchPi, Fill, Overwrite, Put, Seal, Show, Wait, Write, WritePi}
 
 -- Whatever has the size of a stored block is fine where a block of the request is stored.
 abbrev pub TakesAny : Setting → (fine : ℕ → List ℕ → Bool) → (i v n : ℕ) → Type 0

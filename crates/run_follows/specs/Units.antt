@@ -2,12 +2,9 @@
 use Rattle.std.specs.Prelude.{◌≡◌, ℕ, suc, ◌<◌, ℤ, pos, ◌+ℤ◌, true, List, length, get_or}
 use Rattle.fault_schedule.specs.Altered.{shift_of}
 use Rattle.fault_schedule.specs.declared.fault.Crossing.TheVariants.{AdapterToTarget, MediumToTarget}
-use Rattle.target_answer.specs.Target.{has_blocks}
-use Rattle.target_answer.specs.declared.units.UnitSpec.{UnitSpec}
-use Rattle.rig_api.specs.Telling.{no_spec}
-use Rattle.stack_ops.specs.declared.op.Op.{Op}
-use Rattle.stack_ops.specs.Ops.{first_virt}
-use Rattle.whole_run.specs.Settings.{Setting, block_of, route}
+use Rattle.block_path.specs.Passed.{has_blocks, UnitSpec}
+use Rattle.dix_adapter.specs.Passed.{no_spec}
+use Rattle.run_laws.specs.Passed.{Setting, block_of, route, Op, first_virt}
 use Rattle.run_laws.specs.ScriptMoves.{fates_of}
 use Rattle.run_follows.specs.Spots.{op_in}
 

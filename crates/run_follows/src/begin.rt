@@ -1,9 +1,8 @@
 //! At first.
 
 ghost use Rattle.std.specs.Prelude.{ℕ, ◌≡◌, List, [], get_or};
-ghost use Rattle.stack_ops.specs.declared.op.Op.{Op as AnyOp};
 ghost use Rattle.block_path.specs.Acts.{State};
-ghost use Rattle.whole_run.specs.Settings.{Setting};
+ghost use Rattle.run_laws.specs.Passed.{Setting, Op as AnyOp};
 ghost use Rattle.run_follows.specs.Following.{Follows};
 ghost use Rattle.run_follows.specs.Slots.{Waits};
 

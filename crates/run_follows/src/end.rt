@@ -1,12 +1,11 @@
 //! At the end.
 
 ghost use Rattle.std.specs.Prelude.{ℕ, Bool, true, List};
-ghost use Rattle.rig_api.specs.Log.{LogEntry};
-ghost use Rattle.stack_ops.specs.declared.op.Op.{Op as AnyOp};
+ghost use Rattle.dix_adapter.specs.Passed.{LogEntry};
 ghost use Rattle.block_path.specs.Acts.{State};
 ghost use Rattle.block_path.specs.Blocks.{Sent};
 ghost use Rattle.block_path.specs.Moves.{hidden};
-ghost use Rattle.whole_run.specs.Settings.{Setting};
+ghost use Rattle.run_laws.specs.Passed.{Setting, Op as AnyOp};
 ghost use Rattle.run_laws.specs.BackedRun.{Backed};
 ghost use Rattle.run_laws.specs.CarriedRun.{Carried};
 ghost use Rattle.run_laws.specs.Records.{recorded};

@@ -2,15 +2,13 @@
 
 ghost use Rattle.std.specs.Prelude.{ℕ, ◌≡◌, false, List, length, map, Option, IfSome};
 ghost use Rattle.page_pool.specs.Cells.{flat};
-ghost use Rattle.target_answer.specs.Frames.{stored_size};
-ghost use Rattle.target_answer.specs.Target.{Stop, Stored};
+ghost use Rattle.block_path.specs.Passed.{stored_size, Stop, Stored};
 ghost use Rattle.bio_core.specs.declared.bio.Bio.{Bio as AnyBio};
 ghost use Rattle.bio_core.specs.declared.fate.Fate.{Fate as AnyFate};
 ghost use Rattle.bio_core.specs.declared.request.Dir.TheVariants.{Read, Write};
 ghost use Rattle.bio_core.specs.declared.request.Io.{Io as AnyIo};
-ghost use Rattle.stack_ops.specs.declared.op.Op.{Op as AnyOp};
 ghost use Rattle.block_path.specs.Acts.{State};
-ghost use Rattle.whole_run.specs.Settings.{Setting};
+ghost use Rattle.run_laws.specs.Passed.{Setting, Op as AnyOp};
 ghost use Rattle.run_laws.specs.Records.{recorded};
 ghost use Rattle.dix_adapter.specs.declared.adapter.Adapter.{Adapter as AnyAdapter};
 ghost use Rattle.dix_adapter.specs.Carried.{any_bad, frame_len, sends};
@@ -20,7 +18,7 @@ ghost use Rattle.run_follows.specs.Gate.{BlockSpot};
 ghost use Rattle.run_follows.specs.Sending.{AllGoing, AllSized, NoneBefore, with_fates};
 ghost use Rattle.run_follows.specs.Slots.{Status};
 ghost use Rattle.run_follows.specs.FollowsFalling.{FollowsFalling};
-ghost use Rattle.rig_api.specs.State.{RigState};
+ghost use Rattle.dix_adapter.specs.Passed.{RigState};
 
 /// A command is sent over a rig that tells its blocks, and a store call of it may fail, at whatever block, and leave
 /// there what it may: the stack follows on. What is left of a write's block has the size of a stored block. That nothing

@@ -1,10 +1,9 @@
 //! Another device.
 
 ghost use Rattle.std.specs.Prelude.{ℕ, List, ◌≡◌, true};
-ghost use Rattle.stack_ops.specs.declared.op.Op.{Op as AnyOp};
 ghost use Rattle.block_path.specs.Acts.{State};
 ghost use Rattle.block_path.specs.Blocks.{Sent};
-ghost use Rattle.whole_run.specs.Settings.{Setting};
+ghost use Rattle.run_laws.specs.Passed.{Setting, Op as AnyOp};
 ghost use Rattle.run_follows.specs.Following.{Follows};
 ghost use Rattle.run_follows.specs.Sending.{is_carried};
 ghost use Rattle.run_follows.specs.Slots.{Status};

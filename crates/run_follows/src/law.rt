@@ -6,15 +6,15 @@ ghost use Rattle.bio_core.specs.declared.fate.Fate.{Fate as AnyFate};
 ghost use Rattle.bio_core.specs.declared.request.Dir.TheVariants.{Read, Write};
 ghost use Rattle.bio_core.specs.declared.request.Io.{Io as AnyIo};
 ghost use Rattle.page_pool.specs.Cells.{flat};
-ghost use Rattle.target_answer.specs.Frames.{frames_of};
-ghost use Rattle.whole_run.specs.Settings.{Setting};
+ghost use Rattle.block_path.specs.Passed.{frames_of};
+ghost use Rattle.run_laws.specs.Passed.{Setting};
 ghost use Rattle.dix_adapter.specs.declared.adapter.Adapter.{Adapter as AnyAdapter};
 ghost use Rattle.dix_adapter.specs.Carried.{any_bad, frame_len, frame_sent, sends};
 ghost use Rattle.dix_adapter.specs.Groups.{IsCarriedGroup, IsProtect, blocks_in, first_of, size};
 ghost use Rattle.dix_adapter.specs.Outcomes.{done_of};
 ghost use Rattle.dix_adapter.specs.Ways.{RecordedIn, RecordedOut};
 ghost use Rattle.run_follows.specs.OnRecord.{GoesOnRecord};
-ghost use Rattle.rig_api.specs.State.{RigState};
+ghost use Rattle.dix_adapter.specs.Passed.{RigState};
 
 /// A group that was carried as the adapter's contract says goes on record block by block, in its order: each block that
 /// is done has an entry with the frame that was sent or came, and the block at which the command ended has an end, with

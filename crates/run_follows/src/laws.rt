@@ -2,10 +2,9 @@
 
 ghost use Rattle.std.specs.Prelude.{◌≡◌, ◌<◌, ◌≤◌, ◌+◌, ℕ, suc, List, take, length, get_or, Option, None};
 ghost use Rattle.bio_core.specs.declared.fate.Why.{Why as AnyWhy};
-ghost use Rattle.stack_ops.specs.declared.op.Op.{Op as AnyOp};
 ghost use Rattle.block_path.specs.Acts.{State};
 ghost use Rattle.block_path.specs.Blocks.{Sent};
-ghost use Rattle.whole_run.specs.Settings.{Setting};
+ghost use Rattle.run_laws.specs.Passed.{Setting, Op as AnyOp};
 ghost use Rattle.run_laws.specs.BoundRun.{fates};
 ghost use Rattle.run_laws.specs.ScriptMoves.{fates_of};
 ghost use Rattle.run_follows.specs.Following.{Follows};

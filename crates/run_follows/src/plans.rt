@@ -2,11 +2,10 @@
 
 ghost use Rattle.std.specs.Prelude.{◌≡◌, ◌↔◌, ℕ, Bool, true, false, List, get_or};
 ghost use Rattle.bio_core.specs.declared.request.Io.{Io};
-ghost use Rattle.merge_queue.specs.declared.limits.Limits.{Limits};
+ghost use Rattle.stack_view.specs.Passed.{Limits};
 ghost use Rattle.range_gate.specs.Conflicts.{Conflict};
 ghost use Rattle.volume_table.specs.Tables.{Table};
-ghost use Rattle.stack_ops.specs.declared.op.Op.{Op as AnyOp};
-ghost use Rattle.stack_ops.specs.Footprints.{footprint};
+ghost use Rattle.run_laws.specs.Passed.{Op as AnyOp, footprint};
 ghost use Rattle.run_follows.specs.Sheets.{op_in, plan_of};
 
 /// Two ops of a plan conflict exactly where one of them is alone, or where they share a virtual block or a byte of a

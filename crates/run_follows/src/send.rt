@@ -13,20 +13,18 @@ ghost use Rattle.run_laws.specs.Records.{recorded};
 ghost use Rattle.dix_adapter.specs.Carried.{Unsent, any_bad, frame_len, sends};
 ghost use Rattle.dix_adapter.specs.Groups.{IsCarriedGroup, IsProtect, blocks_in, first_of, size};
 ghost use Rattle.dix_adapter.specs.Ways.{CameIn, RecordedIn, RecordedOut, WentOut, blocks_told, shapes_of, site_of};
-ghost use Rattle.target_answer.specs.Target.{Stored};
-ghost use Rattle.stack_ops.specs.declared.op.Op.{Op as AnyOp};
+ghost use Rattle.block_path.specs.Passed.{Stored};
 ghost use Rattle.block_path.specs.Acts.{State};
 ghost use Rattle.block_path.specs.Blocks.{Sent};
-ghost use Rattle.whole_run.specs.Settings.{Setting};
+ghost use Rattle.run_laws.specs.Passed.{Setting, Block as AnyBlock, route, Op as AnyOp};
 ghost use Rattle.run_laws.specs.ToldRun.{came_by, told};
 ghost use Rattle.block_path.specs.Routes.{wire_size};
 ghost use Rattle.run_follows.specs.Finished.{FramesFit};
-ghost use Rattle.whole_run.specs.Settings.{Block as AnyBlock, route};
 ghost use Rattle.run_follows.specs.Following.{Follows};
 ghost use Rattle.run_follows.specs.Sending.{AllComeIn, AllGoOut, AllGoing, AllSized, FollowsOn, FollowsTold, HeldBack, NoneBefore, SentIn, SentOut, is_carried, with_fates};
 ghost use Rattle.run_follows.specs.Gate.{BlockSpot};
 ghost use Rattle.run_follows.specs.Slots.{Status, Waits};
-ghost use Rattle.rig_api.specs.State.{RigState};
+ghost use Rattle.dix_adapter.specs.Passed.{RigState};
 
 /// What stands on record may grow: a stack follows what is told by it as long as of each block that was carried it
 /// tells the same.

@@ -13,18 +13,8 @@ use Rattle.pi_tuple.proofs.TupleLaws.{tag_below}
 use Rattle.page_pool.specs.Cells.{gather, scatter}
 use Rattle.fault_schedule.specs.declared.fault.Crossing.TheVariants.{TargetToMedium}
 use Rattle.integrity_payload.specs.declared.payload.Owner.{Owner}
-use Rattle.bio_core.specs.declared.fate.Why.{Why}
-use Rattle.bio_core.specs.declared.fate.Why.TheVariants.{Adapter, App, Block as ByOwner, Medium, Refused, Short, Target}
-use Rattle.volume_table.specs.Places.{place_in, volume_len}
-use Rattle.volume_table.specs.declared.device.DeviceInfo.{DeviceInfo}
-use Rattle.target_answer.specs.Frames.{data_of, tuple_of}
-use Rattle.block_path.specs.Acts.{State, act, tell}
-use Rattle.block_path.specs.Blocks.{fetched_cell, own_cell, own_frame, own_tuple, read_by, stored_cell, tuple_after, written_by}
-use Rattle.block_path.specs.Routes.{medium_lba, wire_lba}
-use Rattle.block_path.specs.Serial.{plain}
-use Rattle.block_path.specs.WayIn.{Delivers, Spoils, Stops, WayIn, way_in}
-use Rattle.block_path.specs.WayOut.{Fails, Refuses, Stores, WayOut, way_out}
-use Rattle.block_path.proofs.Cells.{gather_length}
+use Rattle.whole_run.specs.Passed.{data_of, tuple_of, State, act, tell, fetched_cell, own_cell, own_frame, own_tuple, read_by, stored_cell, tuple_after, written_by, medium_lba, wire_lba, plain, Delivers, Spoils, Stops, WayIn, way_in, Fails, Refuses, Stores, WayOut, way_out, place_in, volume_len, DeviceInfo, Why, Adapter, App, Block as ByOwner, TheVariantsMedium as Medium, Refused, Short, Target}
+use Rattle.whole_run.proofs.Passed.{gather_length}
 use Rattle.whole_run.specs.Detectable.{bears, detectable, found, is_spoilt, shows_in, step_shows}
 use Rattle.whole_run.specs.FirstLayer.{Layer, first_layer, has_flip, is_hit, last_accepted}
 use Rattle.whole_run.specs.Past.{Accepted, Brought, Event, Overwritten, brought_by, event_of, events_of, past_after}

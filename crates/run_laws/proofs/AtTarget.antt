@@ -13,16 +13,8 @@ use Rattle.fault_schedule.specs.declared.Label.{Label}
 use Rattle.fault_schedule.specs.declared.fault.Crossing.{Crossing}
 use Rattle.fault_schedule.specs.declared.fault.Crossing.TheVariants.{AdapterToTarget, MediumToTarget, TargetToAdapter, TargetToMedium}
 use Rattle.fault_schedule.specs.declared.fault.FaultLine.{FaultLine}
-use Rattle.bio_core.specs.declared.fate.Why.{Why}
-use Rattle.target_answer.specs.Frames.{data_of, stored_size}
-use Rattle.target_answer.specs.Passing.{accepted, crossed, found_in, from_medium, released, then_crossed, to_medium, unless, with_own_tuple}
-use Rattle.target_answer.specs.declared.passage.Passage.{Passage}
-use Rattle.target_answer.proofs.FrameLaws.{stored_least}
-use Rattle.block_path.specs.Blocks.{fetched_cell, stored_cell}
-use Rattle.block_path.specs.Routes.{Device, by_target, passage, passes_tuples, target, told_by, wire_size}
-use Rattle.block_path.specs.declared.route.Route.{Route}
-use Rattle.block_path.proofs.Sizes.{unless_length}
-use Rattle.block_path.proofs.PathLaws.{crossed_length}
+use Rattle.whole_run.specs.Passed.{data_of, stored_size, accepted, crossed, found_in, from_medium, released, then_crossed, to_medium, unless, with_own_tuple, Passage, fetched_cell, stored_cell, Device, by_target, passage, passes_tuples, target, told_by, wire_size, Route, Why}
+use Rattle.whole_run.proofs.Passed.{stored_least, unless_length, crossed_length}
 use Rattle.whole_run.specs.Settings.{Block, Setting, route}
 use Rattle.run_laws.specs.BoundRun.{Suits}
 use Rattle.run_laws.specs.Suited.{IsAtTarget, keeps_size}

@@ -1,11 +1,7 @@
 -- What is on record in another order has the same reads between two writes.
 use Rattle.std.proofs.Common.{◌≡◌, ℕ, Bool, true, false, ◌&&◌, eqb, List, [], ◌∷◌, ◌++◌, refl, sym, ap, subst, ◌∙◌}
 use Rattle.std.specs.Prelude.{not, Result, Ok, Err}
-use Rattle.bio_core.specs.declared.fate.Why.{Why}
-use Rattle.stack_ops.specs.declared.op.Op.{Op}
-use Rattle.block_path.specs.Acts.{State, act, tell}
-use Rattle.block_path.specs.Blocks.{Sent, Site}
-use Rattle.block_path.specs.Serial.{plain_tells}
+use Rattle.whole_run.specs.Passed.{Op, State, act, tell, Sent, Site, plain_tells, Why}
 use Rattle.whole_run.specs.ScriptWalk.{acts_from}
 use Rattle.whole_run.specs.Settings.{Setting}
 use Rattle.run_laws.specs.CarriedRun.{IsCarried, reads_at}

@@ -9,14 +9,8 @@ use Rattle.page_pool.specs.declared.segs.Seg.{Seg}
 use Rattle.page_pool.specs.Cells.{share_a_cell}
 use Rattle.range_gate.specs.Cells.{cells_of}
 use Rattle.integrity_payload.specs.declared.payload.Owner.TheVariants.{Block as OfBlock, App as OfApp}
-use Rattle.stack_ops.specs.declared.op.Op.{Op}
-use Rattle.stack_ops.specs.declared.op.Op.TheVariants.{Fetch, FetchPi, Fill, Overwrite, Put, Seal, Show, Wait, Write, WritePi}
-use Rattle.volume_table.specs.Places.{place_in, volume_len}
-use Rattle.volume_table.specs.declared.device.DeviceInfo.{DeviceInfo}
-use Rattle.block_path.specs.Acts.{Act, conflict}
-use Rattle.block_path.specs.Blocks.{ActAnswer, stored_cell}
-use Rattle.block_path.specs.Routes.{wire_lba}
-use Rattle.block_path.proofs.Cells.{AllBelow, below, distinct, share_back}
+use Rattle.whole_run.specs.Passed.{Op, Fetch, FetchPi, Fill, Overwrite, Put, Seal, Show, Wait, Write, WritePi, Act, conflict, ActAnswer, stored_cell, wire_lba, place_in, volume_len, DeviceInfo}
+use Rattle.whole_run.proofs.Passed.{AllBelow, below, distinct, share_back}
 use Rattle.whole_run.specs.Settings.{Block, Setting, block_of, route}
 use Rattle.whole_run.specs.Steps.{Reads, Step, Writes, WritesPi, body_of, each_from, frame_at}
 use Rattle.whole_run.specs.UnderMap.{home}

@@ -7,19 +7,8 @@ use Rattle.pi_tuple.specs.Tuples.{tuple_bytes}
 use Rattle.page_pool.specs.Cells.{gather, scatter, share_a_cell}
 use Rattle.integrity_payload.specs.declared.payload.Owner.{Owner}
 use Rattle.integrity_payload.specs.declared.payload.Owner.TheVariants.{Block as OfBlock, App as OfApp}
-use Rattle.bio_core.specs.declared.fate.Why.{Why}
-use Rattle.block_path.specs.declared.route.Route.{Route}
-use Rattle.block_path.specs.Acts.{Act, State, act, effect, tell}
-use Rattle.block_path.specs.Blocks.{ActAnswer, fetched_cell, own_cell, own_frame, own_tuple, silent, stored_cell, tuple_after, written_by}
-use Rattle.block_path.specs.Moves.{AreCells, FrameAt, IsOne, carry_in, carry_out, hidden, joined, make_tuple, map_back, map_out, settle}
-use Rattle.block_path.specs.Routes.{host_size, wire_size}
-use Rattle.block_path.specs.Serial.{plain, plain_tells}
-use Rattle.block_path.specs.WayOut.{Fails, Refuses, Stores, WayOut, at_device, from_adapter, mapped_out, to_wire, way_out}
-use Rattle.block_path.proofs.Acts.{same_cells}
-use Rattle.block_path.proofs.Cells.{AllBelow, Distinct, gather_length}
-use Rattle.block_path.proofs.ReadMoves.{own_read, read_in_two}
-use Rattle.block_path.proofs.Sizes.{filled, mapped_sizes, out_size}
-use Rattle.block_path.proofs.WriteMoves.{bare_write, own_write, write_in_three}
+use Rattle.whole_run.specs.Passed.{Route, Act, State, act, effect, tell, ActAnswer, fetched_cell, own_cell, own_frame, own_tuple, silent, stored_cell, tuple_after, written_by, AreCells, FrameAt, IsOne, carry_in, carry_out, hidden, MovesJoined as joined, make_tuple, map_back, map_out, settle, host_size, wire_size, plain, plain_tells, Fails, Refuses, Stores, WayOut, at_device, from_adapter, mapped_out, to_wire, way_out, Why}
+use Rattle.whole_run.proofs.Passed.{same_cells, AllBelow, Distinct, gather_length, own_read, read_in_two, filled, mapped_sizes, out_size, bare_write, own_write, write_in_three}
 use Rattle.whole_run.specs.ScriptWalk.{act_of, changed, source_of}
 use Rattle.whole_run.specs.Settings.{Block, Setting, route}
 use Rattle.whole_run.specs.Steps.{Alters, Reads, Seals, Sets, Shows, Step, Writes, WritesPi}

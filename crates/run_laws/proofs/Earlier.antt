@@ -9,16 +9,8 @@ use Rattle.page_pool.specs.declared.segs.Seg.{Seg}
 use Rattle.page_pool.specs.Cells.{scatter}
 use Rattle.integrity_payload.specs.declared.payload.Owner.{Owner}
 use Rattle.integrity_payload.specs.declared.payload.Owner.TheVariants.{Block as OfBlock, App as OfApp}
-use Rattle.bio_core.specs.declared.fate.Why.{Why}
-use Rattle.stack_ops.specs.declared.op.Op.{Op}
-use Rattle.stack_ops.specs.declared.op.Op.TheVariants.{Fetch, FetchPi, Fill, Overwrite, Put, Seal, Show, Wait, Write, WritePi}
-use Rattle.stack_ops.specs.declared.reply.Reply.{Reply}
-use Rattle.stack_ops.specs.declared.reply.Reply.TheVariants.{Silent}
-use Rattle.block_path.specs.Acts.{State, act, effect, tell}
-use Rattle.block_path.specs.Blocks.{ActAnswer, Sent, own_cell, read_by, written_by}
-use Rattle.block_path.specs.declared.route.Route.{Route}
-use Rattle.block_path.specs.Serial.{plain, plain_tells}
-use Rattle.block_path.proofs.WriteMoves.{take_over}
+use Rattle.whole_run.specs.Passed.{Op, Fetch, FetchPi, Fill, Overwrite, Put, Seal, Show, Wait, Write, WritePi, Reply, Silent, State, act, effect, tell, ActAnswer, Sent, own_cell, read_by, written_by, Route, plain, plain_tells, Why}
+use Rattle.whole_run.proofs.Passed.{take_over}
 use Rattle.whole_run.specs.Past.{steps_from}
 use Rattle.whole_run.specs.Settings.{Block, Setting, block_of, route}
 use Rattle.whole_run.specs.Steps.{Alters, Reads, Seals, Sets, Shows, Step, Writes, WritesPi, body_of, each_from, frame_at, steps_of, tuple_of}

@@ -6,16 +6,8 @@ use Rattle.std.proofs.lemmas.List.Elements.{All-append, All-cons, All-nil, All-r
 use Rattle.pi_guard.specs.Guards.{crc, ip}
 use Rattle.pi_tuple.specs.declared.checks.Check.TheVariants.{Guard}
 use Rattle.page_pool.specs.Places.{run}
-use Rattle.bio_core.specs.declared.fate.Why.TheVariants.{Medium, Target}
 use Rattle.integrity_payload.specs.declared.payload.Owner.TheVariants.{Block as OfBlock}
-use Rattle.stack_ops.specs.declared.op.Op.{Op}
-use Rattle.stack_ops.specs.declared.op.Op.TheVariants.{Fetch, Put, Write, WritePi}
-use Rattle.stack_ops.specs.declared.reply.Reply.TheVariants.{Bad, Silent, Whole}
-use Rattle.target_answer.specs.Passing.{found_in, from_medium, to_medium}
-use Rattle.block_path.specs.Acts.{act, tell}
-use Rattle.block_path.specs.Serial.{plain_tells}
-use Rattle.block_path.specs.WayIn.{from_wire}
-use Rattle.block_path.specs.WayOut.{to_wire}
+use Rattle.whole_run.specs.Passed.{Op, Fetch, Put, Write, WritePi, Bad, Silent, Whole, found_in, from_medium, to_medium, act, tell, plain_tells, from_wire, to_wire, TheVariantsMedium as Medium, Target}
 use Rattle.whole_run.specs.CalmRun.{AllFit}
 use Rattle.whole_run.specs.Past.{steps_from}
 use Rattle.whole_run.specs.Settings.{Block, Setting, block_of}

@@ -6,17 +6,8 @@ use Rattle.page_pool.specs.Cells.{gather, scatter}
 use Rattle.pi_tuple.specs.declared.checks.Check.{Check}
 use Rattle.integrity_payload.specs.declared.payload.Owner.{Owner}
 use Rattle.integrity_payload.specs.declared.payload.Owner.TheVariants.{Block as OfBlock, App as OfApp}
-use Rattle.bio_core.specs.declared.fate.Why.{Why}
-use Rattle.bio_core.specs.declared.fate.Why.TheVariants.{Adapter, App, Block as ByOwner, Medium, Refused, Short, Target}
-use Rattle.stack_ops.specs.declared.op.Op.{Op}
-use Rattle.block_path.specs.Acts.{Act, Effect, State, act, conflict, effect, tell}
-use Rattle.block_path.specs.Blocks.{ActAnswer, own_cell, nothing_written, own_frame, silent, stored_cell, tuple_after, written_by}
-use Rattle.block_path.specs.Moves.{carry_in, carry_out, hidden, make_tuple, map_back, map_out, settle}
-use Rattle.block_path.specs.declared.route.Route.{Route}
-use Rattle.block_path.specs.Serial.{Leads, all_done, none_done, plain, plain_tells}
-use Rattle.block_path.specs.WayOut.{from_adapter, mapped_out, to_wire}
-use Rattle.block_path.proofs.Acts.{commutes, same_cells}
-use Rattle.block_path.proofs.Serial.{any_whole_order}
+use Rattle.whole_run.specs.Passed.{Op, Act, Effect, State, act, conflict, effect, tell, ActAnswer, own_cell, nothing_written, own_frame, silent, stored_cell, tuple_after, written_by, carry_in, carry_out, hidden, make_tuple, map_back, map_out, settle, Route, Leads, all_done, none_done, plain, plain_tells, from_adapter, mapped_out, to_wire, Why, Adapter, App, Block as ByOwner, TheVariantsMedium as Medium, Refused, Short, Target}
+use Rattle.whole_run.proofs.Passed.{commutes, same_cells, any_whole_order}
 use Rattle.whole_run.specs.Past.{steps_from}
 use Rattle.whole_run.specs.ScriptWalk.{replies_by}
 use Rattle.whole_run.specs.Settings.{Block, Setting, route}

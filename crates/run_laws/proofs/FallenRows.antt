@@ -5,16 +5,7 @@ use Rattle.std.proofs.lemmas.Bool.{eq-eqb, eqb-true}
 use Rattle.std.proofs.lemmas.List.{length-replicate}
 use Rattle.pi_guard.specs.Guards.{crc, ip}
 use Rattle.page_pool.specs.Places.{run}
-use Rattle.bio_core.specs.declared.fate.Why.TheVariants.{Medium}
-use Rattle.stack_ops.specs.declared.op.Op.{Op}
-use Rattle.stack_ops.specs.declared.op.Op.TheVariants.{Put, Write}
-use Rattle.stack_ops.specs.declared.reply.Reply.TheVariants.{Bad, Silent}
-use Rattle.target_answer.specs.Passing.{found_in, from_medium, to_medium}
-use Rattle.block_path.specs.Acts.{Act, State, act, conflict, tell}
-use Rattle.block_path.specs.Blocks.{ActAnswer, stored_cell}
-use Rattle.block_path.specs.Serial.{Leads, all_done, none_done}
-use Rattle.block_path.specs.WayIn.{from_wire}
-use Rattle.block_path.specs.WayOut.{to_wire}
+use Rattle.whole_run.specs.Passed.{Op, Put, Write, Bad, Silent, found_in, from_medium, to_medium, Act, State, act, conflict, tell, ActAnswer, stored_cell, Leads, all_done, none_done, from_wire, to_wire, TheVariantsMedium as Medium}
 use Rattle.whole_run.specs.ScriptWalk.{replies_by, set_bytes}
 use Rattle.whole_run.specs.Settings.{Block, Setting, block_of, route}
 use Rattle.whole_run.proofs.ScriptRows.{faulty, formatted, opening, seg}

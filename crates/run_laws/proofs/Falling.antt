@@ -14,17 +14,8 @@ use Rattle.pi_tuple.specs.declared.checks.Check.TheVariants.{AppTag}
 use Rattle.pi_tuple.proofs.TupleLaws.{tag_below}
 use Rattle.page_pool.specs.Cells.{gather, scatter}
 use Rattle.integrity_payload.specs.declared.payload.Owner.{Owner}
-use Rattle.bio_core.specs.declared.fate.Why.{Why}
-use Rattle.bio_core.specs.declared.fate.Why.TheVariants.{Adapter, App, Block as ByOwner, Medium, Refused, Short, Target}
-use Rattle.stack_ops.specs.declared.op.Op.{Op}
-use Rattle.volume_table.specs.Places.{volume_len}
-use Rattle.target_answer.specs.Frames.{data_of, frame_of, stored_size, tuple_of}
-use Rattle.block_path.specs.declared.route.Route.{Route}
-use Rattle.block_path.specs.Acts.{Act, State, act, conflict, tell}
-use Rattle.block_path.specs.Blocks.{ActAnswer, fetched_cell, own_cell, own_frame, own_tuple, read_by, stored_cell, tuple_after, written_by}
-use Rattle.block_path.specs.Routes.{host_type, target}
-use Rattle.block_path.specs.WayOut.{Fails, Refuses, Stores, WayOut, from_adapter, mapped_out, to_wire, way_out}
-use Rattle.block_path.proofs.Cells.{gather_length}
+use Rattle.whole_run.specs.Passed.{Op, data_of, frame_of, stored_size, tuple_of, Route, Act, State, act, conflict, tell, ActAnswer, fetched_cell, own_cell, own_frame, own_tuple, read_by, stored_cell, tuple_after, written_by, host_type, target, Fails, Refuses, Stores, WayOut, from_adapter, mapped_out, to_wire, way_out, volume_len, Why, Adapter, App, Block as ByOwner, TheVariantsMedium as Medium, Refused, Short, Target}
+use Rattle.whole_run.proofs.Passed.{gather_length}
 use Rattle.whole_run.specs.CalmRun.{AllFit, LiesInImage}
 use Rattle.whole_run.specs.FirstLayer.{last_accepted}
 use Rattle.whole_run.specs.Past.{Accepted, Brought, Event, Lost, brought_by, event_of, steps_from}

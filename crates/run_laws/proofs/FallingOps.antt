@@ -7,14 +7,8 @@ use Rattle.page_pool.specs.Cells.{gather, scatter}
 use Rattle.range_gate.specs.Cells.{cells_of}
 use Rattle.integrity_payload.specs.declared.payload.Owner.{Owner}
 use Rattle.integrity_payload.specs.declared.payload.Owner.TheVariants.{Block as OfBlock, App as OfApp}
-use Rattle.bio_core.specs.declared.fate.Why.{Why}
-use Rattle.stack_ops.specs.declared.op.Op.{Op}
-use Rattle.stack_ops.specs.declared.reply.Reply.TheVariants.{Silent}
-use Rattle.target_answer.specs.Frames.{data_of, tuple_of}
-use Rattle.block_path.specs.Acts.{Act, State, act, tell}
-use Rattle.block_path.specs.Blocks.{ActAnswer}
-use Rattle.block_path.specs.Serial.{plain_tells}
-use Rattle.block_path.proofs.Cells.{AllBelow, Distinct, below, distinct}
+use Rattle.whole_run.specs.Passed.{Op, Silent, data_of, tuple_of, Act, State, act, tell, ActAnswer, plain_tells, Why}
+use Rattle.whole_run.proofs.Passed.{AllBelow, Distinct, below, distinct}
 use Rattle.whole_run.specs.FirstLayer.{last_accepted}
 use Rattle.whole_run.specs.Past.{Brought, Event, steps_from}
 use Rattle.whole_run.specs.ScriptWalk.{act_of, acts_of, replies_by, reply_of, request_reply}

@@ -4,14 +4,9 @@ use Rattle.std.specs.Prelude.{◌⊎◌}
 use Rattle.page_pool.specs.declared.segs.Seg.{Seg}
 use Rattle.page_pool.specs.Cells.{gather, share_a_cell}
 use Rattle.integrity_payload.specs.declared.payload.Owner.TheVariants.{App as OfApp}
-use Rattle.bio_core.specs.declared.fate.Why.{Why}
-use Rattle.bio_core.specs.declared.fate.Why.TheVariants.{Medium}
 use Rattle.range_gate.specs.Cells.{cells_of}
-use Rattle.stack_ops.specs.declared.op.Op.{Op}
-use Rattle.stack_ops.specs.declared.op.Op.TheVariants.{Write, WritePi}
-use Rattle.target_answer.specs.Frames.{data_of, tuple_of}
-use Rattle.block_path.specs.Acts.{State, tell}
-use Rattle.block_path.proofs.Cells.{Distinct, distinct, share_back}
+use Rattle.whole_run.specs.Passed.{Op, Write, WritePi, data_of, tuple_of, State, tell, Why, TheVariantsMedium as Medium}
+use Rattle.whole_run.proofs.Passed.{Distinct, distinct, share_back}
 use Rattle.whole_run.specs.Past.{steps_from}
 use Rattle.whole_run.specs.PlainMap.{finds_of_app, finds_plainly}
 use Rattle.whole_run.specs.Settings.{Block, Setting, block_of}

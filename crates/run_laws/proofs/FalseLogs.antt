@@ -9,16 +9,7 @@ use Rattle.cdb_codec.specs.declared.command.Cdb.TheVariants.{Read16, Write16}
 use Rattle.fault_schedule.specs.declared.Label.{Label}
 use Rattle.fault_schedule.specs.declared.fault.Crossing.TheVariants.{HostToAdapter}
 use Rattle.integrity_payload.specs.declared.payload.Owner.TheVariants.{Block as OfBlock}
-use Rattle.bio_core.specs.declared.fate.Why.{Why}
-use Rattle.bio_core.specs.declared.fate.Why.TheVariants.{Adapter, Medium, Short}
-use Rattle.rig_api.specs.Log.{LogEntry}
-use Rattle.stack_ops.specs.declared.op.Op.{Op}
-use Rattle.stack_ops.specs.declared.op.Op.TheVariants.{Fetch, Show, Write}
-use Rattle.stack_ops.specs.declared.reply.Reply.{Reply}
-use Rattle.stack_ops.specs.declared.reply.Reply.TheVariants.{Bad, Medium as Failed, Shown, Silent, Whole}
-use Rattle.block_path.specs.Blocks.{AskedBlock}
-use Rattle.block_path.specs.WayIn.{from_wire}
-use Rattle.block_path.specs.WayOut.{to_wire}
+use Rattle.whole_run.specs.Passed.{LogEntry, Op, Fetch, Show, Write, Reply, Bad, Medium as Failed, Shown, Silent, Whole, AskedBlock, from_wire, to_wire, Why, Adapter, TheVariantsMedium as Medium, Short}
 use Rattle.whole_run.specs.Settings.{block_of, route}
 use Rattle.whole_run.specs.ReadsAs.{listed_in}
 use Rattle.whole_run.proofs.ScriptRows.{faulty, flip, formatted, opening, seg}

@@ -9,7 +9,7 @@ use Rattle.pi_tuple.specs.declared.checks.PiType.TheVariants.{One}
 use Rattle.pi_tuple.specs.declared.checks.Check.{Check}
 use Rattle.pi_tuple.specs.declared.checks.Check.TheVariants.{AppTag, Guard, RefTag}
 use Rattle.integrity_payload.specs.Payloads.{all_asked}
-use Rattle.target_answer.specs.Passing.{unless}
+use Rattle.whole_run.specs.Passed.{unless}
 use Rattle.whole_run.specs.Detectable.{bears, if_passed}
 
 pub record IsFound (o : Option Check) : Type 0 where

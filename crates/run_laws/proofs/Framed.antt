@@ -17,10 +17,8 @@ use Rattle.fault_schedule.specs.declared.fault.Crossing.{Crossing}
 use Rattle.fault_schedule.specs.declared.fault.FaultKind.{FaultKind}
 use Rattle.fault_schedule.specs.declared.fault.FaultKind.TheVariants.{Flip, Shift}
 use Rattle.fault_schedule.specs.declared.fault.FaultLine.{FaultLine}
-use Rattle.ref_remap.specs.Remapped.{remapped_bytes}
-use Rattle.target_answer.specs.Frames.{data_of, tuple_of}
-use Rattle.block_path.specs.Routes.{with_guard}
-use Rattle.block_path.proofs.Sizes.{tuple_length}
+use Rattle.whole_run.specs.Passed.{remapped_bytes, data_of, tuple_of, with_guard}
+use Rattle.whole_run.proofs.Passed.{tuple_length}
 use Rattle.whole_run.specs.FirstLayer.{is_flip}
 use Rattle.small_laws.proofs.Lists.{behind_long}
 

@@ -9,11 +9,7 @@ use Rattle.fault_schedule.specs.Altered.{shift_of}
 use Rattle.fault_schedule.specs.declared.fault.Crossing.TheVariants.{AdapterToTarget}
 use Rattle.range_gate.specs.declared.footprint.Reach.{Reach}
 use Rattle.range_gate.specs.declared.footprint.Touch.{Touch}
-use Rattle.stack_ops.specs.declared.op.Op.{Op}
-use Rattle.stack_ops.specs.declared.op.Op.TheVariants.{Write}
-use Rattle.volume_table.specs.Places.{place_in}
-use Rattle.volume_table.specs.declared.device.DeviceInfo.{DeviceInfo}
-use Rattle.block_path.specs.Routes.{wire_lba}
+use Rattle.whole_run.specs.Passed.{Op, Write, wire_lba, place_in, DeviceInfo}
 use Rattle.whole_run.specs.Settings.{Setting, block_of, route}
 use Rattle.whole_run.specs.UnderMap.{home}
 use Rattle.whole_run.proofs.ScriptRows.{faulty, opening, seg, shift}

@@ -9,11 +9,7 @@ use Rattle.page_pool.specs.declared.segs.Seg.{Seg}
 use Rattle.page_pool.specs.Cells.{is_in}
 use Rattle.range_gate.specs.Cells.{Cells, block_cells, cells_of, in_turn}
 use Rattle.integrity_payload.specs.declared.payload.Owner.TheVariants.{Block as OfBlock, App as OfApp}
-use Rattle.stack_ops.specs.declared.op.Op.{Op}
-use Rattle.stack_ops.specs.declared.op.Op.TheVariants.{Fetch, FetchPi, Fill, Overwrite, Put, Seal, Show, Wait, Write, WritePi}
-use Rattle.stack_ops.specs.Footprints.{cells_touched, is_alone, put_seg, reach_of}
-use Rattle.block_path.specs.Blocks.{fetched_cell, stored_cell}
-use Rattle.block_path.specs.Routes.{moved, wire_lba}
+use Rattle.whole_run.specs.Passed.{Op, Fetch, FetchPi, Fill, Overwrite, Put, Seal, Show, Wait, Write, WritePi, cells_touched, is_alone, put_seg, reach_of, fetched_cell, stored_cell, moved, wire_lba}
 use Rattle.whole_run.specs.Settings.{Block, Setting, block_of, route}
 use Rattle.whole_run.specs.Steps.{Reads, Seals, Step, Writes, WritesPi, body_of, each_from, frame_at, tuple_of}
 use Rattle.whole_run.specs.UnderMap.{home}

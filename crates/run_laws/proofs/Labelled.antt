@@ -6,14 +6,7 @@ use Rattle.std.proofs.lemmas.Bool.{eq-eqb, eqb-true, eqb-false, ne_eqb}
 use Rattle.fault_schedule.specs.declared.Label.{Label}
 use Rattle.integrity_payload.specs.declared.payload.Owner.{Owner}
 use Rattle.integrity_payload.specs.declared.payload.Owner.TheVariants.{Block as OfBlock, App as OfApp}
-use Rattle.stack_ops.specs.declared.op.Op.{Op}
-use Rattle.stack_ops.specs.declared.op.Op.TheVariants.{Fetch, FetchPi, Fill, Overwrite, Put, Seal, Show, Wait, Write, WritePi}
-use Rattle.block_path.specs.Acts.{Act, State, act, tell}
-use Rattle.block_path.specs.Blocks.{ActAnswer, AskedBlock, Sent, read_by, written_by}
-use Rattle.block_path.specs.declared.route.Route.{Route}
-use Rattle.block_path.specs.Serial.{plain, plain_tells}
-use Rattle.block_path.specs.WayIn.{Delivers, Spoils, Stops, WayIn}
-use Rattle.block_path.specs.WayOut.{Fails, Refuses, Stores, WayOut}
+use Rattle.whole_run.specs.Passed.{Op, Fetch, FetchPi, Fill, Overwrite, Put, Seal, Show, Wait, Write, WritePi, Act, State, act, tell, ActAnswer, AskedBlock, Sent, read_by, written_by, Route, plain, plain_tells, Delivers, Spoils, Stops, WayIn, Fails, Refuses, Stores, WayOut}
 use Rattle.whole_run.specs.ScriptWalk.{act_of, acts_from, acts_of}
 use Rattle.whole_run.specs.Settings.{Setting, block_of, route}
 use Rattle.whole_run.specs.Steps.{Reads, Seals, Step, Writes, WritesPi, body_of, each_from, frame_at, tuple_of}

@@ -18,15 +18,8 @@ use Rattle.fault_schedule.specs.declared.fault.Crossing.{Crossing}
 use Rattle.fault_schedule.specs.declared.fault.Crossing.TheVariants.{AdapterToHost, AdapterToTarget, HostToAdapter, MediumToTarget, TargetToAdapter, TargetToMedium}
 use Rattle.integrity_payload.specs.Payloads.{all_asked}
 use Rattle.integrity_payload.specs.declared.payload.Owner.{Owner}
-use Rattle.bio_core.specs.declared.fate.Why.{Why}
-use Rattle.bio_core.specs.declared.fate.Why.TheVariants.{Adapter, Target}
-use Rattle.target_answer.specs.Frames.{data_of, tuple_of}
-use Rattle.target_answer.specs.Passing.{found_in, from_medium, then_crossed, to_medium, unless}
-use Rattle.block_path.specs.Routes.{by_target, converted, is_crc, medium_lba, moved, passage, target, wire_lba, with_guard}
-use Rattle.block_path.specs.WayIn.{Delivers, Spoils, Stops, WayIn, at_host, delivered_unless, from_device, from_wire, mapped_back, owner_says, received, verified, way_in}
-use Rattle.block_path.specs.WayOut.{Fails, Refuses, Stores, WayOut, adapter_finds_out, at_device, from_adapter, mapped_out, sent, to_wire, way_out}
-use Rattle.block_path.proofs.Sizes.{altered_length}
-use Rattle.block_path.proofs.PathLaws.{as_crc, as_ip}
+use Rattle.whole_run.specs.Passed.{data_of, tuple_of, found_in, from_medium, then_crossed, to_medium, unless, by_target, converted, is_crc, medium_lba, moved, passage, target, wire_lba, with_guard, Delivers, Spoils, Stops, WayIn, at_host, delivered_unless, from_device, from_wire, mapped_back, owner_says, received, verified, way_in, Fails, Refuses, Stores, WayOut, adapter_finds_out, at_device, from_adapter, mapped_out, sent, to_wire, way_out, Why, Adapter, Target}
+use Rattle.whole_run.proofs.Passed.{altered_length, as_crc, as_ip}
 use Rattle.whole_run.specs.Detectable.{arrives, asks_app, bears, bears_some, crossed, found, guard_at, if_passed, is_foreign, is_not_meant, shows, shows_at_medium, shows_in, shows_on_wire, shows_out}
 use Rattle.whole_run.specs.FirstLayer.{AtAdapter, AtOwner, AtTarget, Layer, has_flip, has_shift}
 use Rattle.whole_run.specs.Past.{Brought, brought_by}

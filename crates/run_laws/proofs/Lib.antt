@@ -1,34 +1,35 @@
-pub mod Framed
-pub mod Found
-pub mod Layers
 pub mod Along
-pub mod Parts
-pub mod Reading
-pub mod ShownRows
-pub mod Passing
-mod QuietWays
+pub mod AtTarget
+pub mod Backs
+pub mod Behind
+pub mod Between
+pub mod BlocksApart
+mod Does
+mod Earlier
+mod FallRows
+mod Fallen
+mod FallenRows
 mod Falling
 pub mod FallingOps
 mod FallingWrites
-mod FallRows
-mod Reach
-pub mod Turns
-pub mod Inside
-pub mod Meeting
-pub mod BlocksApart
-pub mod Behind
-mod Does
-pub mod Ordered
-mod Fallen
-pub mod AtTarget
-mod MoveRows
-mod FallenRows
-mod GateRows
-pub mod Between
-pub mod Labelled
-mod Mirrors
-pub mod Backs
-pub mod OwnRecord
-mod Earlier
-pub mod RecordRows
 mod FalseLogs
+pub mod Found
+pub mod Framed
+mod GateRows
+pub mod Inside
+pub mod Labelled
+pub mod Layers
+pub mod Meeting
+mod Mirrors
+mod MoveRows
+pub mod Ordered
+pub mod OwnRecord
+pub mod Parts
+pub mod Passed
+pub mod Passing
+mod QuietWays
+mod Reach
+pub mod Reading
+pub mod RecordRows
+pub mod ShownRows
+pub mod Turns

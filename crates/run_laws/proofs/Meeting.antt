@@ -4,13 +4,8 @@ use Rattle.std.proofs.lemmas.Bool.{or_from}
 use Rattle.page_pool.specs.Cells.{share_a_cell}
 use Rattle.range_gate.specs.Cells.{Cells, block_cells, byte_cells, cells_clash, in_turn}
 use Rattle.range_gate.proofs.CellLaws.{no_block, no_byte, none_alone}
-use Rattle.stack_ops.specs.declared.op.Op.{Op}
-use Rattle.stack_ops.specs.declared.op.Op.TheVariants.{Fetch, FetchPi, Fill, Overwrite, Put, Seal, Show, Wait, Write, WritePi}
-use Rattle.stack_ops.specs.Footprints.{bytes_of, cells_touched, footprint, reach_of}
-use Rattle.stack_ops.proofs.Sides.{cells_are}
-use Rattle.volume_table.specs.Places.{volume_len}
-use Rattle.block_path.specs.Acts.{conflict}
-use Rattle.block_path.proofs.Cells.{AllBelow, below, no_clash, share_back}
+use Rattle.whole_run.specs.Passed.{Op, Fetch, FetchPi, Fill, Overwrite, Put, Seal, Show, Wait, Write, WritePi, bytes_of, cells_touched, footprint, reach_of, conflict, volume_len}
+use Rattle.whole_run.proofs.Passed.{cells_are, AllBelow, below, no_clash, share_back}
 use Rattle.whole_run.specs.Settings.{Setting}
 use Rattle.whole_run.specs.UnderMap.{home}
 use Rattle.run_laws.proofs.Parts.{share_left, share_right}

@@ -8,16 +8,7 @@ use Rattle.fault_schedule.specs.declared.fault.Crossing.TheVariants.{AdapterToHo
 use Rattle.fault_schedule.specs.declared.fault.FaultLine.{FaultLine}
 use Rattle.integrity_payload.specs.declared.payload.Owner.{Owner}
 use Rattle.integrity_payload.specs.declared.payload.Owner.TheVariants.{Block as OfBlock, App as OfApp}
-use Rattle.bio_core.specs.declared.fate.Why.{Why}
-use Rattle.bio_core.specs.declared.fate.Why.TheVariants.{Adapter}
-use Rattle.stack_ops.specs.declared.reply.Reply.{Reply}
-use Rattle.target_answer.specs.Passing.{then_crossed, unless}
-use Rattle.block_path.specs.Acts.{Act, Effect, State, act, effect, seen, tell}
-use Rattle.block_path.specs.Blocks.{ActAnswer, Sent, own_frame, read_block, read_by, tuple_after, write_block, write_block_of_app, written_by}
-use Rattle.block_path.specs.declared.route.Route.{Route}
-use Rattle.block_path.specs.Routes.{medium_lba, told_by}
-use Rattle.block_path.specs.WayIn.{Delivers, Spoils, Stops, WayIn, adapter_finds_in, at_host, delivered_unless, from_device, from_wire, owner_finds, owner_says, received, verified, way_in}
-use Rattle.block_path.specs.WayOut.{Stores, WayOut, adapter_finds_out, from_adapter, goes_out, mapped_out, to_wire}
+use Rattle.whole_run.specs.Passed.{Reply, then_crossed, unless, Act, Effect, State, act, effect, seen, tell, ActAnswer, Sent, own_frame, read_block, read_by, tuple_after, write_block, write_block_of_app, written_by, Route, medium_lba, told_by, Delivers, Spoils, Stops, WayIn, adapter_finds_in, at_host, delivered_unless, from_device, from_wire, owner_finds, owner_says, received, verified, way_in, Stores, WayOut, adapter_finds_out, from_adapter, goes_out, mapped_out, to_wire, Why, Adapter}
 use Rattle.whole_run.specs.ScriptWalk.{act_of}
 use Rattle.whole_run.specs.Settings.{Setting, route}
 use Rattle.whole_run.specs.Steps.{Alters, Reads, Seals, Sets, Shows, Step, Writes, WritesPi}

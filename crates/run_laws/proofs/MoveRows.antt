@@ -5,11 +5,7 @@ use Rattle.std.proofs.lemmas.Bool.{eq-eqb}
 use Rattle.std.proofs.lemmas.List.{length-replicate}
 use Rattle.page_pool.specs.Places.{run}
 use Rattle.fault_schedule.specs.declared.fault.Crossing.TheVariants.{TargetToMedium}
-use Rattle.stack_ops.specs.declared.op.Op.{Op}
-use Rattle.stack_ops.specs.declared.op.Op.TheVariants.{Put, Write}
-use Rattle.block_path.specs.Acts.{Act, State, act, conflict, tell}
-use Rattle.block_path.specs.Blocks.{ActAnswer}
-use Rattle.block_path.specs.Serial.{Leads, all_done, none_done}
+use Rattle.whole_run.specs.Passed.{Op, Put, Write, Act, State, act, conflict, tell, ActAnswer, Leads, all_done, none_done}
 use Rattle.whole_run.specs.ScriptWalk.{set_bytes}
 use Rattle.whole_run.specs.Settings.{Setting, block_of}
 use Rattle.whole_run.proofs.ScriptRows.{faulty, flip, opening, seg}

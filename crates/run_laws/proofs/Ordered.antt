@@ -2,16 +2,8 @@
 use Rattle.std.proofs.Common.{◌≡◌, ◌<◌, ◌≤◌, ◌%◌, ◌^◌, ℕ, zero, suc, ◌+◌, ◌*◌, Bool, true, if◌then◌else◌, List, [], ◌∷◌, ◌++◌, length, map, drop, refl, sym, ap, subst, ◌∙◌, arith}
 use Rattle.range_gate.specs.Cells.{cells_of}
 use Rattle.integrity_payload.specs.declared.payload.Owner.TheVariants.{Block as OfBlock, App as OfApp}
-use Rattle.stack_ops.specs.declared.op.Op.{Op}
-use Rattle.stack_ops.specs.declared.op.Op.TheVariants.{Fetch, FetchPi, Fill, Overwrite, Put, Seal, Show, Wait, Write, WritePi}
-use Rattle.block_path.specs.Acts.{Act, State, act, conflict, tell}
-use Rattle.block_path.specs.Blocks.{ActAnswer}
-use Rattle.block_path.specs.Moves.{hidden}
-use Rattle.block_path.specs.Serial.{Leads, all_done, none_done, plain, plain_tells}
-use Rattle.block_path.proofs.Acts.{commutes}
-use Rattle.block_path.proofs.Cells.{below, distinct}
-use Rattle.block_path.proofs.Serial.{any_whole_order}
-use Rattle.block_path.proofs.InTurn.{plain_append}
+use Rattle.whole_run.specs.Passed.{Op, Fetch, FetchPi, Fill, Overwrite, Put, Seal, Show, Wait, Write, WritePi, Act, State, act, conflict, tell, ActAnswer, hidden, Leads, all_done, none_done, plain, plain_tells}
+use Rattle.whole_run.proofs.Passed.{commutes, below, distinct, any_whole_order, plain_append}
 use Rattle.whole_run.specs.ScriptWalk.{act_of, acts_from, acts_of, replies_from, reply_of, walk_from}
 use Rattle.whole_run.specs.Settings.{Setting, block_of}
 use Rattle.whole_run.specs.Steps.{Alters, Reads, Seals, Sets, Shows, Step, Writes, WritesPi, body_of, each_from, frame_at, steps_of, tuple_of}

@@ -8,16 +8,8 @@ use Rattle.pi_tuple.specs.declared.checks.Check.{Check}
 use Rattle.fault_schedule.specs.declared.Label.{Label}
 use Rattle.fault_schedule.specs.declared.fault.FaultLine.{FaultLine}
 use Rattle.integrity_payload.specs.declared.payload.Owner.{Owner}
-use Rattle.bio_core.specs.declared.fate.Why.{Why}
-use Rattle.stack_ops.specs.declared.op.Op.{Op}
-use Rattle.block_path.specs.Acts.{Act, Effect, State, act, effect, tell}
-use Rattle.block_path.specs.Blocks.{ActAnswer, Sent, fetched_cell, own_cell, own_frame, read_by, tuple_after, written_by}
-use Rattle.block_path.specs.declared.route.Route.{Route}
-use Rattle.block_path.specs.Routes.{Device, told_by}
-use Rattle.block_path.specs.Serial.{plain, plain_tells}
-use Rattle.block_path.specs.WayIn.{at_host, delivered_unless, from_device, from_wire, mapped_back, owner_finds, verified}
-use Rattle.block_path.specs.WayOut.{at_device, from_adapter, mapped_out, to_wire}
-use Rattle.block_path.proofs.Acts.{same_cells}
+use Rattle.whole_run.specs.Passed.{Op, Act, Effect, State, act, effect, tell, ActAnswer, Sent, fetched_cell, own_cell, own_frame, read_by, tuple_after, written_by, Route, Device, told_by, plain, plain_tells, at_host, delivered_unless, from_device, from_wire, mapped_back, owner_finds, verified, at_device, from_adapter, mapped_out, to_wire, Why}
+use Rattle.whole_run.proofs.Passed.{same_cells}
 use Rattle.whole_run.specs.Past.{steps_from}
 use Rattle.whole_run.specs.ScriptWalk.{act_of, acts_from, acts_of, replies_by, reply_of, script_replies, script_walk}
 use Rattle.whole_run.specs.Settings.{Setting, route}

@@ -9,7 +9,7 @@ use Rattle.page_pool.specs.Places.{places_in}
 use Rattle.range_gate.specs.Cells.{cells_of}
 use Rattle.integrity_payload.specs.declared.payload.Owner.{Owner}
 use Rattle.integrity_payload.specs.declared.payload.Owner.TheVariants.{Block as OfBlock, App as OfApp}
-use Rattle.block_path.proofs.Cells.{AllBelow, Distinct, gather_back, apart_at, in_head, share_by, share_back}
+use Rattle.whole_run.proofs.Passed.{AllBelow, Distinct, gather_back, apart_at, in_head, share_by, share_back}
 use Rattle.whole_run.specs.Steps.{body_of, tuple_of}
 use Rattle.whole_run.specs.ReadsAs.{landing}
 use Rattle.whole_run.proofs.CalmRuns.{room as later}

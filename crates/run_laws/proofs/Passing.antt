@@ -14,8 +14,7 @@ use Rattle.pi_tuple.specs.declared.checks.Check.{Check}
 use Rattle.pi_tuple.specs.declared.checks.Check.TheVariants.{AppTag, Guard, RefTag}
 use Rattle.pi_tuple.specs.declared.checks.Checks.{Checks}
 use Rattle.integrity_payload.specs.Payloads.{all_asked}
-use Rattle.target_answer.specs.Frames.{data_of, stored_size, tuple_of}
-use Rattle.block_path.specs.Routes.{host_type, is_crc, with_guard}
+use Rattle.whole_run.specs.Passed.{data_of, stored_size, tuple_of, host_type, is_crc, with_guard}
 use Rattle.whole_run.specs.Past.{Brought}
 use Rattle.whole_run.specs.PlainMap.{all_pass, as_expected}
 use Rattle.whole_run.specs.Settings.{Setting}

@@ -18,15 +18,8 @@ use Rattle.fault_schedule.specs.declared.fault.Crossing.TheVariants.{AdapterToHo
 use Rattle.fault_schedule.proofs.Unaltered.{altered_none}
 use Rattle.integrity_payload.specs.Payloads.{all_asked}
 use Rattle.integrity_payload.specs.declared.payload.Owner.{Owner}
-use Rattle.target_answer.specs.Frames.{data_of, frame_of, stored_size, tuple_of}
-use Rattle.target_answer.specs.Passing.{accepted, asked_of, found_in, from_medium, released, then_crossed, to_medium, unless, wanted_of, with_own_tuple}
-use Rattle.block_path.specs.declared.route.Route.{Route}
-use Rattle.block_path.specs.Routes.{Device, by_target, converted, host_type, is_crc, passage, passes_tuples, target, wire_lba}
-use Rattle.bio_core.specs.declared.request.Dir.TheVariants.{Read, Write}
-use Rattle.block_path.specs.Operations.{handed_on, operation}
-use Rattle.block_path.specs.WayIn.{Delivers, adapter_finds_in, at_host, delivered_unless, from_device, from_wire, mapped_back, owner_finds, received, verified, way_in}
-use Rattle.block_path.specs.WayOut.{Fails, Refuses, Stores, WayOut, adapter_finds_out, at_device, from_adapter, mapped_out, sent, to_wire, way_out}
-use Rattle.block_path.proofs.PathLaws.{never_zero}
+use Rattle.whole_run.specs.Passed.{data_of, frame_of, stored_size, tuple_of, accepted, asked_of, found_in, from_medium, released, then_crossed, to_medium, unless, wanted_of, with_own_tuple, Route, Device, by_target, converted, host_type, is_crc, passage, passes_tuples, target, wire_lba, handed_on, operation, Delivers, adapter_finds_in, at_host, delivered_unless, from_device, from_wire, mapped_back, owner_finds, received, verified, way_in, Fails, Refuses, Stores, WayOut, adapter_finds_out, at_device, from_adapter, mapped_out, sent, to_wire, way_out, TheVariantsRead as Read, TheVariantsWrite2 as Write}
+use Rattle.whole_run.proofs.Passed.{never_zero}
 use Rattle.whole_run.specs.Past.{Brought, brought_by}
 use Rattle.whole_run.specs.PlainMap.{all_pass}
 use Rattle.whole_run.specs.Settings.{Block, Setting, route}

@@ -3,10 +3,8 @@ use Rattle.std.proofs.Common.{◌≡◌, ℕ, Bool, true, false, ◌||◌, eqb, 
 use Rattle.std.proofs.lemmas.Bool.{false≢true, or_from, or_right}
 use Rattle.page_pool.specs.Cells.{is_in, share_a_cell}
 use Rattle.range_gate.specs.Cells.{Cells, cells_clash}
-use Rattle.block_path.specs.Acts.{Act, conflict}
-use Rattle.block_path.specs.Blocks.{ActAnswer, fetched_cell, own_cell, stored_cell, untouched}
-use Rattle.block_path.specs.Serial.{Apart}
-use Rattle.block_path.proofs.Cells.{no_clash}
+use Rattle.whole_run.specs.Passed.{Act, conflict, ActAnswer, fetched_cell, own_cell, stored_cell, untouched, Apart}
+use Rattle.whole_run.proofs.Passed.{no_clash}
 use Rattle.whole_run.specs.Settings.{Block, Setting, route}
 use Rattle.whole_run.specs.Steps.{Alters, Reads, Seals, Sets, Shows, Step, Writes, WritesPi}
 use Rattle.whole_run.specs.ScriptWalk.{source_of}

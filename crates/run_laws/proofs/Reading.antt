@@ -7,16 +7,9 @@ use Rattle.page_pool.specs.Cells.{gather, scatter}
 use Rattle.page_pool.specs.Places.{total}
 use Rattle.integrity_payload.specs.declared.payload.Owner.{Owner}
 use Rattle.integrity_payload.specs.declared.payload.Owner.TheVariants.{Block as OfBlock, App as OfApp}
-use Rattle.stack_ops.specs.declared.op.Op.{Op}
-use Rattle.stack_ops.specs.declared.op.Op.TheVariants.{Fetch, FetchPi, Fill, Overwrite, Put, Seal, Show, Wait, Write, WritePi}
-use Rattle.stack_ops.specs.declared.reply.Reply.TheVariants.{Silent}
+use Rattle.whole_run.specs.Passed.{Op, Fetch, FetchPi, Fill, Overwrite, Put, Seal, Show, Wait, Write, WritePi, Silent, data_of, tuple_of as tuple_in_frame, State, act, tell, ActAnswer, fetched_cell, plain, plain_tells, DeviceInfo}
 use Rattle.range_gate.specs.Cells.{cells_of}
-use Rattle.volume_table.specs.declared.device.DeviceInfo.{DeviceInfo}
-use Rattle.target_answer.specs.Frames.{data_of, tuple_of as tuple_in_frame}
-use Rattle.block_path.specs.Acts.{State, act, tell}
-use Rattle.block_path.specs.Blocks.{ActAnswer, fetched_cell}
-use Rattle.block_path.specs.Serial.{plain, plain_tells}
-use Rattle.block_path.proofs.Cells.{AllBelow, Distinct, below, distinct}
+use Rattle.whole_run.proofs.Passed.{AllBelow, Distinct, below, distinct}
 use Rattle.whole_run.specs.Detectable.{detectable, found}
 use Rattle.whole_run.specs.FirstLayer.{Layer, first_layer, last_accepted}
 use Rattle.whole_run.specs.Past.{Event, events_of, past_after, steps_from}

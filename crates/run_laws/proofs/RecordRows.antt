@@ -6,24 +6,12 @@ use Rattle.std.proofs.lemmas.List.{get_or_past}
 use Rattle.pi_guard.specs.Guards.{crc, ip}
 use Rattle.pi_tuple.specs.declared.checks.Check.TheVariants.{RefTag}
 use Rattle.page_pool.specs.Places.{run}
-use Rattle.sense_codes.specs.declared.Sense.{Sense}
 use Rattle.cdb_codec.specs.Forms.{form}
 use Rattle.cdb_codec.specs.declared.command.Rw.{Rw}
 use Rattle.cdb_codec.specs.declared.command.Cdb.TheVariants.{Read16, Write16}
 use Rattle.fault_schedule.specs.declared.Label.{Label}
-use Rattle.rig_api.specs.Log.{LogEntry}
+use Rattle.whole_run.specs.Passed.{LogEntry, Op, Fetch, Write, Reply, Bad, joined, found_in, from_medium, to_medium, Sent, from_wire, to_wire, Sense, Adapter, TheVariantsMedium as Medium, TheVariantsRead as Read, TheVariantsWrite2 as ToUnit}
 use Rattle.integrity_payload.specs.declared.payload.Owner.TheVariants.{Block as OfBlock}
-use Rattle.bio_core.specs.declared.fate.Why.TheVariants.{Adapter, Medium}
-use Rattle.bio_core.specs.declared.request.Dir.TheVariants.{Read, Write as ToUnit}
-use Rattle.stack_ops.specs.declared.op.Op.{Op}
-use Rattle.stack_ops.specs.declared.op.Op.TheVariants.{Fetch, Write}
-use Rattle.stack_ops.specs.declared.reply.Reply.{Reply}
-use Rattle.stack_ops.specs.declared.reply.Reply.TheVariants.{Bad}
-use Rattle.target_answer.specs.Frames.{joined}
-use Rattle.target_answer.specs.Passing.{found_in, from_medium, to_medium}
-use Rattle.block_path.specs.Blocks.{Sent}
-use Rattle.block_path.specs.WayIn.{from_wire}
-use Rattle.block_path.specs.WayOut.{to_wire}
 use Rattle.whole_run.specs.ScriptWalk.{script_replies, script_walk}
 use Rattle.whole_run.specs.Settings.{Setting}
 use Rattle.whole_run.specs.UnderMap.{home}

@@ -13,19 +13,8 @@ use Rattle.page_pool.specs.Places.{run}
 use Rattle.fault_schedule.specs.declared.fault.Crossing.TheVariants.{AdapterToTarget, MediumToTarget, TargetToMedium}
 use Rattle.fault_schedule.specs.declared.fault.FaultLine.{FaultLine}
 use Rattle.fault_schedule.specs.Altered.{shift_of}
-use Rattle.rig_api.specs.declared.change.Change.TheVariants.{Copy}
-use Rattle.bio_core.specs.declared.fate.Why.TheVariants.{Target}
-use Rattle.stack_ops.specs.declared.op.Op.{Op}
-use Rattle.stack_ops.specs.declared.op.Op.TheVariants.{Fetch, FetchPi, Overwrite, Write}
-use Rattle.stack_ops.specs.declared.reply.Reply.TheVariants.{Bad, Silent, Whole}
-use Rattle.target_answer.specs.Passing.{found_in, from_medium, to_medium}
-use Rattle.volume_table.specs.declared.device.DeviceInfo.{DeviceInfo}
-use Rattle.volume_table.specs.Places.{place_in}
+use Rattle.whole_run.specs.Passed.{Copy, Op, Fetch, FetchPi, Overwrite, Write, Bad, Silent, Whole, found_in, from_medium, to_medium, AreCells, moved, from_wire, to_wire, DeviceInfo, place_in, Target}
 use Rattle.range_gate.specs.Cells.{cells_of}
-use Rattle.block_path.specs.Moves.{AreCells}
-use Rattle.block_path.specs.Routes.{moved}
-use Rattle.block_path.specs.WayIn.{from_wire}
-use Rattle.block_path.specs.WayOut.{to_wire}
 use Rattle.whole_run.specs.ScriptWalk.{script_replies}
 use Rattle.whole_run.specs.Settings.{Setting}
 use Rattle.whole_run.specs.UnderMap.{IsClean}

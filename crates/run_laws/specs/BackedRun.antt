@@ -1,20 +1,9 @@
 use Rattle.std.specs.Prelude.{ℕ, ◌≡◌, ◌⊎◌, Bool, true, false, List, [], ◌∷◌, get_or, Option, Some, None, IfSome}
 use Rattle.std.specs.List.{AllByRecursion as Each}
 use Rattle.integrity_payload.specs.declared.payload.Owner.{Owner}
-use Rattle.bio_core.specs.declared.fate.Why.{Why}
-use Rattle.bio_core.specs.declared.fate.Why.TheVariants.{Adapter, App, Block as ByOwner, Medium, Refused, Short, Target}
-use Rattle.bio_core.specs.declared.request.Dir.{Dir}
-use Rattle.bio_core.specs.declared.request.Dir.TheVariants.{Read, Write}
 use Rattle.pi_tuple.specs.declared.checks.Check.{Check}
 use Rattle.fault_schedule.specs.declared.fault.FaultLine.{FaultLine}
-use Rattle.rig_api.specs.Log.{LogEntry}
-use Rattle.stack_ops.specs.declared.op.Op.{Op}
-use Rattle.stack_ops.specs.declared.reply.Reply.{Reply}
-use Rattle.block_path.specs.Acts.{State, act, tell}
-use Rattle.block_path.specs.Blocks.{ActAnswer, AskedBlock, Sent}
-use Rattle.block_path.specs.declared.route.Route.{Route}
-use Rattle.block_path.specs.Serial.{plain, plain_tells}
-use Rattle.block_path.specs.WayIn.{adapter_finds_in, owner_finds, owner_says}
+use Rattle.whole_run.specs.Passed.{LogEntry, Op, Reply, State, act, tell, ActAnswer, AskedBlock, Sent, Route, plain, plain_tells, adapter_finds_in, owner_finds, owner_says, Why, Adapter, App, Block as ByOwner, TheVariantsMedium as Medium, Refused, Short, Target, Dir, TheVariantsRead as Read, TheVariantsWrite2 as Write}
 use Rattle.whole_run.specs.ScriptWalk.{script_replies}
 use Rattle.whole_run.specs.Settings.{Setting}
 use Rattle.run_laws.specs.Records.{Moved, NoTwo, end_for, entry_for, recorded, writes_at}

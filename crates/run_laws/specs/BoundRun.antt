@@ -2,13 +2,7 @@ use Rattle.std.specs.Prelude.{ℕ, Bool, ◌≡◌, ◌+◌, ◌*◌, ◌<◌, �
 use Rattle.std.specs.List.{All, IsDistinct}
 use Rattle.page_pool.specs.Places.{total}
 use Rattle.range_gate.specs.Cells.{cells_of}
-use Rattle.stack_ops.specs.declared.op.Op.{Op}
-use Rattle.stack_ops.specs.declared.op.Op.TheVariants.{Fetch, FetchPi, Fill, Overwrite, Put, Seal, Show, Wait, Write, WritePi}
-use Rattle.block_path.specs.Acts.{State, act, tell}
-use Rattle.block_path.specs.Blocks.{ActAnswer, fetched_cell, stored_cell}
-use Rattle.block_path.specs.Moves.{hidden}
-use Rattle.block_path.specs.Routes.{wire_size}
-use Rattle.block_path.specs.Serial.{plain_tells}
+use Rattle.whole_run.specs.Passed.{Op, Fetch, FetchPi, Fill, Overwrite, Put, Seal, Show, Wait, Write, WritePi, State, act, tell, ActAnswer, fetched_cell, stored_cell, hidden, wire_size, plain_tells}
 use Rattle.whole_run.specs.ScriptWalk.{acts_from, changed, script_replies, script_walk, source_of}
 use Rattle.whole_run.specs.Settings.{Block, Setting, block_of, route}
 use Rattle.run_laws.specs.ScriptMoves.{answers_by_moves, fates_of, replies_by_moves, room_of}

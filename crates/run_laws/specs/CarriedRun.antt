@@ -1,9 +1,5 @@
 use Rattle.std.specs.Prelude.{ℕ, ◌≡◌, not, ◌&&◌, eqb, List, [], ◌∷◌, get_or}
-use Rattle.rig_api.specs.Log.{LogEntry}
-use Rattle.stack_ops.specs.declared.op.Op.{Op}
-use Rattle.block_path.specs.Acts.{State, act, tell}
-use Rattle.block_path.specs.Blocks.{Sent, Site}
-use Rattle.block_path.specs.Serial.{plain_tells}
+use Rattle.whole_run.specs.Passed.{LogEntry, Op, State, act, tell, Sent, Site, plain_tells}
 use Rattle.whole_run.specs.ScriptWalk.{acts_from, script_walk}
 use Rattle.whole_run.specs.Settings.{Setting}
 use Rattle.run_laws.specs.Records.{Mixed, is_out, put_frame, recorded, sents, writes_at}

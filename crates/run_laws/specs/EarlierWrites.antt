@@ -2,12 +2,7 @@ use Rattle.std.specs.Prelude.{ℕ, ◌≡◌, ◌<◌, suc, ◌+◌, ◌-◌, Bo
 use Rattle.std.specs.List.{AllByRecursion as Each, count_by}
 use Rattle.fault_schedule.specs.declared.Label.{Label}
 use Rattle.integrity_payload.specs.declared.payload.Owner.{Owner}
-use Rattle.stack_ops.specs.declared.op.Op.{Op}
-use Rattle.stack_ops.specs.declared.reply.Reply.{Reply}
-use Rattle.stack_ops.specs.declared.reply.Reply.TheVariants.{Silent}
-use Rattle.block_path.specs.Acts.{State}
-use Rattle.block_path.specs.Blocks.{ActAnswer, Sent, own_cell}
-use Rattle.block_path.specs.declared.route.Route.{Route}
+use Rattle.whole_run.specs.Passed.{Op, Reply, Silent, State, ActAnswer, Sent, own_cell, Route}
 use Rattle.whole_run.specs.Past.{steps_from}
 use Rattle.whole_run.specs.Settings.{Setting, route}
 use Rattle.whole_run.specs.Steps.{Alters, Reads, Seals, Sets, Shows, Step, Writes, WritesPi, steps_of}

@@ -1,8 +1,5 @@
 use Rattle.std.specs.Prelude.{ℕ, ◌≡◌, ◌+◌, Bool, true, suc, IfSome, List, [], ◌∷◌, ◌++◌, map, Option, Some, None}
-use Rattle.stack_ops.specs.declared.op.Op.{Op}
-use Rattle.block_path.specs.Acts.{Act, State}
-use Rattle.block_path.specs.Blocks.{ActAnswer, stored_cell}
-use Rattle.block_path.specs.Moves.{hidden}
+use Rattle.whole_run.specs.Passed.{Op, Act, State, ActAnswer, stored_cell, hidden}
 use Rattle.whole_run.specs.Past.{steps_from}
 use Rattle.whole_run.specs.ScriptWalk.{replies_by}
 use Rattle.whole_run.specs.Settings.{Block, Setting, route}

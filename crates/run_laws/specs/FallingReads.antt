@@ -5,15 +5,7 @@ use Rattle.page_pool.specs.Places.{total}
 use Rattle.range_gate.specs.Cells.{cells_of}
 use Rattle.integrity_payload.specs.declared.payload.Owner.{Owner}
 use Rattle.integrity_payload.specs.declared.payload.Owner.TheVariants.{Block as OfBlock, App as OfApp}
-use Rattle.bio_core.specs.declared.fate.Why.{Why}
-use Rattle.bio_core.specs.declared.fate.Why.TheVariants.{Medium}
-use Rattle.stack_ops.specs.declared.op.Op.{Op}
-use Rattle.stack_ops.specs.declared.reply.Reply.{Reply}
-use Rattle.stack_ops.specs.declared.reply.Reply.TheVariants.{Silent}
-use Rattle.target_answer.specs.Frames.{data_of, tuple_of}
-use Rattle.block_path.specs.Acts.{State, act, tell}
-use Rattle.block_path.specs.Moves.{AreCells}
-use Rattle.block_path.specs.Serial.{plain_tells}
+use Rattle.whole_run.specs.Passed.{Op, Reply, Silent, data_of, tuple_of, State, act, tell, AreCells, plain_tells, Why, TheVariantsMedium as Medium}
 use Rattle.whole_run.specs.FirstLayer.{last_accepted}
 use Rattle.whole_run.specs.Past.{Brought, steps_from}
 use Rattle.whole_run.specs.PlainMap.{all_pass}

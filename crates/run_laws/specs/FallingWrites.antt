@@ -1,12 +1,8 @@
 use Rattle.std.specs.Prelude.{ℕ, ◌≡◌, ◌⊎◌, List, ◌∷◌, ◌++◌, length, get_or, Option, Some, None, suc}
 use Rattle.page_pool.specs.declared.segs.Seg.{Seg}
 use Rattle.page_pool.specs.Cells.{gather}
-use Rattle.bio_core.specs.declared.fate.Why.TheVariants.{Medium}
 use Rattle.pi_tuple.specs.declared.checks.Check.{Check}
-use Rattle.stack_ops.specs.declared.op.Op.{Op}
-use Rattle.stack_ops.specs.declared.reply.Reply.TheVariants.{Silent}
-use Rattle.target_answer.specs.Frames.{data_of, tuple_of}
-use Rattle.block_path.specs.Acts.{State}
+use Rattle.whole_run.specs.Passed.{Op, Silent, data_of, tuple_of, State, TheVariantsMedium as Medium}
 use Rattle.whole_run.specs.Past.{steps_from}
 use Rattle.whole_run.specs.PlainMap.{finds_of_app}
 use Rattle.whole_run.specs.Settings.{Block, Setting, block_of}

@@ -5,12 +5,7 @@ use Rattle.fault_schedule.specs.declared.fault.Crossing.TheVariants.{AdapterToTa
 use Rattle.page_pool.specs.Places.{total}
 use Rattle.range_gate.specs.Cells.{AllInPages, cells_of}
 use Rattle.range_gate.specs.Conflicts.{Conflict}
-use Rattle.stack_ops.specs.declared.op.Op.{Op}
-use Rattle.stack_ops.specs.declared.op.Op.TheVariants.{Fetch, FetchPi, Fill, Overwrite, Put, Seal, Show, Wait, Write, WritePi}
-use Rattle.stack_ops.specs.Footprints.{bytes_of, cells_touched, footprint}
-use Rattle.volume_table.specs.Places.{volume_len}
-use Rattle.block_path.specs.Blocks.{stored_cell}
-use Rattle.block_path.specs.Serial.{Apart}
+use Rattle.whole_run.specs.Passed.{Op, Fetch, FetchPi, Fill, Overwrite, Put, Seal, Show, Wait, Write, WritePi, bytes_of, cells_touched, footprint, stored_cell, Apart, volume_len}
 use Rattle.whole_run.specs.CalmRun.{AreVolumeBlocks}
 use Rattle.whole_run.specs.Settings.{Setting, block_of, route}
 use Rattle.whole_run.specs.UnderMap.{home}

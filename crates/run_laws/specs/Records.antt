@@ -1,20 +1,10 @@
 use Rattle.std.specs.Prelude.{ℕ, ◌≡◌, suc, min, ltb, Bool, true, false, ◌&&◌, eqb, if◌then◌else◌, List, [], ◌∷◌, ◌++◌, length, map, drop, get_or, Option, Some, None, Result, Ok, Err}
-use Rattle.sense_codes.specs.declared.Sense.{Sense}
 use Rattle.fault_schedule.specs.declared.Label.{Label}
 use Rattle.cdb_codec.specs.Decoded.{decoded}
 use Rattle.cdb_codec.specs.declared.command.Cdb.{Cdb}
 use Rattle.cdb_codec.specs.declared.command.CdbFault.{CdbFault}
 use Rattle.cdb_codec.specs.declared.command.Rw.{Rw}
-use Rattle.target_answer.specs.Frames.{frames_of, sent_size}
-use Rattle.target_answer.specs.Requests.{request_of}
-use Rattle.target_answer.specs.declared.request.Request.{Request}
-use Rattle.target_answer.specs.declared.request.Request.TheVariants.{Read, ReadCapacity, Verify, Write}
-use Rattle.rig_api.specs.Log.{LogEntry}
-use Rattle.bio_core.specs.declared.fate.Why.{Why}
-use Rattle.bio_core.specs.declared.request.Dir.{Dir}
-use Rattle.bio_core.specs.declared.request.Dir.TheVariants.{Read as In, Write as Out}
-use Rattle.block_path.specs.Blocks.{ActAnswer, Sent, Site}
-use Rattle.block_path.specs.Senses.{why_ended}
+use Rattle.whole_run.specs.Passed.{LogEntry, frames_of, sent_size, request_of, Request, Read, ReadCapacity, Verify, TheVariantsWrite as Write, ActAnswer, Sent, Site, why_ended, Sense, Why, Dir, TheVariantsRead as In, TheVariantsWrite2 as Out}
 use Rattle.whole_run.specs.Settings.{Setting}
 
 -- What a rig's log says of single blocks: an entry is a frame that was moved, an end is a block at which a command ended.

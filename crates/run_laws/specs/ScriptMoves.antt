@@ -2,12 +2,7 @@ use Rattle.std.specs.Prelude.{ℕ, suc, ◌+◌, ◌*◌, ◌/◌, Bool, true, f
 use Rattle.integrity_payload.specs.declared.payload.Owner.{Owner}
 use Rattle.integrity_payload.specs.declared.payload.Owner.TheVariants.{Block as OfBlock, App as OfApp}
 use Rattle.range_gate.specs.Cells.{in_turn}
-use Rattle.stack_ops.specs.declared.op.Op.{Op}
-use Rattle.stack_ops.specs.declared.op.Op.TheVariants.{Fetch, FetchPi, Fill, Overwrite, Put, Seal, Show, Wait, Write, WritePi}
-use Rattle.stack_ops.specs.declared.reply.Reply.{Reply}
-use Rattle.block_path.specs.Acts.{Act}
-use Rattle.block_path.specs.Blocks.{ActAnswer, silent}
-use Rattle.block_path.specs.Moves.{carry_in, carry_out, joined, make_tuple, map_back, map_out, settle}
+use Rattle.whole_run.specs.Passed.{Op, Fetch, FetchPi, Fill, Overwrite, Put, Seal, Show, Wait, Write, WritePi, Reply, Act, ActAnswer, silent, carry_in, carry_out, MovesJoined as joined, make_tuple, map_back, map_out, settle}
 use Rattle.whole_run.specs.ScriptWalk.{act_of, reply_of}
 use Rattle.whole_run.specs.Settings.{Block, Setting, route}
 use Rattle.whole_run.specs.Steps.{Alters, Reads, Seals, Sets, Shows, Step, Writes, WritesPi, steps_of}

@@ -4,15 +4,7 @@ use Rattle.fault_schedule.specs.Altered.{shift_of}
 use Rattle.fault_schedule.specs.declared.fault.Crossing.TheVariants.{AdapterToTarget}
 use Rattle.page_pool.specs.Places.{total}
 use Rattle.range_gate.specs.Cells.{cells_of}
-use Rattle.stack_ops.specs.declared.op.Op.{Op}
-use Rattle.stack_ops.specs.declared.op.Op.TheVariants.{Fetch, FetchPi, Fill, Overwrite, Put, Seal, Show, Wait, Write, WritePi}
-use Rattle.volume_table.specs.Places.{place_in, volume_len}
-use Rattle.volume_table.specs.Tables.{IsOn}
-use Rattle.volume_table.specs.declared.device.DeviceInfo.{DeviceInfo}
-use Rattle.target_answer.specs.Frames.{stored_size}
-use Rattle.block_path.specs.Acts.{State}
-use Rattle.block_path.specs.Moves.{AreCells}
-use Rattle.block_path.specs.Routes.{medium_lba, target, wire_lba}
+use Rattle.whole_run.specs.Passed.{Op, Fetch, FetchPi, Fill, Overwrite, Put, Seal, Show, Wait, Write, WritePi, stored_size, State, AreCells, medium_lba, target, wire_lba, place_in, volume_len, IsOn, DeviceInfo}
 use Rattle.whole_run.specs.CalmRun.{AreVolumeBlocks}
 use Rattle.whole_run.specs.Detectable.{detectable}
 use Rattle.whole_run.specs.Past.{steps_from}

@@ -1,14 +1,6 @@
 use Rattle.std.specs.Prelude.{ℕ, ◌≡◌, ◌+◌, Bool, true, false, eqb, if◌then◌else◌, List, [], ◌∷◌, ◌++◌, length, ◌⊎◌, Option, Some, None, Err}
 use Rattle.page_pool.specs.Cells.{gather, scatter}
-use Rattle.bio_core.specs.declared.fate.Why.{Why}
-use Rattle.bio_core.specs.declared.fate.Why.TheVariants.{Adapter, App, Block as ByOwner, Medium, Refused, Short, Target}
-use Rattle.stack_ops.specs.declared.op.Op.{Op}
-use Rattle.target_answer.specs.Frames.{data_of, tuple_of}
-use Rattle.volume_table.specs.Places.{volume_len}
-use Rattle.block_path.specs.Acts.{Act, Effect, State, act, tell}
-use Rattle.block_path.specs.Blocks.{ActAnswer}
-use Rattle.block_path.specs.Routes.{Device}
-use Rattle.block_path.specs.Serial.{plain}
+use Rattle.whole_run.specs.Passed.{Op, data_of, tuple_of, Act, Effect, State, act, tell, ActAnswer, Device, plain, volume_len, Why, Adapter, App, Block as ByOwner, TheVariantsMedium as Medium, Refused, Short, Target}
 use Rattle.whole_run.specs.CalmRun.{AllFit, IsCalm, LiesInImage}
 use Rattle.whole_run.specs.FirstLayer.{last_accepted}
 use Rattle.whole_run.specs.Past.{Accepted, Brought, Event, Lost, Overwritten, brought_by, event_of}

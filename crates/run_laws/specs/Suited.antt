@@ -1,7 +1,5 @@
 use Rattle.std.specs.Prelude.{ℕ, ◌≡◌, ◌<◌, Bool, eqb, List, [], length, get_or}
-use Rattle.target_answer.specs.Frames.{stored_size}
-use Rattle.block_path.specs.Blocks.{fetched_cell, stored_cell}
-use Rattle.block_path.specs.Routes.{target}
+use Rattle.whole_run.specs.Passed.{stored_size, fetched_cell, stored_cell, target}
 use Rattle.whole_run.specs.Settings.{Block, Setting, route}
 
 -- Which blocks are fine over a target.

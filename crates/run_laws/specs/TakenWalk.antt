@@ -2,17 +2,7 @@ use Rattle.std.specs.Prelude.{ℕ, suc, false, List, [], ◌∷◌, ◌++◌, le
 use Rattle.fault_schedule.specs.Altered.{altered}
 use Rattle.fault_schedule.specs.declared.fault.Crossing.TheVariants.{AdapterToHost, HostToAdapter}
 use Rattle.fault_schedule.specs.declared.fault.FaultLine.{FaultLine}
-use Rattle.bio_core.specs.declared.fate.Why.{Why}
-use Rattle.stack_ops.specs.declared.op.Op.{Op}
-use Rattle.stack_ops.specs.declared.op.Op.TheVariants.{Overwrite}
-use Rattle.stack_ops.specs.declared.reply.Reply.{Reply}
-use Rattle.stack_ops.specs.declared.reply.Reply.TheVariants.{Silent}
-use Rattle.block_path.specs.Acts.{Act, State, act, tell}
-use Rattle.block_path.specs.Blocks.{ActAnswer, Sent, own_frame, read_block, read_by, tuple_after, write_block, write_block_of_app, written_by}
-use Rattle.block_path.specs.declared.route.Route.{Route}
-use Rattle.block_path.specs.Serial.{plain, plain_tells}
-use Rattle.block_path.specs.WayIn.{Delivers, Stops, WayIn, mapped_back, received}
-use Rattle.block_path.specs.WayOut.{Fails, Stores, WayOut, mapped_out, sent}
+use Rattle.whole_run.specs.Passed.{Op, Overwrite, Reply, Silent, Act, State, act, tell, ActAnswer, Sent, own_frame, read_block, read_by, tuple_after, write_block, write_block_of_app, written_by, Route, plain, plain_tells, Delivers, Stops, WayIn, mapped_back, received, Fails, Stores, WayOut, mapped_out, sent, Why}
 use Rattle.whole_run.specs.ScriptWalk.{act_of, reply_of}
 use Rattle.whole_run.specs.Settings.{Setting, route}
 use Rattle.whole_run.specs.Steps.{Alters, Reads, Seals, Sets, Shows, Step, Writes, WritesPi, steps_of}

@@ -1,12 +1,6 @@
 use Rattle.std.specs.Prelude.{ℕ, ◌≡◌, List, [], get_or, Option, Some, None, Result, Err}
-use Rattle.bio_core.specs.declared.fate.Why.{Why}
-use Rattle.bio_core.specs.declared.fate.Why.TheVariants.{Short}
-use Rattle.stack_ops.specs.declared.op.Op.{Op}
+use Rattle.whole_run.specs.Passed.{Op, State, act, tell, Sent, told_by, plain_tells, Why, Short}
 use Rattle.fault_schedule.specs.declared.Label.{Label}
-use Rattle.block_path.specs.Acts.{State, act, tell}
-use Rattle.block_path.specs.Blocks.{Sent}
-use Rattle.block_path.specs.Routes.{told_by}
-use Rattle.block_path.specs.Serial.{plain_tells}
 use Rattle.whole_run.specs.ScriptWalk.{acts_from, script_replies, script_walk}
 use Rattle.whole_run.specs.Settings.{Setting}
 use Rattle.run_laws.specs.Records.{Mixed, find, sents, writes_at}

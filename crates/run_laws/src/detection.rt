@@ -3,9 +3,7 @@
 ghost use Rattle.std.specs.Prelude.{ℕ, ◌<◌, List, ◌∷◌, ◌++◌};
 ghost use Rattle.page_pool.specs.declared.segs.Seg.{Seg as AnySeg};
 ghost use Rattle.integrity_payload.specs.declared.payload.Owner.{Owner as AnyOwner};
-ghost use Rattle.stack_ops.specs.declared.op.Op.{Op as AnyOp};
-ghost use Rattle.volume_table.specs.declared.device.DeviceInfo.{DeviceInfo as AnyDevice};
-ghost use Rattle.block_path.specs.Acts.{State};
+ghost use Rattle.whole_run.specs.Passed.{Op as AnyOp, State, DeviceInfo as AnyDevice};
 ghost use Rattle.whole_run.specs.Settings.{Setting};
 ghost use Rattle.whole_run.specs.ReadsAs.{ReadsRightly, read_op};
 ghost use Rattle.run_laws.specs.ShownRun.{IsShownRun};

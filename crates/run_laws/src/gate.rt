@@ -3,11 +3,7 @@
 ghost use Rattle.std.specs.Prelude.{◌≡◌, ◌+◌, ℕ, ◌<◌, ◌≤◌, false, List, ◌∷◌, ◌++◌, pos, ◌+ℤ◌};
 ghost use Rattle.fault_schedule.specs.Altered.{shift_of};
 ghost use Rattle.fault_schedule.specs.declared.fault.Crossing.TheVariants.{AdapterToTarget};
-ghost use Rattle.stack_ops.specs.declared.op.Op.{Op as AnyOp};
-ghost use Rattle.volume_table.specs.Places.{volume_len};
-ghost use Rattle.volume_table.specs.declared.device.DeviceInfo.{DeviceInfo as AnyDevice};
-ghost use Rattle.block_path.specs.Acts.{conflict};
-ghost use Rattle.block_path.specs.Routes.{wire_lba};
+ghost use Rattle.whole_run.specs.Passed.{Op as AnyOp, conflict, wire_lba, volume_len, DeviceInfo as AnyDevice};
 ghost use Rattle.whole_run.specs.Settings.{Setting, block_of, route};
 ghost use Rattle.run_laws.specs.ShownRun.{HasBlock, HasCells, LiesOn};
 ghost use Rattle.run_laws.specs.OpsApart.{AreStoredApart, IsPlaced, IsSpread, NoneMeet, OneCellEach, OpsConflict, is_shifted};

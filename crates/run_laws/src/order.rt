@@ -1,10 +1,7 @@
 //! Moves in any order.
 
 ghost use Rattle.std.specs.Prelude.{ℕ, Bool, List, Option};
-ghost use Rattle.stack_ops.specs.declared.op.Op.{Op as AnyOp};
-ghost use Rattle.block_path.specs.Acts.{State, act, conflict, tell};
-ghost use Rattle.block_path.specs.Blocks.{ActAnswer};
-ghost use Rattle.block_path.specs.Serial.{Leads, all_done, none_done};
+ghost use Rattle.whole_run.specs.Passed.{Op as AnyOp, State, act, conflict, tell, ActAnswer, Leads, all_done, none_done};
 ghost use Rattle.whole_run.specs.Settings.{Block, Setting};
 ghost use Rattle.run_laws.specs.BoundRun.{AreTheWalk, IsBoundRun};
 ghost use Rattle.run_laws.specs.FallingMoves.{AreTheFallingWalk, LeavesFine, falling_moves};

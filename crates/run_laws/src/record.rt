@@ -2,14 +2,9 @@
 
 ghost use Rattle.std.specs.Prelude.{◌≡◌, ◌<◌, ℕ, List, ◌∷◌, ◌++◌, None, get_or, length, suc};
 ghost use Rattle.std.specs.List.{AllByRecursion as Each};
-ghost use Rattle.rig_api.specs.Log.{LogEntry};
+ghost use Rattle.whole_run.specs.Passed.{LogEntry, Op as AnyOp, Reply as AnyReply, Silent, State, Sent, own_cell};
 ghost use Rattle.page_pool.specs.declared.segs.Seg.{Seg as AnySeg};
 ghost use Rattle.integrity_payload.specs.declared.payload.Owner.{Owner as AnyOwner};
-ghost use Rattle.stack_ops.specs.declared.op.Op.{Op as AnyOp};
-ghost use Rattle.stack_ops.specs.declared.reply.Reply.{Reply as AnyReply};
-ghost use Rattle.stack_ops.specs.declared.reply.Reply.TheVariants.{Silent};
-ghost use Rattle.block_path.specs.Acts.{State};
-ghost use Rattle.block_path.specs.Blocks.{Sent, own_cell};
 ghost use Rattle.whole_run.specs.ScriptWalk.{script_replies};
 ghost use Rattle.whole_run.specs.Settings.{Setting, block_of, route};
 ghost use Rattle.whole_run.specs.ReadsAs.{listed_in, read_op};

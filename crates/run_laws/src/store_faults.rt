@@ -4,10 +4,7 @@ ghost use Rattle.std.specs.Prelude.{◌≡◌, ◌<◌, ℕ, List, [], ◌∷◌
 ghost use Rattle.page_pool.specs.declared.segs.Seg.{Seg as AnySeg};
 ghost use Rattle.integrity_payload.specs.declared.payload.Owner.{Owner as AnyOwner};
 ghost use Rattle.integrity_payload.specs.declared.payload.Owner.TheVariants.{App};
-ghost use Rattle.stack_ops.specs.declared.op.Op.{Op as AnyOp};
-ghost use Rattle.stack_ops.specs.declared.op.Op.TheVariants.{Write, WritePi};
-ghost use Rattle.block_path.specs.Acts.{Act, State, conflict};
-ghost use Rattle.block_path.specs.Blocks.{ActAnswer};
+ghost use Rattle.whole_run.specs.Passed.{Op as AnyOp, Write, WritePi, Act, State, conflict, ActAnswer};
 ghost use Rattle.whole_run.specs.Past.{steps_from};
 ghost use Rattle.whole_run.specs.PlainMap.{finds_plainly};
 ghost use Rattle.whole_run.specs.ScriptWalk.{act_of};

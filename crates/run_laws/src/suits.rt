@@ -2,8 +2,7 @@
 
 ghost use Rattle.std.specs.Prelude.{ℕ, List, ◌≡◌, length, true, Result, IfOk};
 ghost use Rattle.fault_schedule.specs.declared.Label.{Label as AnyLabel};
-ghost use Rattle.bio_core.specs.declared.fate.Why.{Why as AnyWhy};
-ghost use Rattle.block_path.specs.Routes.{told_by, wire_size};
+ghost use Rattle.whole_run.specs.Passed.{told_by, wire_size, Why as AnyWhy};
 ghost use Rattle.whole_run.specs.Settings.{Block, Setting, route};
 ghost use Rattle.run_laws.specs.BoundRun.{Suits};
 ghost use Rattle.run_laws.specs.Suited.{IsAtTarget, keeps_size};

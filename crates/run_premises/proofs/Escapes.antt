@@ -14,10 +14,7 @@ use Rattle.block_path.specs.Acts.{State, act}
 use Rattle.block_path.specs.Blocks.{own_tuple}
 use Rattle.block_path.specs.Routes.{host_type}
 use Rattle.block_path.specs.Serial.{plain}
-use Rattle.whole_run.specs.ScriptWalk.{act_of, acts_of}
-use Rattle.whole_run.specs.Settings.{Setting, block_of, route}
-use Rattle.whole_run.specs.Steps.{Reads, Seals, Step, Writes, body_of, each_from, frame_at, steps_of, tuple_of}
-use Rattle.whole_run.specs.UnderMap.{NoEscape, NoneEscapes, SuppliesNoEscape}
+use Rattle.run_laws.specs.Passed.{act_of, acts_of, Setting, block_of, route, Reads, Seals, Step, Writes, body_of, each_from, frame_at, steps_of, tuple_of, NoEscape, NoneEscapes, SuppliesNoEscape}
 use Rattle.run_premises.specs.Forms.{supplies_none}
 
 -- another application tag than FFFFh is no escape

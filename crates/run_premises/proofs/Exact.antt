@@ -14,7 +14,7 @@ use Rattle.fault_schedule.specs.declared.fault.Crossing.{Crossing}
 use Rattle.fault_schedule.specs.declared.fault.FaultLine.{FaultLine}
 use Rattle.target_answer.specs.Frames.{data_of, tuple_of}
 use Rattle.block_path.proofs.Cells.{AllBelow, below}
-use Rattle.whole_run.proofs.TupleFrames.{below_append, below_take, frame_small, two_below}
+use Rattle.run_laws.proofs.Passed.{below_append, below_take, frame_small, two_below}
 use Rattle.guard_laws.specs.Changes.{IsInTwoBytes}
 use Rattle.guard_laws.specs.Guarded.{guarded}
 use Rattle.guard_laws.proofs.Additive.{hidden_exactly}

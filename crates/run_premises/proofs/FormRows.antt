@@ -10,17 +10,14 @@ use Rattle.fault_schedule.specs.declared.fault.Crossing.{Crossing}
 use Rattle.fault_schedule.specs.declared.fault.Crossing.TheVariants.{AdapterToHost, AdapterToTarget, HostToAdapter, MediumToTarget, TargetToAdapter, TargetToMedium}
 use Rattle.fault_schedule.specs.declared.fault.FaultKind.TheVariants.{Flip, Shift}
 use Rattle.fault_schedule.specs.declared.fault.FaultLine.{FaultLine}
-use Rattle.rig_api.specs.declared.change.Change.TheVariants.{Copy}
+use Rattle.stack_ops.specs.Passed.{Copy}
 use Rattle.stack_ops.specs.declared.op.Op.{Op}
 use Rattle.stack_ops.specs.declared.op.Op.TheVariants.{Fetch, Overwrite, Seal, Write, WritePi}
 use Rattle.target_answer.specs.Passing.{found_in, from_medium, to_medium}
 use Rattle.block_path.specs.WayIn.{from_wire}
 use Rattle.block_path.specs.WayOut.{to_wire}
-use Rattle.whole_run.specs.Detectable.{detectable}
-use Rattle.whole_run.specs.Past.{steps_from}
-use Rattle.whole_run.specs.Settings.{Setting}
-use Rattle.whole_run.specs.UnderMap.{IsClean, address_of, home}
-use Rattle.whole_run.proofs.ScriptRows.{calm_run, opening, seg, with_faults}
+use Rattle.run_laws.specs.Passed.{detectable, steps_from, Setting, IsClean, address_of, home}
+use Rattle.run_laws.proofs.Passed.{calm_run, opening, seg, with_faults}
 use Rattle.run_premises.specs.Forms.{escapes_none, shows_by_form}
 use Rattle.run_premises.specs.FormedRun.{HasFormedFaults, IsOfBytes}
 

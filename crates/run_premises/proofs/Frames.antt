@@ -14,7 +14,7 @@ use Rattle.fault_schedule.specs.Altered.{xored_from}
 use Rattle.fault_schedule.proofs.Xored.{length-xored, get-xored}
 use Rattle.target_answer.specs.Frames.{data_of, tuple_of}
 use Rattle.block_path.proofs.Cells.{AllBelow}
-use Rattle.whole_run.proofs.TupleFrames.{below_at, below_take, below_drop, spelled}
+use Rattle.run_laws.proofs.Passed.{below_at, below_take, below_drop, spelled}
 use Rattle.guard_laws.specs.Guarded.{guarded}
 use Rattle.guard_laws.proofs.Additive.{hidden_exactly}
 use Rattle.guard_laws.proofs.Flips.{xored_shown_by_each}

@@ -13,15 +13,8 @@ use Rattle.stack_ops.specs.declared.op.Op.TheVariants.{Fetch, FetchPi, Fill, Ove
 use Rattle.volume_table.specs.Places.{volume_len}
 use Rattle.block_path.specs.Acts.{State}
 use Rattle.block_path.proofs.Cells.{AllBelow, below}
-use Rattle.whole_run.specs.CalmRun.{AllFit, Fits, LiesInImage}
-use Rattle.whole_run.specs.Detectable.{detectable}
-use Rattle.whole_run.specs.FirstLayer.{has_flip, is_flip}
-use Rattle.whole_run.specs.Past.{steps_from}
-use Rattle.whole_run.specs.Settings.{Block, Setting, block_of, route}
-use Rattle.whole_run.specs.Steps.{Reads, Seals, Step, Writes, WritesPi, body_of, frame_at, steps_of, tuple_of}
-use Rattle.whole_run.specs.UnderMap.{AreClean, NoneEscapes}
-use Rattle.whole_run.proofs.CalmRuns.{frame_length, part_length}
-use Rattle.whole_run.proofs.TupleFrames.{below_replicate}
+use Rattle.run_laws.specs.Passed.{AllFit, Fits, LiesInImage, detectable, has_flip, is_flip, steps_from, Block, Setting, block_of, route, Reads, Seals, Step, Writes, WritesPi, body_of, frame_at, steps_of, tuple_of, AreClean, NoneEscapes}
+use Rattle.run_laws.proofs.Passed.{frame_length, part_length, below_replicate}
 use Rattle.run_laws.proofs.Layers.{checked}
 use Rattle.run_laws.proofs.Reading.{checked_form, none_escapes}
 use Rattle.stack_ops.specs.Ops.{first_virt, is_overwrite}

@@ -27,14 +27,8 @@ use Rattle.block_path.specs.Routes.{moved}
 use Rattle.block_path.specs.WayIn.{Delivers, Spoils, Stops, WayIn, way_in}
 use Rattle.block_path.specs.WayOut.{Fails, Refuses, Stores, WayOut, way_out}
 use Rattle.block_path.proofs.Cells.{AllBelow, below, gather_length}
-use Rattle.whole_run.specs.CalmRun.{LiesInImage}
-use Rattle.whole_run.specs.Detectable.{detectable, step_shows}
-use Rattle.whole_run.specs.FirstLayer.{has_flip, has_shift}
-use Rattle.whole_run.specs.ScriptWalk.{act_of}
-use Rattle.whole_run.specs.Settings.{Block, Setting, route}
-use Rattle.whole_run.specs.Steps.{Alters, Reads, Seals, Sets, Shows, Step, Writes, WritesPi, each_from}
-use Rattle.whole_run.specs.UnderMap.{AreClean, NoneEscapes, SuppliesNoEscape, home}
-use Rattle.whole_run.proofs.TupleFrames.{Small, below_append, below_drop, below_gather, below_replicate, below_scatter, below_take, data_is, four_below, tuple_below, tuple_is}
+use Rattle.run_laws.specs.Passed.{LiesInImage, detectable, step_shows, has_flip, has_shift, act_of, Block, Setting, route, Alters, Reads, Seals, Sets, Shows, Step, Writes, WritesPi, each_from, AreClean, NoneEscapes, SuppliesNoEscape, home}
+use Rattle.run_laws.proofs.Passed.{Small, below_append, below_drop, below_gather, below_replicate, below_scatter, below_take, data_is, four_below, tuple_below, tuple_is}
 use Rattle.run_laws.proofs.Layers.{checked, unmoved}
 use Rattle.run_laws.proofs.Along.{set_cases}
 use Rattle.run_premises.specs.Forms.{is_good_line}

@@ -28,11 +28,8 @@ use Rattle.block_path.specs.WayIn.{Delivers, Spoils, Stops, WayIn, adapter_finds
 use Rattle.block_path.specs.WayOut.{Fails, Refuses, Stores, WayOut, adapter_finds_out, at_device, from_adapter, mapped_out, sent, to_wire, way_out}
 use Rattle.block_path.proofs.Cells.{AllBelow}
 use Rattle.block_path.proofs.Sizes.{altered_length}
-use Rattle.whole_run.specs.Detectable.{arrives, asks_app, bears, bears_some, crossed, found, guard_at, if_passed, is_foreign, shows, shows_at_medium, shows_in, shows_on_wire, shows_out}
-use Rattle.whole_run.specs.FirstLayer.{AtAdapter, AtTarget, has_flip, has_shift, is_flip}
-use Rattle.whole_run.specs.PlainMap.{as_expected}
-use Rattle.whole_run.specs.Settings.{Block, Setting, route}
-use Rattle.whole_run.proofs.TupleFrames.{below_append, below_drop, below_take, four_below, two_below}
+use Rattle.run_laws.specs.Passed.{arrives, asks_app, bears, bears_some, crossed, found, guard_at, if_passed, is_foreign, shows, shows_at_medium, shows_in, shows_on_wire, shows_out, AtAdapter, AtTarget, has_flip, has_shift, is_flip, as_expected, Block, Setting, route}
+use Rattle.run_laws.proofs.Passed.{below_append, below_drop, below_take, four_below, two_below}
 use Rattle.run_laws.proofs.Found.{bears_both, expected, passed, unless_rule}
 use Rattle.run_laws.proofs.Framed.{guarded, mapped_body, mapped_length, mapped_tuple, not_altered}
 use Rattle.run_laws.proofs.Layers.{checked, found_is}

@@ -5,9 +5,7 @@ use Rattle.fault_schedule.specs.declared.fault.FaultLine.{FaultLine}
 use Rattle.stack_ops.specs.declared.op.Op.{Op}
 use Rattle.volume_table.specs.Places.{volume_len}
 use Rattle.block_path.specs.Acts.{State}
-use Rattle.whole_run.specs.CalmRun.{AllFit, LiesInImage}
-use Rattle.whole_run.specs.Settings.{Setting}
-use Rattle.whole_run.specs.UnderMap.{AreClean, NoEscape}
+use Rattle.run_laws.specs.Passed.{AllFit, LiesInImage, Setting, AreClean, NoEscape}
 use Rattle.run_laws.specs.ShownRun.{IsChecked}
 use Rattle.run_premises.specs.Forms.{shows_by_form}
 

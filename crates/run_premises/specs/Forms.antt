@@ -11,7 +11,7 @@ use Rattle.fault_schedule.specs.declared.fault.FaultLine.{FaultLine}
 use Rattle.stack_ops.specs.declared.op.Op.{Op}
 use Rattle.stack_ops.specs.declared.op.Op.TheVariants.{Fetch, FetchPi, Fill, Overwrite, Put, Seal, Show, Wait, Write, WritePi}
 use Rattle.stack_ops.specs.Ops.{first_virt, is_overwrite}
-use Rattle.whole_run.specs.FirstLayer.{is_flip}
+use Rattle.run_laws.specs.Passed.{is_flip}
 use Rattle.pi_tuple.specs.declared.TheConstants.{TUPLE}
 
 -- Which scheduled faults tuples can show, told by their lines and the ops alone: in type 1 with tuples that are passed and protect field 001b.

@@ -1,2 +1,3 @@
-pub mod Forms
 pub mod FormedRun
+pub mod Forms
+pub mod Passed

@@ -2,7 +2,7 @@
 
 ghost use Rattle.std.specs.Prelude.{◌≡◌, ◌+◌, ◌∷◌, false, length, IfOk};
 ghost use Rattle.std.specs.List.{list_all, list_any};
-ghost use Rattle.whole_run.specs.FirstLayer.{is_flip};
+ghost use Rattle.run_laws.specs.Passed.{is_flip};
 ghost use Rattle.stack_ops.specs.Ops.{first_virt, is_overwrite};
 ghost use Rattle.run_premises.specs.Forms.{brings_tuples, escapes_none, is_good_line, is_near, is_none, is_seen, is_shown, is_shown_line, is_stored_altered, kind_at, label_of, may_mend, may_undo, op_of, shows_by_form, stores, supplies_none, virt_of};
 

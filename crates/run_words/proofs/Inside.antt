@@ -11,9 +11,8 @@ use Rattle.run_laws.specs.Records.{recorded}
 use Rattle.run_laws.specs.ToldRun.{told}
 use Rattle.rig_api.specs.Log.{LogEntry}
 use Rattle.rig_api.specs.State.{RigState}
-use Rattle.script_ground.proofs.Ops.{in-range, line-none}
-use Rattle.script_ground.proofs.Standing.{bound}
-use Rattle.script_stack.specs.Followed.{IsBackedBy, failed_in, opening_of, setting_of, unit_of}
+use Rattle.run_command.proofs.Passed.{in-range, line-none, bound}
+use Rattle.run_command.specs.Passed.{IsBackedBy, failed_in, opening_of, setting_of, unit_of}
 use Rattle.script_text.specs.Bindings.{binding_fault, op_fault, ops_fault}
 use Rattle.script_text.specs.declared.script.Script.{Script}
 use Rattle.stack_ops.specs.declared.op.Op.{Op}

@@ -6,16 +6,13 @@ use Rattle.pi_tuple.specs.declared.checks.PiType.{PiType}
 use Rattle.pi_tuple.specs.declared.checks.PiType.TheVariants.{Zero as TypeZero, One as TypeOne, Two as TypeTwo, Three as TypeThree}
 use Rattle.fault_schedule.specs.Altered.{shift_of}
 use Rattle.fault_schedule.specs.declared.fault.Crossing.TheVariants.{AdapterToTarget, MediumToTarget}
-use Rattle.block_path.specs.Routes.{moved}
-use Rattle.rig_api.specs.declared.change.Change.{Change}
-use Rattle.rig_api.specs.declared.change.Change.TheVariants.{Copy}
-use Rattle.stack_ops.specs.declared.op.Op.TheVariants.{Overwrite}
+use Rattle.run_follows.specs.Passed.{moved}
+use Rattle.rig_discovery.specs.Passed.{Change, Copy}
+use Rattle.run_laws.specs.Passed.{Overwrite}
 use Rattle.volume_table.specs.declared.device.DeviceInfo.{DeviceInfo}
 use Rattle.volume_table.specs.Places.{place_in, volume_len}
 use Rattle.volume_table.specs.Tables.{IsOn, MadeFor, Table}
-use Rattle.script_lines.specs.declared.kind.ScriptKind.TheVariants.{BadFault}
-use Rattle.script_text.specs.declared.script.Script.{Script}
-use Rattle.script_text.specs.Bindings.{faults_fault, is_alterable, is_bad_change, is_on, is_type, op_fault, request_at}
+use Rattle.script_laws.specs.Passed.{Script, faults_fault, is_alterable, is_bad_change, is_on, is_type, op_fault, request_at, BadFault}
 use Rattle.script_ground.proofs.Bodies.{if-none}
 use Rattle.script_ground.proofs.Shifts.{IsClear, Lands, Stays, got, landed, one-shift, shift-stays, stays-put}
 

@@ -10,30 +10,20 @@ use Rattle.fault_schedule.proofs.Xored.{length-xored}
 use Rattle.target_answer.specs.Frames.{stored_size}
 use Rattle.target_answer.specs.Target.{Stored, shape_of}
 use Rattle.target_answer.specs.declared.units.UnitSpec.{UnitSpec}
-use Rattle.rig_api.specs.Telling.{no_unit, unit_at}
-use Rattle.rig_api.specs.declared.change.Change.{Change}
-use Rattle.rig_api.specs.declared.change.Change.TheVariants.{Copy, Flip}
+use Rattle.rig_discovery.specs.Passed.{no_unit, unit_at, Change, Copy, Flip}
 use Rattle.rig_discovery.specs.Discovery.{info_of}
-use Rattle.block_path.specs.Acts.{State}
-use Rattle.block_path.specs.Blocks.{Site, fetched_cell}
-use Rattle.block_path.specs.Routes.{moved, target}
-use Rattle.block_path.specs.declared.mode.Mode.{Mode}
-use Rattle.dix_adapter.specs.Ways.{blocks_told, cell_in, shapes_of}
-use Rattle.dix_adapter.proofs.Puts.{cell-is, told-at}
-use Rattle.stack_ops.specs.declared.op.Op.{Op}
-use Rattle.stack_ops.specs.declared.op.Op.TheVariants.{Fetch, FetchPi, Fill, Overwrite, Put, Seal, Show, Wait, Write, WritePi}
+use Rattle.run_follows.specs.Passed.{blocks_told, cell_in, shapes_of, State, Site, fetched_cell, moved, target, Mode}
+use Rattle.run_follows.proofs.Passed.{cell-is, told-at}
 use Rattle.volume_table.specs.declared.device.DeviceInfo.{DeviceInfo}
 use Rattle.volume_table.specs.declared.entry.Entry.{Entry}
 use Rattle.volume_table.specs.Faults.{device}
 use Rattle.volume_table.specs.Places.{place_in, volume_len}
 use Rattle.volume_table.specs.Tables.{IsOn, MadeFor, Table}
-use Rattle.whole_run.specs.ScriptWalk.{changed, source_of}
-use Rattle.whole_run.specs.Settings.{Block, Setting, block_of, route}
+use Rattle.run_laws.specs.Passed.{changed, source_of, Block, Setting, block_of, route, Op, Fetch, FetchPi, Fill, Overwrite, Put, Seal, Show, Wait, Write, WritePi}
 use Rattle.run_laws.specs.BoundRun.{AllBound, AllSuit, IsBoundRun, Suits, fates, rooms}
 use Rattle.run_laws.specs.Suited.{IsAtTarget, keeps_size}
 use Rattle.run_follows.specs.Spots.{op_in as op_at}
-use Rattle.script_text.specs.declared.script.Script.{Script}
-use Rattle.script_text.specs.Bindings.{binding_fault, op_fault, request_of}
+use Rattle.script_laws.specs.Passed.{Script, binding_fault, op_fault, request_of}
 use Rattle.script_ground.specs.Bound.{IsSettingOf}
 use Rattle.script_ground.specs.SuitsStack.{SuitsStack}
 use Rattle.script_ground.specs.Units.{AreStored}

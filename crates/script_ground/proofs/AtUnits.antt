@@ -9,23 +9,19 @@ use Rattle.fault_schedule.specs.declared.fault.Crossing.TheVariants.{AdapterToTa
 use Rattle.fault_schedule.specs.declared.fault.FaultLine.{FaultLine}
 use Rattle.target_answer.specs.Target.{has_blocks}
 use Rattle.target_answer.specs.declared.units.UnitSpec.{UnitSpec}
-use Rattle.rig_api.specs.Telling.{no_spec}
+use Rattle.rig_discovery.specs.Passed.{no_spec}
 use Rattle.rig_discovery.specs.Discovery.{info_of}
-use Rattle.block_path.specs.Routes.{moved}
-use Rattle.stack_ops.specs.declared.op.Op.{Op}
-use Rattle.stack_ops.specs.declared.op.Op.TheVariants.{Fetch, FetchPi, Fill, Overwrite, Put, Seal, Show, Wait, Write, WritePi}
+use Rattle.run_follows.specs.Passed.{moved}
 use Rattle.volume_table.specs.declared.device.DeviceInfo.{DeviceInfo}
 use Rattle.volume_table.specs.declared.entry.Entry.{Entry}
 use Rattle.volume_table.specs.Faults.{device}
 use Rattle.volume_table.specs.Places.{place_in, volume_len}
 use Rattle.volume_table.specs.Tables.{IsOn, MadeFor, Table}
-use Rattle.whole_run.specs.Settings.{Setting}
+use Rattle.run_laws.specs.Passed.{Setting, Op, Fetch, FetchPi, Fill, Overwrite, Put, Seal, Show, Wait, Write, WritePi, first_virt}
 use Rattle.run_laws.specs.ScriptMoves.{fates_of}
 use Rattle.run_follows.specs.Spots.{op_in as op_at}
-use Rattle.stack_ops.specs.Ops.{first_virt}
 use Rattle.run_follows.specs.Units.{AreAtUnits, IsAtUnit}
-use Rattle.script_text.specs.declared.script.Script.{Script}
-use Rattle.script_text.specs.Bindings.{binding_fault, op_fault, request_of}
+use Rattle.script_laws.specs.Passed.{Script, binding_fault, op_fault, request_of}
 use Rattle.script_ground.specs.Bound.{IsSettingOf}
 use Rattle.script_ground.proofs.Addresses.{AreLed, IsLed, all-led}
 use Rattle.script_ground.proofs.Ops.{in-range, no-fault}

@@ -4,10 +4,7 @@ use Rattle.std.specs.Prelude.{nat_le, nat_lt, eqb, if◌then◌else◌}
 use Rattle.std.proofs.lemmas.Bool.{and_parts, eqb-true, leb-true, not-false}
 use Rattle.page_pool.specs.Places.{total}
 use Rattle.page_pool.specs.declared.segs.Seg.{Seg}
-use Rattle.script_lines.specs.declared.kind.ScriptKind.TheVariants.{BadRange, BadSegments, SegOverlap, TooMany}
-use Rattle.script_text.specs.Ops.{are_tuples, both_fault, data_fault, is_body}
-use Rattle.script_text.specs.Rules.{is_count}
-use Rattle.script_text.specs.Segments.{are_few_each, are_inside, are_whole_tuples, do_overlap}
+use Rattle.script_laws.specs.Passed.{are_tuples, both_fault, data_fault, is_body, is_count, are_few_each, are_inside, are_whole_tuples, do_overlap, BadRange, BadSegments, SegOverlap, TooMany}
 
 -- ---- tests and what they say
 

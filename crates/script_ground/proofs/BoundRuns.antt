@@ -7,25 +7,17 @@ use Rattle.std.proofs.lemmas.List.Elements.{All-append}
 use Rattle.page_pool.specs.Places.{total}
 use Rattle.page_pool.specs.declared.segs.Seg.{Seg}
 use Rattle.range_gate.specs.Cells.{cells_of}
-use Rattle.block_path.specs.Acts.{State}
-use Rattle.block_path.specs.Blocks.{Sent}
-use Rattle.block_path.specs.Routes.{told_by}
-use Rattle.block_path.specs.declared.mode.Mode.{Mode}
-use Rattle.stack_ops.specs.declared.op.Op.{Op}
-use Rattle.stack_ops.specs.declared.op.Op.TheVariants.{Fetch, FetchPi, Fill, Overwrite, Put, Seal, Show, Wait, Write, WritePi}
-use Rattle.whole_run.specs.ScriptWalk.{changed, source_of}
+use Rattle.run_follows.specs.Passed.{State, Sent, told_by, Mode}
+use Rattle.run_laws.specs.Passed.{changed, source_of, Setting, Op, Fetch, FetchPi, Fill, Overwrite, Put, Seal, Show, Wait, Write, WritePi}
 use Rattle.volume_table.specs.declared.device.DeviceInfo.{DeviceInfo}
 use Rattle.volume_table.specs.Tables.{Table}
-use Rattle.whole_run.specs.Settings.{Setting}
 use Rattle.run_laws.specs.BoundRun.{AllBound, AllSuit, IsBound, IsBoundRun, fates, rooms}
 use Rattle.run_laws.specs.ToldRun.{came_by, told}
 use Rattle.run_follows.specs.Finished.{FramesFit}
 use Rattle.run_follows.proofs.OverDevice.{same_rooms}
 use Rattle.run_follows.specs.Spots.{op_in as op_at}
 use Rattle.run_follows.proofs.Binding.{suit_over}
-use Rattle.script_text.specs.declared.script.Script.{Script}
-use Rattle.script_text.specs.Ops.{both_fault, data_fault}
-use Rattle.script_text.specs.Segments.{is_inside}
+use Rattle.script_laws.specs.Passed.{Script, both_fault, data_fault, is_inside}
 use Rattle.script_laws.specs.Keeping.{Each}
 use Rattle.script_laws.proofs.OpForms.{no_fault, found_inside}
 use Rattle.script_ground.specs.Bound.{IsSettingOf}

@@ -10,26 +10,16 @@ use Rattle.pi_tuple.specs.declared.checks.PiType.{PiType}
 use Rattle.pi_tuple.specs.declared.checks.PiType.TheVariants.{Zero as TypeZero, One as TypeOne, Two as TypeTwo, Three as TypeThree}
 use Rattle.target_answer.specs.Target.{Stored}
 use Rattle.rig_discovery.specs.Discovery.{info_of}
-use Rattle.block_path.specs.Moves.{hidden}
-use Rattle.block_path.specs.Routes.{target}
-use Rattle.block_path.specs.declared.mode.Mode.{Mode}
-use Rattle.dix_adapter.specs.Ways.{blocks_told, shapes_of}
-use Rattle.stack_ops.specs.declared.op.Op.{Op}
-use Rattle.stack_ops.specs.declared.op.Op.TheVariants.{Fetch, FetchPi, Fill, Overwrite, Put, Seal, Show, Wait, Write, WritePi}
+use Rattle.run_follows.specs.Passed.{blocks_told, shapes_of, hidden, target, Mode}
 use Rattle.volume_table.specs.declared.device.DeviceInfo.{DeviceInfo}
 use Rattle.volume_table.specs.Places.{place_in, volume_len}
 use Rattle.volume_table.specs.Tables.{Table}
-use Rattle.whole_run.specs.CalmRun.{AllFit, Fits, IsCalm, IsCalmRun, LiesInImage}
-use Rattle.whole_run.specs.Settings.{Setting}
-use Rattle.whole_run.specs.UnderMap.{AreClean, NoEscape, home}
+use Rattle.run_laws.specs.Passed.{AllFit, Fits, IsCalm, IsCalmRun, LiesInImage, Setting, AreClean, NoEscape, home, Op, Fetch, FetchPi, Fill, Overwrite, Put, Seal, Show, Wait, Write, WritePi, is_overwrite}
 use Rattle.run_laws.specs.StoreFaults.{IsFallingRun}
 use Rattle.run_follows.specs.Spots.{op_in as op_at}
-use Rattle.script_text.specs.Bindings.{expect_fault, has_no_tuples, op_fault, or_else}
-use Rattle.script_text.specs.declared.fault.ScriptFault.{ScriptFault}
-use Rattle.script_text.specs.declared.script.Script.{Script}
+use Rattle.script_laws.specs.Passed.{expect_fault, has_no_tuples, op_fault, or_else, ScriptFault, Script}
 use Rattle.script_laws.specs.Keeping.{IsMode, IsOp as KeepsRules, IsTag}
 use Rattle.script_laws.specs.Lines.{tag_of}
-use Rattle.stack_ops.specs.Ops.{is_overwrite}
 use Rattle.script_ground.specs.Units.{all_blocks}
 use Rattle.script_ground.proofs.AtTarget.{told-long}
 use Rattle.script_ground.proofs.Bodies.{if-none}

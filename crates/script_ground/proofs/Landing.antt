@@ -6,15 +6,11 @@ use Rattle.integrity_payload.specs.declared.payload.Owner.{Owner}
 use Rattle.integrity_payload.specs.declared.payload.Owner.TheVariants.{Block as OfBlock, App as OfApp}
 use Rattle.target_answer.specs.Target.{Stored}
 use Rattle.target_answer.specs.declared.units.UnitSpec.{UnitSpec}
-use Rattle.block_path.specs.Moves.{hidden}
-use Rattle.stack_ops.specs.declared.op.Op.{Op}
-use Rattle.stack_ops.specs.declared.op.Op.TheVariants.{WritePi}
-use Rattle.dix_adapter.specs.Ways.{shapes_of}
+use Rattle.run_follows.specs.Passed.{shapes_of, hidden}
 use Rattle.volume_table.specs.Tables.{Table}
 use Rattle.run_laws.specs.FallingReads.{HasRoom}
-use Rattle.whole_run.specs.ReadsAs.{read_op}
-use Rattle.script_text.specs.Ops.{both_fault, data_fault}
-use Rattle.script_text.specs.declared.script.Script.{Script}
+use Rattle.run_laws.specs.Passed.{read_op, Op, WritePi}
+use Rattle.script_laws.specs.Passed.{both_fault, data_fault, Script}
 use Rattle.script_laws.specs.Keeping.{Each, IsOp as KeepsRules, Keeps}
 use Rattle.script_laws.proofs.OpForms.{no_fault}
 use Rattle.script_ground.proofs.Bodies.{AreBoth, alone-of, both-of}

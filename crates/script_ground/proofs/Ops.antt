@@ -6,29 +6,18 @@ use Rattle.std.proofs.lemmas.List.Elements.{All-append}
 use Rattle.integrity_payload.specs.declared.payload.Owner.TheVariants.{App as OfApp, Block as OfBlock}
 use Rattle.page_pool.specs.Places.{total}
 use Rattle.range_gate.specs.Cells.{cells_of}
-use Rattle.stack_ops.specs.Footprints.{put_seg, touches}
-use Rattle.stack_ops.specs.declared.op.Op.{Op}
-use Rattle.stack_ops.specs.declared.op.Op.TheVariants.{Fetch, FetchPi, Fill, Overwrite, Put, Seal, Show, Wait, Write, WritePi}
 use Rattle.volume_table.specs.declared.device.DeviceInfo.{DeviceInfo}
 use Rattle.volume_table.specs.declared.entry.Entry.{Entry}
 use Rattle.volume_table.specs.Places.{volume_len}
 use Rattle.volume_table.specs.Tables.{MadeFor, Table}
-use Rattle.whole_run.specs.CalmRun.{AreVolumeBlocks}
-use Rattle.whole_run.specs.Settings.{Setting, block_of}
-use Rattle.whole_run.specs.Steps.{Reads, Step, Writes, WritesPi, body_of, frame_at, steps_of}
+use Rattle.run_laws.specs.Passed.{AreVolumeBlocks, Setting, block_of, Reads, Step, Writes, WritesPi, body_of, frame_at, steps_of, put_seg, touches, Op, Fetch, FetchPi, Fill, Overwrite, Put, Seal, Show, Wait, Write, WritePi}
 use Rattle.run_laws.specs.OpsApart.{IsPlaced}
 use Rattle.run_laws.specs.ScriptMoves.{fates_of}
 use Rattle.run_laws.specs.EarlierWrites.{HasLog}
 use Rattle.run_follows.specs.Gate.{AllPlaced, IsAlone as IsNoRequest}
 use Rattle.run_follows.specs.Spots.{no_step, op_in as op_at}
 use Rattle.run_follows.proofs.Spots.{each_first}
-use Rattle.script_lines.specs.declared.kind.ScriptKind.{ScriptKind}
-use Rattle.script_lines.specs.declared.kind.ScriptKind.TheVariants.{BadRange}
-use Rattle.script_text.specs.declared.fault.ScriptFault.{ScriptFault}
-use Rattle.script_text.specs.declared.script.Script.{Script}
-use Rattle.script_text.specs.Bindings.{at_line, op_fault, ops_fault, range_fault}
-use Rattle.script_text.specs.Ops.{both_fault, data_fault}
-use Rattle.script_text.specs.Segments.{is_inside}
+use Rattle.script_laws.specs.Passed.{ScriptFault, Script, at_line, op_fault, ops_fault, range_fault, both_fault, data_fault, is_inside, ScriptKind, BadRange}
 use Rattle.script_laws.specs.Keeping.{Each}
 use Rattle.script_laws.proofs.OpForms.{no_fault, found_inside}
 use Rattle.script_ground.specs.Bound.{IsSettingOf}

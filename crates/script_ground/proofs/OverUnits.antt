@@ -4,16 +4,13 @@ use Rattle.std.proofs.lemmas.List.{length-drop}
 use Rattle.target_answer.specs.Target.{Stored}
 use Rattle.target_answer.specs.declared.units.UnitSpec.{UnitSpec}
 use Rattle.rig_discovery.specs.Discovery.{info_of}
-use Rattle.block_path.specs.Acts.{State}
-use Rattle.block_path.specs.Routes.{target}
-use Rattle.dix_adapter.specs.Ways.{blocks_told, cell_in, shapes_of}
+use Rattle.run_follows.specs.Passed.{blocks_told, cell_in, shapes_of, State, target}
 use Rattle.pi_tuple.specs.declared.checks.PiType.{PiType}
 use Rattle.volume_table.specs.declared.device.DeviceInfo.{DeviceInfo}
 use Rattle.volume_table.specs.Tables.{IsOn, MadeFor, Table}
-use Rattle.whole_run.specs.Settings.{Setting}
+use Rattle.run_laws.specs.Passed.{Setting}
 use Rattle.run_follows.specs.Spots.{op_in as op_at}
-use Rattle.script_text.specs.Bindings.{binding_fault, faults_fault, op_fault}
-use Rattle.script_text.specs.declared.script.Script.{Script}
+use Rattle.script_laws.specs.Passed.{binding_fault, faults_fault, op_fault, Script}
 use Rattle.script_laws.specs.Keeping.{IsOp as KeepsRules, Keeps}
 use Rattle.script_ground.specs.Bound.{IsAddress, IsSettingOf}
 use Rattle.script_ground.specs.Units.{AreStored, all_blocks}

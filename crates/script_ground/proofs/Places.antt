@@ -4,10 +4,9 @@ use Rattle.volume_table.specs.declared.device.DeviceInfo.{DeviceInfo}
 use Rattle.volume_table.specs.declared.entry.Entry.{Entry}
 use Rattle.volume_table.specs.Places.{place_in, volume_len}
 use Rattle.volume_table.specs.Tables.{MadeFor, Table}
-use Rattle.whole_run.specs.Settings.{Setting}
-use Rattle.whole_run.specs.UnderMap.{home}
+use Rattle.run_laws.specs.Passed.{Setting, home}
 use Rattle.run_laws.specs.OpsApart.{OneCellEach}
-use Rattle.script_text.specs.declared.script.Script.{Script}
+use Rattle.script_laws.specs.Passed.{Script}
 use Rattle.script_ground.specs.Bound.{IsAddress, IsSettingOf}
 
 pub same-pair : (p q : ℕ × ℕ) → p.0 ≡ q.0 → p.1 ≡ q.1 → p ≡ q

@@ -4,7 +4,7 @@ use Rattle.std.proofs.lemmas.List.Elements.{All-append}
 use Rattle.page_pool.specs.Places.{total}
 use Rattle.page_pool.specs.declared.segs.Seg.{Seg}
 use Rattle.range_gate.specs.Cells.{cells_of}
-use Rattle.block_path.specs.Moves.{AreCells}
+use Rattle.run_follows.specs.Passed.{AreCells}
 use Rattle.script_ground.proofs.Bodies.{AreBoth, IsAlone}
 use Rattle.script_ground.proofs.Ops.{eights}
 use Rattle.script_ground.proofs.Segments.{cells-below, distinct-body, distinct-both, stands}

@@ -15,9 +15,9 @@ use Rattle.page_pool.proofs.Separate.{once-append, run-once}
 use Rattle.page_pool.proofs.Sharing.{exact}
 use Rattle.range_gate.specs.Cells.{AllInPages, cells_of}
 use Rattle.range_gate.specs.declared.footprint.Touch.{Touch}
-use Rattle.stack_ops.specs.Footprints.{touches}
-use Rattle.stack_ops.proofs.Sides.{places-append}
-use Rattle.script_text.specs.Segments.{any_share, are_inside, do_overlap, is_inside}
+use Rattle.run_laws.specs.Passed.{touches}
+use Rattle.run_laws.proofs.Passed.{places-append}
+use Rattle.script_laws.specs.Passed.{any_share, are_inside, do_overlap, is_inside}
 
 -- ---- inside the pages
 

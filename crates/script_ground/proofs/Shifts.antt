@@ -11,19 +11,16 @@ use Rattle.fault_schedule.specs.declared.fault.Crossing.TheVariants.{AdapterToHo
 use Rattle.fault_schedule.specs.declared.fault.FaultKind.{FaultKind}
 use Rattle.fault_schedule.specs.declared.fault.FaultKind.TheVariants.{Flip as FlipKind, Shift as ShiftKind}
 use Rattle.fault_schedule.specs.declared.fault.FaultLine.{FaultLine}
-use Rattle.block_path.specs.Blocks.{stored_cell}
-use Rattle.block_path.specs.Routes.{moved}
-use Rattle.stack_ops.specs.declared.op.Op.{Op}
+use Rattle.run_follows.specs.Passed.{stored_cell, moved}
 use Rattle.volume_table.specs.declared.device.DeviceInfo.{DeviceInfo}
 use Rattle.volume_table.specs.declared.entry.Entry.{Entry}
 use Rattle.volume_table.specs.Faults.{device}
 use Rattle.volume_table.specs.Places.{place_in, volume_len}
 use Rattle.volume_table.specs.Tables.{MadeFor, Table}
-use Rattle.whole_run.specs.Settings.{Setting, block_of, route}
+use Rattle.run_laws.specs.Passed.{Setting, block_of, route, Op}
 use Rattle.run_laws.specs.OpsApart.{AreStoredApart}
-use Rattle.script_text.specs.declared.script.Script.{Script}
-use Rattle.script_text.specs.Bindings.{block_stays, blocks_stay, faults_fault, is_at_medium, is_bad_kind, is_bad_on, is_first_type, is_on, is_on_known, is_shift, request_at, shifts}
-use Rattle.script_text.proofs.Staying.{not_behind}
+use Rattle.script_laws.specs.Passed.{Script, block_stays, blocks_stay, faults_fault, is_at_medium, is_bad_kind, is_bad_on, is_first_type, is_on, is_on_known, is_shift, request_at, shifts}
+use Rattle.script_laws.proofs.Passed.{not_behind}
 use Rattle.script_ground.specs.Bound.{IsAddress, IsSettingOf}
 use Rattle.script_ground.proofs.Bodies.{if-none}
 use Rattle.script_ground.proofs.Places.{place-there, same-pair}

@@ -11,21 +11,14 @@ use Rattle.fault_schedule.specs.declared.fault.FaultLine.{FaultLine}
 use Rattle.pi_tuple.specs.declared.checks.PiType.TheVariants.{One}
 use Rattle.target_answer.specs.Target.{Stored}
 use Rattle.rig_discovery.specs.Discovery.{info_of}
-use Rattle.dix_adapter.specs.Ways.{blocks_told, shapes_of}
-use Rattle.stack_ops.specs.declared.op.Op.{Op}
-use Rattle.stack_ops.specs.declared.op.Op.TheVariants.{Fetch, FetchPi, Fill, Overwrite, Put, Seal, Show, Wait, Write, WritePi}
+use Rattle.run_follows.specs.Passed.{blocks_told, shapes_of}
 use Rattle.volume_table.specs.declared.device.DeviceInfo.{DeviceInfo}
 use Rattle.volume_table.specs.Places.{place_in, volume_len}
 use Rattle.volume_table.specs.Tables.{Table}
-use Rattle.whole_run.specs.Settings.{Setting}
-use Rattle.whole_run.specs.UnderMap.{NoEscape}
-use Rattle.whole_run.specs.Detectable.{detectable}
-use Rattle.whole_run.specs.Past.{steps_from}
+use Rattle.run_laws.specs.Passed.{Setting, NoEscape, detectable, steps_from, Op, Fetch, FetchPi, Fill, Overwrite, Put, Seal, Show, Wait, Write, WritePi}
 use Rattle.run_laws.specs.ShownRun.{AllAreFetched, AllBind, AllStayNear, Binds, DevicesAreClean, HasCells, IsShownRun, LiesOn}
 use Rattle.run_follows.specs.Spots.{op_in as op_at}
-use Rattle.script_text.specs.Bindings.{op_fault, request_of}
-use Rattle.script_text.specs.Ops.{both_fault, data_fault}
-use Rattle.script_text.specs.declared.script.Script.{Script}
+use Rattle.script_laws.specs.Passed.{op_fault, request_of, both_fault, data_fault, Script}
 use Rattle.script_laws.specs.Keeping.{Each, IsFault, IsKind, IsOp as KeepsRules, IsShift}
 use Rattle.script_laws.proofs.OpForms.{no_fault}
 use Rattle.script_ground.proofs.Addresses.{AreLed, all-led, good-change}

@@ -1,17 +1,14 @@
 -- The blocks of a request of a bound script are spread.
 use Rattle.std.proofs.Common.{◌≡◌, ◌<◌, ◌≤◌, ℕ, zero, suc, ◌+◌, Bool, List, [], ◌∷◌, length, refl, ap, arith, Some, None}
 use Rattle.std.specs.Prelude.{slice_get}
-use Rattle.stack_ops.specs.declared.op.Op.{Op}
-use Rattle.stack_ops.specs.declared.op.Op.TheVariants.{Fetch, FetchPi, Fill, Overwrite, Put, Seal, Show, Wait, Write, WritePi}
 use Rattle.volume_table.specs.declared.device.DeviceInfo.{DeviceInfo}
 use Rattle.volume_table.specs.Places.{volume_len}
 use Rattle.volume_table.specs.Tables.{Table}
-use Rattle.whole_run.specs.Settings.{Setting}
+use Rattle.run_laws.specs.Passed.{Setting, Op, Fetch, FetchPi, Fill, Overwrite, Put, Seal, Show, Wait, Write, WritePi}
 use Rattle.run_laws.specs.OpsApart.{AreStoredApart, IsSpread}
 use Rattle.run_laws.specs.ScriptMoves.{fates_of}
 use Rattle.run_follows.specs.Spots.{op_in as op_at}
-use Rattle.script_text.specs.Bindings.{op_fault, request_at, request_by, request_of}
-use Rattle.script_text.specs.Ops.{both_fault, data_fault}
+use Rattle.script_laws.specs.Passed.{op_fault, request_at, request_by, request_of, both_fault, data_fault}
 use Rattle.script_ground.specs.SuitsStack.{IsStackOp}
 use Rattle.script_ground.proofs.Bodies.{alone-of, both-of}
 use Rattle.script_ground.proofs.Ops.{in-range}

@@ -3,12 +3,10 @@ use Rattle.std.proofs.Common.{◌≡◌, ◌<◌, ◌≤◌, ℕ, suc, ◌+◌, 
 use Rattle.std.proofs.lemmas.List.{length-drop}
 use Rattle.volume_table.specs.declared.device.DeviceInfo.{DeviceInfo}
 use Rattle.volume_table.specs.Tables.{MadeFor, Table}
-use Rattle.whole_run.specs.Settings.{Setting}
+use Rattle.run_laws.specs.Passed.{Setting}
 use Rattle.run_follows.specs.Ground.{Ground}
 use Rattle.run_follows.specs.Spots.{op_in as op_at}
-use Rattle.script_text.specs.declared.fault.ScriptFault.{ScriptFault}
-use Rattle.script_text.specs.declared.script.Script.{Script}
-use Rattle.script_text.specs.Bindings.{binding_fault, expect_fault, faults_fault, op_fault, ops_fault, or_else}
+use Rattle.script_laws.specs.Passed.{ScriptFault, Script, binding_fault, expect_fault, faults_fault, op_fault, ops_fault, or_else}
 use Rattle.script_ground.specs.Bound.{IsSettingOf}
 use Rattle.script_ground.specs.SuitsStack.{IsStackOp, SuitsStack}
 use Rattle.run_follows.specs.Seals.{IsSealed}

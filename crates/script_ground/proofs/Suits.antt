@@ -1,8 +1,7 @@
 -- A script that keeps the rules of its language has what a stack asks of it.
 use Rattle.std.proofs.Common.{ℕ, Bool, List, [], ◌∷◌}
-use Rattle.stack_ops.specs.declared.op.Op.{Op}
-use Rattle.stack_ops.specs.declared.op.Op.TheVariants.{Fetch, FetchPi, Fill, Overwrite, Put, Seal, Show, Wait, Write, WritePi}
-use Rattle.script_text.specs.declared.script.Script.{Script}
+use Rattle.run_laws.specs.Passed.{Op, Fetch, FetchPi, Fill, Overwrite, Put, Seal, Show, Wait, Write, WritePi}
+use Rattle.script_laws.specs.Passed.{Script}
 use Rattle.script_laws.specs.Keeping.{Each, InRange, IsOp as KeepsRules, Keeps}
 use Rattle.script_laws.specs.Lines.{line_of}
 use Rattle.script_ground.specs.SuitsStack.{IsStackOp, SuitsStack, TagFits}

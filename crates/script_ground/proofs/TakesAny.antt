@@ -7,21 +7,15 @@ use Rattle.fault_schedule.specs.declared.fault.Crossing.TheVariants.{AdapterToTa
 use Rattle.target_answer.specs.Target.{Stored}
 use Rattle.target_answer.specs.declared.units.UnitSpec.{UnitSpec}
 use Rattle.rig_discovery.specs.Discovery.{info_of}
-use Rattle.block_path.specs.Acts.{State}
-use Rattle.block_path.specs.Blocks.{stored_cell}
-use Rattle.block_path.specs.Routes.{moved}
-use Rattle.dix_adapter.specs.Ways.{blocks_told, shapes_of}
-use Rattle.stack_ops.specs.declared.op.Op.{Op}
-use Rattle.stack_ops.specs.declared.op.Op.TheVariants.{Fetch, FetchPi, Fill, Overwrite, Put, Seal, Show, Wait, Write, WritePi}
+use Rattle.run_follows.specs.Passed.{blocks_told, shapes_of, State, stored_cell, moved}
 use Rattle.volume_table.specs.declared.device.DeviceInfo.{DeviceInfo}
 use Rattle.volume_table.specs.Places.{place_in, volume_len}
 use Rattle.volume_table.specs.Tables.{MadeFor, Table}
-use Rattle.whole_run.specs.Settings.{Setting, block_of, route}
+use Rattle.run_laws.specs.Passed.{Setting, block_of, route, Op, Fetch, FetchPi, Fill, Overwrite, Put, Seal, Show, Wait, Write, WritePi}
 use Rattle.run_laws.specs.Suited.{keeps_size}
 use Rattle.run_follows.specs.Takes.{AllTakeAny, OpTakesAny, TakesAny}
 use Rattle.run_follows.specs.Spots.{op_in as op_at}
-use Rattle.script_text.specs.declared.script.Script.{Script}
-use Rattle.script_text.specs.Bindings.{binding_fault, op_fault, request_of}
+use Rattle.script_laws.specs.Passed.{Script, binding_fault, op_fault, request_of}
 use Rattle.script_ground.specs.Bound.{IsSettingOf}
 use Rattle.script_ground.specs.Units.{AreStored}
 use Rattle.script_ground.proofs.Addresses.{AreLed, all-led}

@@ -4,9 +4,9 @@ use Rattle.target_answer.specs.declared.units.UnitSpec.{UnitSpec}
 use Rattle.rig_discovery.specs.Discovery.{info_of}
 use Rattle.volume_table.specs.declared.device.DeviceInfo.{DeviceInfo}
 use Rattle.volume_table.specs.Tables.{Table}
-use Rattle.dix_adapter.specs.Ways.{cell_in}
-use Rattle.whole_run.specs.Settings.{Setting}
-use Rattle.script_text.specs.declared.script.Script.{Script}
+use Rattle.run_follows.specs.Passed.{cell_in}
+use Rattle.run_laws.specs.Passed.{Setting}
+use Rattle.script_laws.specs.Passed.{Script}
 use Rattle.script_ground.specs.Bound.{IsAddress, IsSettingOf}
 use Rattle.script_ground.specs.Units.{all_blocks}
 

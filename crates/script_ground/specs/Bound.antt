@@ -3,8 +3,8 @@ use Rattle.std.specs.Prelude.{ℕ, ◌≡◌, ◌+◌, ◌<◌, ◌≤◌, List,
 use Rattle.volume_table.specs.declared.device.DeviceInfo.{DeviceInfo}
 use Rattle.volume_table.specs.Faults.{device}
 use Rattle.volume_table.specs.Tables.{Table}
-use Rattle.whole_run.specs.Settings.{Setting}
-use Rattle.script_text.specs.declared.script.Script.{Script}
+use Rattle.run_laws.specs.Passed.{Setting}
+use Rattle.script_laws.specs.Passed.{Script}
 
 -- The device of this number is there, and has a block at this address.
 pub record IsAddress (devices : List DeviceInfo) (dev lba : ℕ) : Type 0 where

@@ -1,3 +1,4 @@
 pub mod Bound
-pub mod Units
+pub mod Passed
 pub mod SuitsStack
+pub mod Units

@@ -1,10 +1,7 @@
 use Rattle.std.specs.Prelude.{ℕ, ◌≡◌, ◌⊎◌, ◌^◌, ◌<◌, ◌≤◌, ◌&&◌, Bool, false, not, length, Ok}
 use Rattle.page_pool.specs.declared.segs.Seg.{Seg}
-use Rattle.stack_ops.specs.declared.op.Op.{Op}
-use Rattle.stack_ops.specs.declared.op.Op.TheVariants.{Fetch, FetchPi, Fill, Overwrite, Put, Seal, Show, Wait, Write, WritePi}
-use Rattle.script_text.specs.declared.script.Script.{Script}
-use Rattle.script_text.specs.Ops.{op_in}
-use Rattle.script_text.specs.Rules.{needs_tuples}
+use Rattle.run_laws.specs.Passed.{Op, Fetch, FetchPi, Fill, Overwrite, Put, Seal, Show, Wait, Write, WritePi}
+use Rattle.script_laws.specs.Passed.{Script, op_in, needs_tuples}
 use Rattle.script_laws.specs.Keeping.{Each, IsProtect, IsWithin, blocks_of}
 use Rattle.script_laws.specs.Lines.{line_of}
 use Rattle.bio_core.specs.declared.TheConstants.{MOST_BLOCKS}

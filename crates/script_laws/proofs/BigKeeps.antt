@@ -5,8 +5,7 @@ use Rattle.std.proofs.lemmas.Bool.Decides.{nat_tests}
 use Rattle.std.proofs.lemmas.Bool.{and_from}
 use Rattle.page_pool.specs.declared.segs.Seg.{Seg}
 use Rattle.page_pool.specs.Cuts.{cut, past, upto}
-use Rattle.stack_ops.specs.declared.op.Op.{Op}
-use Rattle.stack_ops.specs.declared.op.Op.TheVariants.{Fill, Show, Write, Fetch}
+use Rattle.script_text.specs.Passed.{Op, Fill, Show, Write, Fetch}
 use Rattle.script_lines.specs.declared.kind.ScriptKind.TheVariants.{BadRange, BadSegments}
 use Rattle.script_text.specs.Generator.{after_op, big, big_entries, drawn, next_state, numbers_from, op_from, ops_from, page_start, schedule_from}
 use Rattle.script_text.specs.Ops.{data_fault, is_body, unless, where_inside}

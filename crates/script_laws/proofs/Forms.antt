@@ -6,7 +6,7 @@ use Rattle.std.specs.Int.{to_be_bytes, w16}
 use Rattle.std.proofs.lemmas.Bool.Decides.{nat_tests}
 use Rattle.hex.specs.Hex.{encode_lower}
 use Rattle.linear_volume.specs.declared.Linear.{Linear}
-use Rattle.merge_queue.specs.declared.Limits.{Limits}
+use Rattle.script_lines.specs.Passed.{Limits}
 use Rattle.pi_guard.specs.declared.GuardKind.{GuardKind}
 use Rattle.pi_guard.specs.declared.GuardKind.TheVariants.{Crc, Ip}
 use Rattle.stripe_volume.specs.declared.Stripe.{Stripe}

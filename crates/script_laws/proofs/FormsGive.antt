@@ -5,7 +5,7 @@ use Rattle.std.specs.Str.{bytes_eq}
 use Rattle.std.proofs.lemmas.Bool.Decides.{nat_tests}
 use Rattle.hex.specs.Hex.{IsBytes}
 use Rattle.linear_volume.specs.declared.Linear.{Linear}
-use Rattle.merge_queue.specs.declared.Limits.{Limits}
+use Rattle.script_lines.specs.Passed.{Limits}
 use Rattle.stripe_volume.specs.declared.legs.Leg.{Leg}
 use Rattle.script_words.specs.Cuts.{Cut, cut}
 use Rattle.script_words.specs.Hexes.{byte_in, hex_in, long_tag_in, tag_in}

@@ -2,8 +2,8 @@
 use Rattle.std.proofs.Common.{ℕ, ◌≡◌, ◌⊎◌, inl, inr, ◌^◌, ◌<◌, ◌||◌, Bool, true, false, not, eqb, List, [], ◌∷◌, ◌++◌, Some, None, refl, sym, ap, ◌∙◌, arith, append_assoc, append-nil}
 use Rattle.std.specs.Prelude.{codes, decimal, if◌then◌else◌}
 use Rattle.std.proofs.lemmas.Bool.{eqb-true}
-use Rattle.block_path.specs.declared.mode.Mode.{Mode}
-use Rattle.merge_queue.specs.declared.Limits.{Limits}
+use Rattle.script_text.specs.Passed.{Mode}
+use Rattle.script_lines.specs.Passed.{Limits}
 use Rattle.pi_guard.specs.declared.GuardKind.{GuardKind}
 use Rattle.pi_guard.specs.declared.GuardKind.TheVariants.{Crc, Ip}
 use Rattle.script_lines.specs.declared.kind.ScriptKind.TheVariants.{NoIntegrity}

@@ -12,7 +12,7 @@ use Rattle.script_lines.specs.declared.verb.Section.{Section}
 use Rattle.script_lines.specs.declared.verb.Section.TheVariants.{Dix as AtDix, Mode as AtMode, Limits as AtLimits, Pages as AtPages, Block as AtBlock, Expect as AtExpect, Inner as AtInner, Volume as AtVolume, Fault as AtFault, Schedule as AtSchedule, Begin as AtBegin, Op as AtOp}
 use Rattle.script_lines.specs.Forms.{line_form, op_form}
 use Rattle.script_lines.specs.Verbs.{comes_before, is_new_verb, section_number, section_of, verb_of}
-use Rattle.stack_ops.specs.declared.op.Op.{Op}
+use Rattle.script_text.specs.Passed.{Op}
 use Rattle.script_text.specs.Crossings.{Raw, crossed}
 use Rattle.script_text.specs.Drafts.{Drafted}
 use Rattle.script_text.specs.declared.fault.ScriptFault.{ScriptFault}

@@ -23,7 +23,7 @@ use Rattle.script_laws.proofs.Held.{Goes, Held, each_both, each_none, each_snoc,
 use Rattle.script_laws.proofs.Inverse.{ended_ok, ok_of}
 use Rattle.script_laws.proofs.Over.{IsInner, over_entries, unbroken}
 use Rattle.script_laws.proofs.Front.{parts_false}
-use Rattle.volume_tree.proofs.Gathering.{or_first, or_second}
+use Rattle.script_text.proofs.Passed.{or_first, or_second}
 
 pub record Rules (d : Drafted) (line : ScriptLine) : Type 0 where
   pub integrity : lacks_integrity d line ≡ false

@@ -2,7 +2,7 @@
 use Rattle.std.proofs.Common.{ℕ, suc, ◌≡◌, ◌+◌, ◌<◌, ◌≤◌, ◌||◌, Bool, true, false, eqb, ltb, leb, List, [], ◌∷◌, ◌++◌, length, Option, Some, None, Ok, refl, sym, ap, ◌∙◌, arith, append_assoc, append-nil}
 use Rattle.std.specs.Prelude.{codes, decimal, if◌then◌else◌}
 use Rattle.std.proofs.lemmas.Bool.{le-ltb, lt-leb}
-use Rattle.stack_ops.specs.declared.op.Op.{Op}
+use Rattle.script_text.specs.Passed.{Op}
 use Rattle.script_words.specs.Cuts.{lines_of}
 use Rattle.script_lines.specs.declared.kind.ScriptKind.TheVariants.{TooMany, NoIntegrity}
 use Rattle.script_lines.specs.declared.line.ScriptLine.TheVariants.{Schedule as ScheduleLine, Begin as BeginLine, Op as AnOp}
@@ -27,7 +27,7 @@ use Rattle.script_laws.proofs.OpForms.{Readable, op_are_words, op_back, readable
 use Rattle.script_laws.proofs.Places.{pair_word}
 use Rattle.script_laws.proofs.Stages.{length-snoc, next_number, numbered, placed}
 use Rattle.script_laws.proofs.Steps.{Step, behind, from_text, joined, line_step, stay, to_draft, to_number, verb_step}
-use Rattle.volume_tree.proofs.Following.{together as add_assoc}
+use Rattle.script_text.proofs.Passed.{together as add_assoc}
 
 choice_word_by : (b : Bool) (e : ℕ × ℕ) → IsChoice e → IsWord (if b then decimal e.0 else decimal e.0 ++ (47 ∷ decimal e.1))
 choice_word_by true e h = let f = h.0 in decimal_word e.0 (omega (arith, f))

@@ -7,7 +7,7 @@ use Rattle.std.proofs.lemmas.Bool.{eqb-true, not-false}
 use Rattle.hex.specs.Hex.{IsBytes, encode_lower}
 use Rattle.page_pool.specs.declared.segs.Seg.{Seg}
 use Rattle.page_pool.specs.Places.{total}
-use Rattle.stack_ops.specs.declared.op.Op.{Op}
+use Rattle.script_text.specs.Passed.{Op}
 use Rattle.script_words.specs.Hexes.{byte_in, hex_in, long_tag_in, tag_in}
 use Rattle.script_words.specs.Places.{seg_in, segs_in, spot_in, word32, word64}
 use Rattle.script_lines.specs.declared.kind.ScriptKind.{ScriptKind}

@@ -9,12 +9,8 @@ use Rattle.linear_volume.specs.declared.Linear.{Linear}
 use Rattle.volume_table.specs.declared.entry.Entry.{Entry}
 use Rattle.volume_table.specs.Entries.{IsInRange}
 use Rattle.volume_table.specs.Places.{place_in, volume_len}
-use Rattle.volume_tree.specs.declared.TreeFault.{TreeFault}
-use Rattle.volume_tree.specs.declared.TreeFault.TheVariants.{BadLength, Unaligned, TooMany as TooManyEnds}
-use Rattle.volume_tree.specs.Tracks.{FollowsFrom, ends, is_held, place_by, track_place}
-use Rattle.volume_tree.specs.Trees.{AreTracks, DoFit, EntriesFollow, expanded, has_bad_length, is_unaligned, leg_from, stripe_between, stripes, tree_fault, tree_place}
-use Rattle.volume_tree.proofs.Stretches.{Built, all_blocks, all_fit, all_follow, all_places, all_ranges, built}
-use Rattle.volume_tree.proofs.Gathering.{or_first, or_second}
+use Rattle.script_text.specs.Passed.{TreeFault, BadLength, Unaligned, TooMany as TooManyEnds, FollowsFrom, ends, is_held, place_by, track_place, AreTracks, DoFit, EntriesFollow, expanded, has_bad_length, is_unaligned, leg_from, stripe_between, stripes, tree_fault, tree_place}
+use Rattle.script_text.proofs.Passed.{Built, all_blocks, all_fit, all_follow, all_places, all_ranges, built, or_first, or_second}
 use Rattle.script_lines.specs.declared.kind.ScriptKind.{ScriptKind}
 use Rattle.script_text.specs.Trees.{InnerExtent, as_kind, entries_over, is_bad_volume, is_none, is_past, over_fault, track_from, tracks_in, unless_fault}
 use Rattle.script_laws.specs.Keeping.{Each, IsEntry, IsLeg, IsWithin}

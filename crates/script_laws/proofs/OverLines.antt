@@ -13,7 +13,7 @@ use Rattle.volume_table.specs.Entries.{entry_len, entry_place, entry_start, is_h
 use Rattle.volume_table.specs.Places.{place_by, place_in, volume_len}
 use Rattle.volume_table.specs.Tables.{IsTable, Table}
 use Rattle.volume_table.proofs.Order.{in_is, not_in}
-use Rattle.volume_tree.specs.Trees.{EntriesFollow, tree_place}
+use Rattle.script_text.specs.Passed.{EntriesFollow, tree_place}
 use Rattle.script_lines.specs.declared.kind.ScriptKind.{ScriptKind}
 use Rattle.script_lines.specs.declared.kind.ScriptKind.TheVariants.{LongLine, NotAscii, OutOfPlace, TooMany}
 use Rattle.script_lines.specs.declared.line.ScriptLine.{ScriptLine}

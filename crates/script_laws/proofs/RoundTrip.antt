@@ -3,7 +3,7 @@ use Rattle.std.proofs.Common.{ℕ, ◌≡◌, ◌⊎◌, inl, inr, ◌+◌, ◌�
 use Rattle.std.specs.Prelude.{MatchResult, codes, if◌then◌else◌}
 use Rattle.std.proofs.lemmas.Bool.Decides.{nat_tests}
 use Rattle.fault_schedule.specs.declared.fault.FaultLine.{FaultLine}
-use Rattle.stack_ops.specs.declared.op.Op.{Op}
+use Rattle.script_text.specs.Passed.{Op}
 use Rattle.script_words.specs.Cuts.{lines_of}
 use Rattle.script_lines.specs.declared.kind.ScriptKind.TheVariants.{Memory, TooMany}
 use Rattle.script_lines.specs.declared.verb.Verb.TheVariants.{Schedule as ScheduleVerb, Begin as BeginVerb}

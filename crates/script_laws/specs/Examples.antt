@@ -2,7 +2,7 @@ use Rattle.std.specs.Prelude.{ℕ, true, ◌≡◌, ◌++◌, List, [], ◌∷�
 use Rattle.pi_guard.specs.declared.GuardKind.TheVariants.{Crc}
 use Rattle.pi_tuple.specs.declared.checks.PiType.{PiType}
 use Rattle.pi_tuple.specs.declared.checks.PiType.TheVariants.{Zero as TypeZero, One as TypeOne}
-use Rattle.stack_ops.specs.declared.op.Op.TheVariants.{Show, Write, FetchPi}
+use Rattle.script_text.specs.Passed.{Show, Write, FetchPi}
 use Rattle.volume_table.specs.declared.device.DeviceInfo.{DeviceInfo}
 use Rattle.volume_table.specs.declared.entry.Entry.TheVariants.{Linear, Stripe}
 use Rattle.script_lines.specs.declared.kind.ScriptKind.{ScriptKind}

@@ -1,11 +1,10 @@
 use Rattle.std.specs.Prelude.{ℕ, ℤ, pos, negsuc, suc, ◌≡◌, ◌⊎◌, ◌+◌, ◌^◌, ◌<◌, ◌≤◌, ◌&&◌, Bool, true, false, not, eqb, List, [], ◌∷◌, length, Option, Some, None, Ok}
 use Rattle.hex.specs.Hex.{IsBytes}
-use Rattle.block_path.specs.declared.mode.Mode.{Mode}
+use Rattle.script_text.specs.Passed.{Mode, Op, MOST_BLOCKS}
 use Rattle.fault_schedule.specs.declared.fault.FaultKind.{FaultKind}
 use Rattle.fault_schedule.specs.declared.fault.FaultKind.TheVariants.{Flip as FlipKind, Shift as ShiftKind}
 use Rattle.fault_schedule.specs.declared.fault.FaultLine.{FaultLine}
-use Rattle.merge_queue.specs.declared.Limits.{Limits}
-use Rattle.stack_ops.specs.declared.op.Op.{Op}
+use Rattle.script_lines.specs.Passed.{Limits}
 use Rattle.stripe_volume.specs.declared.legs.Leg.{Leg}
 use Rattle.volume_table.specs.declared.entry.Entry.{Entry}
 use Rattle.volume_table.specs.declared.entry.Entry.TheVariants.{Linear, Stripe}
@@ -19,7 +18,6 @@ use Rattle.script_text.specs.Ops.{op_in}
 use Rattle.script_text.specs.Rules.{is_bad_flip, needs_tuples, request_blocks}
 use Rattle.script_laws.specs.Lines.{line_of}
 use Rattle.volume_table.specs.declared.TheConstants.{MOST_LENGTH}
-use Rattle.bio_core.specs.declared.TheConstants.{MOST_BLOCKS}
 use Rattle.script_lines.specs.declared.TheConstants.{MOST_CHUNK}
 use Rattle.script_text.specs.declared.TheConstants.{MOST_ENTRIES, MOST_FAULTS, MOST_SCHEDULE, MOST_OPS}
 

@@ -1,7 +1,8 @@
 pub mod Clean
-pub mod Texts
-pub mod Lines
-pub mod Keeping
-pub mod RoundTrip
 pub mod Examples
+pub mod Keeping
+pub mod Lines
 pub mod OverLines
+pub mod Passed
+pub mod RoundTrip
+pub mod Texts

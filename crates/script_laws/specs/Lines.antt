@@ -2,15 +2,11 @@ use Rattle.std.specs.Prelude.{ℕ, ℤ, Bool, true, false, eqb, if◌then◌else
 use Rattle.std.specs.Fmt.{signed_decimal}
 use Rattle.std.specs.Int.{to_be_bytes, w16, w32}
 use Rattle.hex.specs.Hex.{encode_lower}
-use Rattle.block_path.specs.declared.mode.Mode.{Mode}
+use Rattle.script_text.specs.Passed.{Mode, Op, Fill as FillOp, Put as PutOp, Show as ShowOp, Seal as SealOp, Write as WriteOp, Fetch, WritePi as WritePiOp, FetchPi, Overwrite, Wait as WaitOp, Change, Flip as FlipChange, Copy as CopyChange}
 use Rattle.linear_volume.specs.declared.Linear.{Linear}
-use Rattle.merge_queue.specs.declared.Limits.{Limits}
+use Rattle.script_lines.specs.Passed.{Limits}
 use Rattle.pi_guard.specs.declared.GuardKind.{GuardKind}
 use Rattle.pi_guard.specs.declared.GuardKind.TheVariants.{Crc, Ip}
-use Rattle.rig_api.specs.declared.change.Change.{Change}
-use Rattle.rig_api.specs.declared.change.Change.TheVariants.{Flip as FlipChange, Copy as CopyChange}
-use Rattle.stack_ops.specs.declared.op.Op.{Op}
-use Rattle.stack_ops.specs.declared.op.Op.TheVariants.{Fill as FillOp, Put as PutOp, Show as ShowOp, Seal as SealOp, Write as WriteOp, Fetch, WritePi as WritePiOp, FetchPi, Overwrite, Wait as WaitOp}
 use Rattle.stripe_volume.specs.declared.Stripe.{Stripe}
 use Rattle.stripe_volume.specs.declared.legs.Leg.{Leg}
 use Rattle.script_lines.specs.declared.line.OpLine.{OpLine}

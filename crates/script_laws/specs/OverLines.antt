@@ -2,7 +2,7 @@
 use Rattle.std.specs.Prelude.{ℕ, ◌≡◌, ◌+◌, ◌<◌, ◌≤◌, List, [], ◌∷◌, Result, Ok}
 use Rattle.volume_table.specs.Places.{place_in}
 use Rattle.volume_table.specs.Tables.{Table}
-use Rattle.volume_tree.specs.Trees.{tree_place}
+use Rattle.script_text.specs.Passed.{tree_place}
 use Rattle.script_lines.specs.declared.kind.ScriptKind.{ScriptKind}
 use Rattle.script_lines.specs.declared.line.ScriptLine.TheVariants.{Over}
 use Rattle.script_lines.specs.declared.verb.Verb.TheVariants.{Over as OverVerb}

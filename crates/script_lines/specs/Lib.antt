@@ -1,4 +1,5 @@
-pub mod Kinds
-pub mod Verbs
-pub mod Reading
 pub mod Forms
+pub mod Kinds
+pub mod Passed
+pub mod Reading
+pub mod Verbs

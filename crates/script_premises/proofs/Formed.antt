@@ -7,27 +7,13 @@ use Rattle.std.proofs.lemmas.List.Elements.{All-cons, All-nil, All-replicate}
 use Rattle.fault_schedule.specs.declared.fault.FaultKind.{FaultKind}
 use Rattle.fault_schedule.specs.declared.fault.FaultKind.TheVariants.{Flip, Shift}
 use Rattle.fault_schedule.specs.declared.fault.FaultLine.{FaultLine}
-use Rattle.dix_adapter.specs.Ways.{blocks_told, shapes_of}
-use Rattle.stack_ops.specs.declared.op.Op.{Op}
-use Rattle.stack_ops.specs.Ops.{is_overwrite}
 use Rattle.target_answer.specs.Target.{Stored}
 use Rattle.volume_table.specs.Tables.{Table}
-use Rattle.block_path.specs.Acts.{State}
-use Rattle.script_text.specs.declared.script.Script.{Script}
-use Rattle.script_laws.specs.Keeping.{Each, IsFault, IsKind}
+use Rattle.script_stack.specs.Passed.{Each, IsFault, IsKind, Script, blocks_told, shapes_of, info_of}
 use Rattle.pi_tuple.specs.Finds.{is_zero}
-use Rattle.rig_discovery.specs.Discovery.{info_of}
 use Rattle.volume_table.specs.declared.device.DeviceInfo.{DeviceInfo}
-use Rattle.run_laws.specs.ShownRun.{DevicesAreClean, HasCells, IsShownRun, LiesOn}
-use Rattle.script_ground.proofs.Calm.{all-fit, calm-run, lies-in, are-bytes}
-use Rattle.script_ground.proofs.Shown.{shown-run, lies-on, has-cells}
-use Rattle.script_ground.proofs.OverUnits.{IsBoundOver, at_first, over}
-use Rattle.whole_run.specs.Detectable.{detectable}
-use Rattle.whole_run.specs.Past.{steps_from}
-use Rattle.whole_run.specs.Settings.{Setting}
-use Rattle.whole_run.specs.CalmRun.{IsCalmRun}
-use Rattle.whole_run.specs.ScriptWalk.{script_walk}
-use Rattle.whole_run.specs.UnderMap.{AreClean, NoEscape, address_of}
+use Rattle.run_premises.specs.Passed.{DevicesAreClean, HasCells, IsShownRun, LiesOn, State, detectable, steps_from, Setting, IsCalmRun, script_walk, AreClean, NoEscape, address_of, Op, is_overwrite}
+use Rattle.script_stack.proofs.Passed.{all-fit, calm-run, lies-in, are-bytes, shown-run, lies-on, has-cells, IsBoundOver, at_first, over}
 use Rattle.run_premises.specs.Forms.{is_good_line, supplies_none}
 use Rattle.run_premises.specs.FormedRun.{HasFormedFaults, IsOfBytes}
 use Rattle.script_premises.specs.FormedScript.{IsFormedOver, IsFormedScript, IsStillScript}

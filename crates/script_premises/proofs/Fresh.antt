@@ -20,17 +20,12 @@ use Rattle.target_answer.specs.declared.units.UnitSpec.{UnitSpec}
 use Rattle.target_answer.specs.declared.units.Version.{Version}
 use Rattle.target_answer.specs.declared.units.Version.TheVariants.{First, Second}
 use Rattle.target_answer.proofs.FreshBlocks.{fresh_long, fresh_many, fresh_is}
-use Rattle.dix_adapter.specs.Ways.{blocks_told, cell_in, shapes_of}
-use Rattle.dix_adapter.proofs.Runs.{AllLong, cut-joined, joined-long}
-use Rattle.rig_discovery.specs.Discovery.{info_of}
+use Rattle.script_stack.specs.Passed.{blocks_told, cell_in, shapes_of, info_of}
+use Rattle.script_stack.proofs.Passed.{AllLong, cut-joined, joined-long}
 use Rattle.volume_table.specs.Places.{place_in}
 use Rattle.volume_table.specs.Tables.{IsOn}
-use Rattle.whole_run.specs.PlainMap.{as_expected}
-use Rattle.whole_run.specs.Settings.{Setting}
-use Rattle.whole_run.specs.UnderMap.{IsClean}
-use Rattle.whole_run.proofs.TupleFrames.{Small, data_is, tuple_below, tuple_is}
-use Rattle.run_laws.specs.ShownRun.{DevicesAreClean}
-use Rattle.run_laws.proofs.Behind.{all_below}
+use Rattle.run_premises.specs.Passed.{DevicesAreClean, as_expected, Setting, IsClean}
+use Rattle.run_premises.proofs.Passed.{all_below, Small, data_is, tuple_below, tuple_is}
 use Rattle.run_premises.proofs.Near.{crc-zeros, zeros_are_bytes}
 
 -- ---- the header's length

@@ -2,17 +2,11 @@ use Rattle.std.specs.Prelude.{◌≡◌, ◌+◌, ◌<◌, false, true, List, []
 use Rattle.std.specs.List.{list_any}
 use Rattle.pi_tuple.specs.Finds.{is_zero}
 use Rattle.pi_tuple.specs.declared.checks.PiType.TheVariants.{One}
-use Rattle.dix_adapter.specs.Ways.{blocks_told, shapes_of}
-use Rattle.rig_discovery.specs.Discovery.{info_of}
 use Rattle.target_answer.specs.Target.{Stored}
 use Rattle.volume_table.specs.Tables.{MadeFor, Table}
-use Rattle.script_text.specs.Bindings.{binding_fault}
-use Rattle.script_text.specs.declared.script.Script.{Script}
-use Rattle.script_laws.specs.Keeping.{Keeps}
-use Rattle.script_ground.specs.Units.{AreStored}
+use Rattle.script_stack.specs.Passed.{AreStored, Keeps, binding_fault, Script, blocks_told, shapes_of, info_of}
 use Rattle.script_stack.specs.Followed.{none_fails, opening_of, setting_of}
-use Rattle.whole_run.specs.UnderMap.{AreClean, NoEscape}
-use Rattle.stack_ops.specs.Ops.{is_overwrite}
+use Rattle.run_premises.specs.Passed.{AreClean, NoEscape, is_overwrite}
 use Rattle.run_premises.specs.Forms.{shows_by_form}
 
 -- What is asked of a script so that a reader of it alone knows of what its run is told: all but that the blocks are clean.

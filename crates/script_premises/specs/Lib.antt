@@ -1,1 +1,2 @@
 pub mod FormedScript
+pub mod Passed

@@ -4,21 +4,13 @@
 
 ghost use Rattle.std.specs.Prelude.{ℕ, ◌≡◌, ◌≤◌, ◌<◌, true, false, List, length, map, All};
 ghost use Rattle.pi_tuple.specs.Finds.{is_zero};
-ghost use Rattle.dix_adapter.specs.Ways.{blocks_told, cell_in, shapes_of};
-ghost use Rattle.rig_discovery.specs.Discovery.{info_of};
 ghost use Rattle.target_answer.specs.Image.{formatted, units_in};
 ghost use Rattle.target_answer.specs.Target.{Stored};
 ghost use Rattle.target_answer.specs.declared.units.UnitSpec.{UnitSpec as AnyUnit};
 ghost use Rattle.volume_table.specs.Tables.{Table};
-ghost use Rattle.run_laws.specs.ShownRun.{DevicesAreClean, IsShownRun};
-ghost use Rattle.whole_run.specs.Detectable.{detectable};
-ghost use Rattle.whole_run.specs.Past.{steps_from};
-ghost use Rattle.whole_run.specs.PlainMap.{as_expected};
-ghost use Rattle.whole_run.specs.ScriptWalk.{script_walk};
-ghost use Rattle.whole_run.specs.Settings.{Setting};
-ghost use Rattle.whole_run.specs.UnderMap.{NoEscape};
+ghost use Rattle.run_premises.specs.Passed.{DevicesAreClean, IsShownRun, detectable, steps_from, as_expected, script_walk, Setting, NoEscape};
 ghost use Rattle.script_stack.specs.Followed.{none_fails, opening_of, setting_of};
-ghost use Rattle.script_text.specs.declared.script.Script.{Script as AnyScript};
+ghost use Rattle.script_stack.specs.Passed.{Script as AnyScript, blocks_told, cell_in, shapes_of, info_of};
 ghost use Rattle.run_premises.specs.Forms.{escapes_none};
 ghost use Rattle.script_premises.specs.FormedScript.{IsFormedOver, IsFormedScript, IsStillScript};
 

@@ -10,32 +10,24 @@ use Rattle.dix_adapter.specs.Ways.{blocks_told, cell_in, shapes_of, site_of}
 use Rattle.fault_schedule.specs.declared.fault.FaultLine.{FaultLine}
 use Rattle.rig_api.specs.Telling.{Standing, no_spec, specs_of}
 use Rattle.target_answer.specs.Target.{Stored}
-use Rattle.run_follows.specs.Units.{AreAtUnits}
+use Rattle.stack_core.specs.Passed.{AreAtUnits, Ground, IsSealed, pages_from, requests_from, io_at, op_in, shifted_by, Setting}
 use Rattle.volume_table.specs.Faults.{device}
 use Rattle.volume_table.specs.Places.{place_in}
 use Rattle.script_ground.proofs.AtUnits.{lies-at-units}
 use Rattle.target_answer.specs.declared.units.UnitSpec.{UnitSpec}
-use Rattle.rig_discovery.specs.Discovery.{info_of}
-use Rattle.stack_ops.specs.declared.op.Op.{Op}
-use Rattle.stack_ops.specs.declared.reply.Reply.TheVariants.{Silent}
+use Rattle.script_text.specs.Passed.{Op, Silent}
 use Rattle.volume_table.specs.declared.device.DeviceInfo.{DeviceInfo}
 use Rattle.volume_table.specs.Tables.{MadeFor, Table}
-use Rattle.block_path.specs.Routes.{target}
-use Rattle.whole_run.specs.Settings.{Setting}
-use Rattle.run_laws.specs.BoundRun.{fates}
+use Rattle.dix_adapter.specs.Passed.{target}
+use Rattle.script_ground.specs.Passed.{fates, info_of}
 use Rattle.script_text.specs.declared.script.Script.{Script}
 use Rattle.script_text.specs.Bindings.{binding_fault}
-use Rattle.run_follows.specs.Ground.{Ground}
-use Rattle.run_follows.specs.Seals.{IsSealed}
 use Rattle.script_ground.specs.Bound.{IsSettingOf}
 use Rattle.script_ground.specs.SuitsStack.{SuitsStack}
 use Rattle.script_ground.specs.Units.{all_blocks}
 use Rattle.script_ground.proofs.Standing.{seals-whole, stands-on-ground}
 use Rattle.script_ground.proofs.Units.{over-units}
 use Rattle.stack_core.specs.declared.stack.Stack.{Stack}
-use Rattle.run_follows.specs.Requests.{pages_from, requests_from}
-use Rattle.run_follows.specs.Sheets.{io_at, op_in}
-use Rattle.run_follows.specs.Shifts.{shifted_by}
 use Rattle.stack_core.specs.NewStacks.{IsSetUp}
 use Rattle.stack_core.specs.Walking.{IsOver, NoneFailed, Opens, SizesFit, WalksAtFirst, WalksFallingAtFirst, WalksToldAtFirst}
 use Rattle.script_stack.specs.Beginning.{setup_of}

@@ -1,9 +1,9 @@
 -- Nothing failed at the medium before the first step.
 use Rattle.std.proofs.Common.{◌≡◌, inl, ℕ, zero, suc, replicate, refl, ap, ◌∙◌, arith}
 use Rattle.bio_core.specs.declared.fate.Fate.TheVariants.{Untouched}
-use Rattle.stack_ops.specs.declared.reply.Reply.TheVariants.{Silent}
+use Rattle.script_text.specs.Passed.{Silent}
 use Rattle.stack_view.specs.View.{start}
-use Rattle.stack_steps.specs.Does.{Holds}
+use Rattle.stack_core.specs.Passed.{Holds}
 use Rattle.stack_core.specs.declared.stack.Stack.{Stack}
 use Rattle.stack_core.specs.Mediums.{HasCounted, medium_replies, mediums}
 use Rattle.stack_core.specs.Stacks.{plan_in}

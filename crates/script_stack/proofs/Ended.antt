@@ -3,8 +3,7 @@ use Rattle.std.proofs.Common.{ℕ, Bool, ◌≡◌, ◌+◌, ◌*◌, true, List
 use Rattle.std.specs.Prelude.{false, is_some}
 use Rattle.std.specs.List.{list_any}
 use Rattle.dix_base.specs.Told.{Calm}
-use Rattle.answered_record.specs.Answered.{AreAnswersTo}
-use Rattle.stack_ops.specs.Ops.{is_overwrite}
+use Rattle.script_text.specs.Passed.{is_overwrite}
 use Rattle.stack_core.specs.declared.sheet.Sheet.{Sheet}
 use Rattle.std.proofs.lemmas.Bool.{false≢true}
 use Rattle.std.proofs.Math.Seq.{drop-append_seam}
@@ -13,12 +12,12 @@ use Rattle.target_answer.specs.Target.{Stored}
 use Rattle.rig_api.specs.Log.{LogEntry}
 use Rattle.rig_api.specs.Telling.{IsStanding, Standing, specs_of, units_told}
 use Rattle.rig_api.specs.State.{RigState}
-use Rattle.rig_discovery.specs.Discovery.{info_of}
+use Rattle.script_ground.specs.Passed.{info_of}
 use Rattle.volume_table.specs.declared.device.DeviceInfo.{DeviceInfo}
 use Rattle.volume_table.specs.Tables.{MadeFor, Table}
 use Rattle.dix_adapter.specs.Ways.{blocks_told, shapes_of}
-use Rattle.block_path.specs.Acts.{State}
-use Rattle.whole_run.specs.Settings.{Setting}
+use Rattle.dix_adapter.specs.Passed.{State}
+use Rattle.stack_core.specs.Passed.{Setting, Holds, AreAnswersTo}
 use Rattle.script_text.specs.Bindings.{binding_fault}
 use Rattle.script_text.specs.declared.script.Script.{Script}
 use Rattle.script_ground.specs.SuitsStack.{SuitsStack}
@@ -28,7 +27,6 @@ use Rattle.stack_core.specs.Stacks.{GoesOn, IsFinished, IsStack, StackStays, pla
 use Rattle.stack_core.specs.Walking.{NoneFailed, Walks, WalksFalling}
 use Rattle.stack_core.specs.declared.stack.Stack.{Stack}
 use Rattle.stack_core.proofs.ToldOps.{is_told}
-use Rattle.stack_steps.specs.Does.{Holds}
 use Rattle.stack_view.specs.View.{start}
 use Rattle.script_stack.specs.Followed.{BeginsTold, BeginsWalks, HasWalked, IsBackedBy, SizesAre, begun_of, failed_in, none_fails, setting_of, unit_of, BeginsFalling, HasFallen, KnownBlocks, NoMediumLine}
 use Rattle.stack_core.specs.Going.{Went}

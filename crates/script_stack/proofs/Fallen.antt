@@ -1,17 +1,9 @@
 -- What a run comes to where store calls failed speaks of its opening without the private pages alone.
 use Rattle.std.proofs.Common.{◌≡◌, ℕ, List, ap, subst, ◌∙◌}
-use Rattle.stack_ops.specs.declared.op.Op.{Op}
-use Rattle.stack_ops.specs.declared.reply.Reply.{Reply}
-use Rattle.block_path.specs.Acts.{State}
-use Rattle.block_path.specs.Blocks.{Sent}
-use Rattle.block_path.specs.Moves.{hidden}
-use Rattle.whole_run.specs.Settings.{Setting}
-use Rattle.whole_run.specs.Past.{steps_from}
-use Rattle.run_laws.specs.FallingReads.{falling_replies}
-use Rattle.run_laws.specs.StoreFaults.{falling_walk}
-use Rattle.run_laws.specs.ToldRun.{IsRecordOfRun}
-use Rattle.run_follows.specs.AtTheEnd.{EndsAsFalling}
-use Rattle.run_follows.specs.Falls.{of_blocks, over_falls}
+use Rattle.script_text.specs.Passed.{Op, Reply}
+use Rattle.dix_adapter.specs.Passed.{State, Sent, hidden}
+use Rattle.script_ground.specs.Passed.{falling_replies, falling_walk, IsRecordOfRun}
+use Rattle.stack_core.specs.Passed.{EndsAsFalling, of_blocks, over_falls, Setting, steps_from}
 
 pub hidden-same : (m : Setting) (n : ℕ) (ops : List Op) (opening other : State) (pages : List ℕ) (blocks : List (List ℕ)) (replies : List Reply) (es : List Sent) → hidden n opening ≡ hidden n other → EndsAsFalling m n ops opening pages blocks replies es → EndsAsFalling m n ops other pages blocks replies es
 hidden-same m n ops opening other pages blocks replies es e h = record {

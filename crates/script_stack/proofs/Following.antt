@@ -11,8 +11,8 @@ use Rattle.target_answer.specs.Target.{Stored, shape_of}
 use Rattle.rig_api.specs.Head.{units_of}
 use Rattle.rig_api.specs.Log.{LogEntry}
 use Rattle.rig_api.specs.Telling.{IsStanding, Standing, spec_at, specs_of, unit_at, units_told}
-use Rattle.rig_discovery.specs.Discovery.{LookAnswer, HasFound, all_told, told, with_info}
-use Rattle.rig_discovery.proofs.ToldSizes.{told_size}
+use Rattle.script_ground.specs.Passed.{LookAnswer, HasFound, all_told, DiscoveryTold as told, with_info}
+use Rattle.script_ground.proofs.Passed.{told_size}
 use Rattle.volume_table.specs.declared.device.DeviceInfo.{DeviceInfo}
 use Rattle.volume_table.specs.Faults.{device}
 use Rattle.dix_adapter.specs.Ways.{shapes_of}

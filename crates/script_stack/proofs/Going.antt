@@ -3,8 +3,8 @@ use Rattle.std.proofs.Common.{◌≤◌, ◌++◌, ◌∙◌, ℕ, ap, refl, ari
 use Rattle.std.specs.List.{list_any}
 use Rattle.std.proofs.lemmas.List.{append_assoc}
 use Rattle.rig_api.specs.State.{RigState}
-use Rattle.answered_record.proofs.Going.{puts_nothing, puts_then}
-use Rattle.stack_ops.specs.Ops.{is_overwrite}
+use Rattle.stack_core.proofs.Passed.{puts_nothing, puts_then}
+use Rattle.script_text.specs.Passed.{is_overwrite}
 use Rattle.stack_core.specs.declared.sheet.Sheet.{Sheet}
 use Rattle.stack_core.specs.Stacks.{GoesOn, StackStays}
 use Rattle.dix_base.specs.Told.{Calm}

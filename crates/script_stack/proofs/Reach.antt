@@ -7,12 +7,11 @@ use Rattle.pi_tuple.specs.declared.checks.PiType.{PiType}
 use Rattle.rig_api.specs.declared.change.Change.{Change}
 use Rattle.rig_api.specs.declared.change.Change.TheVariants.{Copy, Flip}
 use Rattle.rig_api.specs.Telling.{Standing, can_change, has_address, no_spec, source_of, spec_at, specs_of}
-use Rattle.rig_discovery.specs.Discovery.{info_of}
+use Rattle.script_ground.specs.Passed.{info_of}
 use Rattle.target_answer.specs.Frames.{stored_size}
 use Rattle.target_answer.specs.declared.units.UnitSpec.{UnitSpec}
 use Rattle.script_lines.specs.declared.kind.ScriptKind.TheVariants.{BadFault}
-use Rattle.stack_ops.specs.declared.op.Op.{Op}
-use Rattle.stack_ops.specs.declared.op.Op.TheVariants.{Fetch, FetchPi, Fill, Overwrite, Put, Seal, Show, Wait, Write, WritePi}
+use Rattle.script_text.specs.Passed.{Op, Fetch, FetchPi, Fill, Overwrite, Put, Seal, Show, Wait, Write, WritePi}
 use Rattle.volume_table.specs.declared.device.DeviceInfo.{DeviceInfo}
 use Rattle.volume_table.specs.Places.{place_in, volume_len}
 use Rattle.volume_table.specs.Tables.{MadeFor, Table}
@@ -20,7 +19,7 @@ use Rattle.script_text.specs.declared.script.Script.{Script}
 use Rattle.script_text.specs.Bindings.{binding_fault, is_alterable, is_bad_change, is_on, is_type, op_fault}
 use Rattle.stack_core.specs.declared.stack.Stack.{Stack}
 use Rattle.stack_core.specs.Doing.{CanReach}
-use Rattle.run_follows.specs.Sheets.{op_in as op_at}
+use Rattle.stack_core.specs.Passed.{op_in as op_at}
 use Rattle.stack_core.specs.Stacks.{Reaches}
 use Rattle.script_ground.proofs.Ops.{no-fault}
 use Rattle.script_ground.proofs.Standing.{bound}

@@ -7,8 +7,7 @@ use Rattle.page_pool.specs.declared.segs.Seg.{Seg}
 use Rattle.integrity_payload.specs.Payloads.{AreWholeTuples}
 use Rattle.dix_adapter.specs.Groups as Carry
 use Rattle.rig_api.specs.declared.change.Change.TheVariants.{Copy, Flip}
-use Rattle.stack_ops.specs.declared.op.Op.{Op}
-use Rattle.stack_ops.specs.declared.op.Op.TheVariants.{Fetch, FetchPi, Fill, Overwrite, Put, Seal, Show, Wait, Write, WritePi}
+use Rattle.script_text.specs.Passed.{Op, Fetch, FetchPi, Fill, Overwrite, Put, Seal, Show, Wait, Write, WritePi}
 use Rattle.stack_view.specs.Runs.{blocks_of_requests}
 use Rattle.volume_table.specs.declared.device.DeviceInfo.{DeviceInfo}
 use Rattle.volume_table.specs.Places.{volume_len}
@@ -18,13 +17,10 @@ use Rattle.script_text.specs.Bindings.{binding_fault, op_fault}
 use Rattle.script_text.specs.Ops.{both_fault, data_fault}
 use Rattle.script_text.specs.Rules.{request_blocks}
 use Rattle.script_text.specs.Segments.{are_whole_tuples, is_inside, is_whole}
-use Rattle.script_laws.specs.Keeping.{IsProtect, blocks_of}
-use Rattle.script_laws.specs.Lines.{line_of}
-use Rattle.script_laws.proofs.OpForms.{no_fault, found_inside}
-use Rattle.run_follows.specs.Requests.{first_page, page_after, request_of, requests_from}
-use Rattle.run_follows.specs.Sheets.{op_in as op_at, request_in}
+use Rattle.script_ground.specs.Passed.{IsProtect, blocks_of, line_of}
+use Rattle.script_ground.proofs.Passed.{no_fault, found_inside}
+use Rattle.stack_core.specs.Passed.{first_page, page_after, request_of, requests_from, op_in as op_at, request_in, AreTuples, CanStart, IsData, IsOp}
 use Rattle.stack_core.specs.Stacks.{AreUniform}
-use Rattle.run_follows.specs.Starting.{AreTuples, CanStart, IsData, IsOp}
 use Rattle.stack_core.proofs.Opening.{uniform}
 use Rattle.script_ground.specs.SuitsStack.{IsStackOp, SuitsStack}
 use Rattle.script_ground.proofs.Bodies.{HaveTuples, IsBody, alone-of, both-of}

@@ -2,16 +2,14 @@
 use Rattle.std.proofs.Common.{◌≡◌, ◌≤◌, ℕ, zero, suc, ◌+◌, ◌*◌, Bool, List, [], ◌∷◌, length, map, replicate, take, None, refl, ap, arith}
 use Rattle.std.proofs.lemmas.List.{length-replicate}
 use Rattle.target_answer.specs.declared.units.UnitSpec.{UnitSpec}
-use Rattle.rig_discovery.specs.Discovery.{info_of}
-use Rattle.stack_ops.specs.declared.op.Op.{Op}
+use Rattle.script_text.specs.Passed.{Op}
 use Rattle.volume_table.specs.declared.device.DeviceInfo.{DeviceInfo}
 use Rattle.volume_table.specs.Tables.{Table}
-use Rattle.block_path.specs.Moves.{hidden}
-use Rattle.whole_run.specs.Settings.{Setting}
-use Rattle.run_laws.specs.BoundRun.{fates, rooms}
+use Rattle.dix_adapter.specs.Passed.{hidden}
+use Rattle.script_ground.specs.Passed.{fates, rooms, info_of}
 use Rattle.script_text.specs.declared.script.Script.{Script}
-use Rattle.run_follows.specs.Requests.{page_after, pages_from}
-use Rattle.run_follows.proofs.WalksBegin.{pages-grow}
+use Rattle.stack_core.specs.Passed.{page_after, pages_from, Setting}
+use Rattle.stack_core.proofs.Passed.{pages-grow}
 use Rattle.stack_core.proofs.Spotted.{after_is}
 use Rattle.script_stack.specs.Followed.{begun_of, opening_of, setting_of, unit_of}
 

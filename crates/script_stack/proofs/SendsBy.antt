@@ -4,30 +4,25 @@ use Rattle.std.specs.List.{All, AllByRecursion as Each}
 use Rattle.std.proofs.lemmas.List.{get_or_past}
 use Rattle.rig_api.specs.Log.{LogEntry as Record}
 use Rattle.rig_api.specs.Telling.{Standing}
-use Rattle.block_path.specs.Acts.{State}
-use Rattle.block_path.specs.declared.mode.Mode.{Mode}
+use Rattle.dix_adapter.specs.Passed.{State, Mode}
 use Rattle.dix_adapter.specs.Groups.{mode_of}
 use Rattle.pi_tuple.specs.declared.checks.PiType.{PiType}
-use Rattle.run_laws.proofs.Labelled.{each_both}
-use Rattle.whole_run.specs.Settings.{Setting}
+use Rattle.script_ground.proofs.Passed.{each_both}
 use Rattle.bio_core.specs.declared.request.Io.{Io}
 use Rattle.merge_queue.specs.declared.limits.Limits.{Limits}
-use Rattle.stack_ops.specs.declared.op.Op.{Op}
+use Rattle.script_text.specs.Passed.{Op}
 use Rattle.stack_view.specs.Comes.{entry_at}
 use Rattle.stack_view.specs.Measure.{greatest_pieces}
 use Rattle.stack_view.specs.Plan.{Plan}
 use Rattle.stack_view.specs.Runs.{ScheduleEntry, SentCommand, blocks_of_requests, sends_of}
 use Rattle.stack_view.specs.View.{start}
 use Rattle.stack_view.proofs.Runs.{calm-sends}
-use Rattle.stack_steps.specs.Does.{Holds}
 use Rattle.volume_table.specs.Tables.{Table}
 use Rattle.script_text.specs.declared.script.Script.{Script}
 use Rattle.stack_core.specs.declared.sheet.Sheet.{Sheet}
 use Rattle.stack_core.specs.declared.stack.Stack.{Stack}
 use Rattle.stack_core.specs.OnRecord.{AreRecords, HasQueues, HasSent, IsFormed, IsOfRequests, ListsNone, SendsOn}
-use Rattle.run_follows.specs.Requests.{requests_from}
-use Rattle.run_follows.specs.Sheets.{plan_of}
-use Rattle.run_follows.specs.Shifts.{shifted_by}
+use Rattle.stack_core.specs.Passed.{requests_from, plan_of, shifted_by, Setting, Holds}
 use Rattle.stack_core.specs.Stacks.{IsFinished, IsStack, StackStays, plan_in}
 use Rattle.stack_core.specs.Walking.{Walks}
 use Rattle.script_stack.specs.Sends.{IsPlanFor, SendsBy, SendsFor, entries_of}

@@ -6,15 +6,14 @@ use Rattle.stack_view.specs.Room.{exchanges_left, frames_left}
 use Rattle.stack_view.specs.Runs.{blocks_of_requests, most_steps}
 use Rattle.stack_view.specs.Steps.{Step, chosen, enabled, step}
 use Rattle.stack_view.specs.View.{View, start}
-use Rattle.stack_steps.specs.declared.machine.Machine.{Machine}
-use Rattle.stack_steps.specs.Does.{Holds, Works}
+use Rattle.stack_core.specs.Passed.{Machine, Holds, Works}
 use Rattle.rig_api.specs.Telling.{Standing, greatest_size}
 use Rattle.stack_view.proofs.Capacity.{few-unsettled}
 use Rattle.stack_view.proofs.Room.{accounted-start}
 use Rattle.stack_view.proofs.Starts.{starts}
 use Rattle.stack_core.specs.declared.stack.Stack.{Stack}
 use Rattle.stack_core.specs.Stacks.{HasSpare, HasStep, Steps, plan_in}
-use Rattle.run_follows.proofs.Spare.{fewer}
+use Rattle.stack_core.proofs.Passed.{fewer}
 
 -- a step is one more, and there are at most so many
 pub record OneMore (p : Plan) (m m₂ : Machine) : Type 0 where

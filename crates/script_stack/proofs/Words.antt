@@ -1,7 +1,7 @@
 -- A script's own schedule is nothing to its run by given words.
 use Rattle.std.proofs.Common.{ℕ, List}
 use Rattle.rig_api.specs.Log.{LogEntry}
-use Rattle.stack_ops.specs.declared.reply.Reply.{Reply}
+use Rattle.script_text.specs.Passed.{Reply}
 use Rattle.volume_table.specs.Tables.{Table}
 use Rattle.script_text.specs.declared.script.Script.{Script}
 use Rattle.script_stack.specs.Sends.{SendsFor, by_words}

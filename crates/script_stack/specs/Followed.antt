@@ -6,26 +6,18 @@ use Rattle.target_answer.specs.declared.units.UnitSpec.{UnitSpec}
 use Rattle.rig_api.specs.Log.{LogEntry}
 use Rattle.rig_api.specs.Telling.{Standing, spec_at, specs_of}
 use Rattle.rig_api.specs.State.{RigState}
-use Rattle.rig_discovery.specs.Discovery.{info_of}
-use Rattle.stack_ops.specs.declared.reply.Reply.{Reply}
-use Rattle.stack_ops.specs.declared.reply.Reply.TheVariants.{Silent}
+use Rattle.script_text.specs.Passed.{Reply, Silent}
 use Rattle.volume_table.specs.declared.device.DeviceInfo.{DeviceInfo}
 use Rattle.volume_table.specs.Faults.{device}
 use Rattle.volume_table.specs.Tables.{Table}
 use Rattle.dix_adapter.specs.Groups.{mode_of}
 use Rattle.dix_adapter.specs.Ways.{blocks_told, cell_in, shapes_of}
-use Rattle.block_path.specs.Acts.{State}
-use Rattle.block_path.specs.Routes.{target}
+use Rattle.dix_adapter.specs.Passed.{State, target}
 use Rattle.script_text.specs.declared.script.Script.{Script}
-use Rattle.whole_run.specs.ScriptWalk.{script_replies, script_walk}
-use Rattle.whole_run.specs.Settings.{Setting}
-use Rattle.run_laws.specs.BackedRun.{Backed}
-use Rattle.run_laws.specs.CarriedRun.{Carried}
-use Rattle.run_laws.specs.Records.{recorded}
-use Rattle.run_laws.specs.BoundRun.{fates}
+use Rattle.script_ground.specs.Passed.{Backed, Carried, recorded, fates, info_of}
 use Rattle.script_ground.specs.Units.{all_blocks}
 use Rattle.stack_core.specs.Mediums.{RoseBy, medium_lines}
-use Rattle.run_follows.specs.Requests.{pages_from, requests_from}
+use Rattle.stack_core.specs.Passed.{pages_from, requests_from, script_replies, script_walk, Setting}
 use Rattle.stack_core.specs.declared.stack.Stack.{Stack}
 use Rattle.stack_core.specs.Stacks.{IsFinished, IsStack}
 use Rattle.stack_core.specs.Walking.{EndsFallen, Walks, WalksFalling, WalksTold, is_medium}

@@ -1,4 +1,5 @@
-pub mod Causes
-pub mod Sends
-pub mod Followed
 pub mod Beginning
+pub mod Causes
+pub mod Followed
+pub mod Passed
+pub mod Sends

@@ -2,7 +2,7 @@
 use Rattle.std.specs.Prelude.{◌≡◌, ◌≤◌, ℕ, List, [], ◌∷◌, ◌++◌, length}
 use Rattle.std.specs.List.{All, AllByRecursion as Each}
 use Rattle.rig_api.specs.Log.{LogEntry as Record}
-use Rattle.stack_ops.specs.declared.reply.Reply.{Reply}
+use Rattle.script_text.specs.Passed.{Reply}
 use Rattle.stack_view.specs.Measure.{greatest_pieces}
 use Rattle.stack_view.specs.Plan.{Plan}
 use Rattle.stack_view.specs.Runs.{ScheduleEntry, blocks_of_requests, sends_of}
@@ -10,9 +10,7 @@ use Rattle.volume_table.specs.Tables.{Table}
 use Rattle.script_text.specs.declared.script.Script.{Script}
 use Rattle.dix_adapter.specs.Groups.{mode_of}
 use Rattle.stack_core.specs.OnRecord.{AreRecords, HasQueues, HasSent, IsFormed, IsOfRequests, ListsNone}
-use Rattle.run_follows.specs.Requests.{requests_from}
-use Rattle.run_follows.specs.Sheets.{plan_of}
-use Rattle.run_follows.specs.Shifts.{shifted_by}
+use Rattle.stack_core.specs.Passed.{requests_from, plan_of, shifted_by}
 use Rattle.stack_core.specs.Stacks.{plan_in}
 use Rattle.stack_core.specs.declared.stack.Stack.{Stack}
 

@@ -5,7 +5,7 @@ ghost use Rattle.fault_schedule.specs.declared.fault.FaultLine.{FaultLine};
 ghost use Rattle.target_answer.specs.Target.{Stored};
 ghost use Rattle.rig_api.specs.Log.{LogEntry};
 ghost use Rattle.rig_api.specs.Telling.{Standing};
-ghost use Rattle.rig_discovery.specs.Discovery.{info_of};
+ghost use Rattle.script_ground.specs.Passed.{info_of};
 ghost use Rattle.volume_table.specs.declared.device.DeviceInfo.{DeviceInfo as AnyDevice};
 ghost use Rattle.volume_table.specs.Tables.{MadeFor, Table};
 ghost use Rattle.dix_adapter.specs.Ways.{blocks_told, shapes_of};

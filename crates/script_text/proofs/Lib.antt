@@ -1,8 +1,9 @@
-mod Walks
-pub mod Filled
-mod Sharing
-mod Tracking
-mod Texts
 mod Drawing
-pub mod Staying
+pub mod Filled
 mod Marking
+pub mod Passed
+mod Sharing
+pub mod Staying
+mod Texts
+mod Tracking
+mod Walks

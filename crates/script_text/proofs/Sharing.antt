@@ -8,8 +8,8 @@ use Rattle.std.proofs.lemmas.List.Sums.{sum_by-cons}
 use Rattle.page_pool.specs.declared.segs.Seg.{Seg}
 use Rattle.page_pool.specs.Places.{shares}
 use Rattle.page_pool.proofs.Sharing.{exact}
-use Rattle.range_gate.specs.Prints.{IsSound, Rises}
-use Rattle.range_gate.proofs.Sweep.{skip_left}
+use Rattle.stack_ops.specs.Passed.{IsSound, Rises}
+use Rattle.stack_ops.proofs.Passed.{skip_left}
 use Rattle.script_text.specs.Segments.{any_share}
 use Rattle.small_laws.proofs.Tests.{same_test}
 

@@ -6,7 +6,7 @@ ghost use Rattle.page_pool.specs.Walking.{InPages};
 ghost use Rattle.script_lines.specs.declared.kind.ScriptKind.{ScriptKind};
 ghost use Rattle.script_lines.specs.declared.line.OpLine.{OpLine};
 ghost use Rattle.script_lines.specs.Reading.{IsUnless};
-ghost use Rattle.range_gate.specs.Prints.{IsSound};
+ghost use Rattle.stack_ops.specs.Passed.{IsSound};
 ghost use Rattle.script_text.specs.Ops.{are_tuples, both_fault, data_fault, is_body, op_in};
 ghost use Rattle.script_text.specs.Rules.{IsUnlessBroken, IsUnlessFault};
 ghost use Rattle.script_text.specs.Segments.{are_inside, do_overlap, is_inside};

@@ -6,7 +6,7 @@ ghost use Rattle.page_pool.specs.Places.{total};
 ghost use Rattle.page_pool.specs.Walking.{InPages};
 ghost use Rattle.page_pool.specs.Places.{places_in};
 ghost use Rattle.script_text.specs.Segments.{any_share, are_few_each, are_inside, are_whole_tuples, do_overlap, is_inside};
-ghost use Rattle.range_gate.specs.Prints.{IsSound, Rises, begins};
+ghost use Rattle.stack_ops.specs.Passed.{IsSound, Rises, begins};
 
 use page_pool::{PAGE, Seg, SgList, Walk};
 use pi_tuple::TUPLE;

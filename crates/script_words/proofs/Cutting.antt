@@ -5,8 +5,7 @@ use Rattle.std.proofs.lemmas.Bool.Decides.{nat_tests}
 use Rattle.page_pool.specs.declared.segs.Seg.{Seg}
 use Rattle.script_words.specs.Cuts.{Cut, cut, cut_by, ended, filled, in_front, is_byte, lines_of, parts, words_of}
 use Rattle.script_words.specs.Places.{seg_in, segs_of, with_seg}
-use Rattle.small_laws.proofs.Tests.{ltb_suc}
-use Rattle.small_laws.proofs.Numbers.{one_more}
+use Rattle.fault_schedule.proofs.Passed.{ltb_suc, one_more}
 
 -- how a cut looks with a byte in front
 abbrev later : ℕ → Option Cut → Option Cut

@@ -21,10 +21,8 @@ use Rattle.dix_adapter.proofs.Asking.{is-pos}
 use Rattle.stack_ops.specs.Ops.{first_virt}
 use Rattle.run_follows.specs.Requests.{first_page, page_after, request_of, requests_from}
 use Rattle.run_follows.specs.Sheets.{io_at, no_io, op_in}
-use Rattle.whole_run.specs.Settings.{Setting}
-use Rattle.run_laws.specs.OpsApart.{OpsConflict, is_shifted}
-use Rattle.run_laws.specs.ScriptMoves.{fates_of}
-use Rattle.run_laws.proofs.Inside.{still_is}
+use Rattle.run_follows.specs.Passed.{OpsConflict, is_shifted, fates_of, Setting}
+use Rattle.run_follows.proofs.Passed.{still_is}
 
 -- ---- shifts
 

@@ -27,10 +27,8 @@ use Rattle.block_path.specs.declared.mode.Mode.{Mode}
 use Rattle.block_path.specs.Acts.{State}
 use Rattle.block_path.specs.Blocks.{Sent}
 use Rattle.block_path.specs.Routes.{host_type}
-use Rattle.whole_run.specs.Settings.{Setting}
-use Rattle.whole_run.proofs.EachFrom.{each_same}
-use Rattle.run_laws.specs.BoundRun.{fates}
-use Rattle.run_laws.specs.ScriptMoves.{fates_of}
+use Rattle.run_follows.proofs.Passed.{each_same}
+use Rattle.run_follows.specs.Passed.{fates, fates_of, Setting}
 use Rattle.run_follows.specs.Sending.{is_carried}
 use Rattle.run_follows.specs.Slots.{Status}
 use Rattle.run_follows.specs.Spots.{op_in}

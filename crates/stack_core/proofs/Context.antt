@@ -9,8 +9,7 @@ use Rattle.block_path.specs.Acts.{State}
 use Rattle.block_path.specs.Blocks.{Sent}
 use Rattle.volume_table.specs.declared.entry.Entry.{Entry}
 use Rattle.volume_table.specs.Places.{place_in}
-use Rattle.whole_run.specs.Settings.{Setting}
-use Rattle.run_laws.specs.ToldRun.{came_by, told}
+use Rattle.run_follows.specs.Passed.{came_by, told, Setting}
 use Rattle.run_follows.specs.Ground.{IsPlanOf}
 use Rattle.run_follows.proofs.WalksOver.{ground_over}
 use Rattle.pi_tuple.specs.declared.checks.PiType.{PiType}

@@ -18,13 +18,7 @@ use Rattle.block_path.specs.Acts.{State, act, tell}
 use Rattle.block_path.specs.Blocks.{Sent, silent}
 use Rattle.block_path.specs.Moves.{first_why}
 use Rattle.block_path.specs.Serial.{plain, plain_tells}
-use Rattle.whole_run.specs.ScriptWalk.{acts_of}
-use Rattle.whole_run.specs.Settings.{Setting}
-use Rattle.whole_run.specs.Steps.{Alters, Reads, Seals, Sets, Shows, Step, Writes, WritesPi}
-use Rattle.run_laws.specs.BoundRun.{fates, rooms}
-use Rattle.run_laws.specs.OpsApart.{IsPlaced, OneCellEach}
-use Rattle.run_laws.specs.ScriptMoves.{fates_of, own_at}
-use Rattle.run_laws.specs.Records.{recorded}
+use Rattle.run_follows.specs.Passed.{fates, rooms, IsPlaced, OneCellEach, fates_of, own_at, recorded, acts_of, Setting, Alters, Reads, Seals, Sets, Shows, Step, Writes, WritesPi, changed, steps_of}
 use Rattle.dix_adapter.specs.declared.adapter.Adapter.{Adapter}
 use Rattle.dix_adapter.specs.Carried.{Unsent, any_bad, frame_len, sends}
 use Rattle.dix_adapter.specs.Groups.{IsCarriedGroup, IsProtect, blocks_in, first_of}
@@ -60,8 +54,6 @@ use Rattle.rig_api.specs.declared.change.Change.{Change}
 use Rattle.rig_api.specs.declared.change.Change.TheVariants.{Flip}
 use Rattle.rig_api.specs.State.{RigState}
 use Rattle.stack_ops.specs.declared.op.Op.TheVariants.{Overwrite}
-use Rattle.whole_run.specs.ScriptWalk.{changed}
-use Rattle.whole_run.specs.Steps.{steps_of}
 use Rattle.stack_core.specs.Courses.{AllFlipped, Course, Falling, FollowsBy, Straight}
 
 -- The stack follows on, with pages and stored blocks as of these cells.

@@ -19,8 +19,7 @@ use Rattle.block_path.specs.Blocks.{ActAnswer, Sent, silent}
 use Rattle.block_path.specs.Moves.{first_why, settle}
 use Rattle.block_path.specs.Routes.{host_type}
 use Rattle.block_path.specs.Serial.{plain, plain_tells}
-use Rattle.whole_run.specs.Settings.{Setting, block_of, route}
-use Rattle.run_laws.specs.BoundRun.{fates}
+use Rattle.run_follows.specs.Passed.{fates, Setting, block_of, route}
 use Rattle.run_follows.specs.Following.{Becomes}
 use Rattle.run_follows.specs.Gate.{MayMove, BlockSpot, number, parts_at, place}
 use Rattle.run_follows.specs.Sending.{with_status}

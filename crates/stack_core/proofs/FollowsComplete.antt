@@ -18,10 +18,7 @@ use Rattle.stack_view.specs.Plan.{Plan}
 use Rattle.block_path.specs.Acts.{State}
 use Rattle.block_path.specs.Blocks.{Sent}
 use Rattle.block_path.specs.Routes.{host_type}
-use Rattle.whole_run.specs.Settings.{Setting, block_of, route}
-use Rattle.whole_run.specs.Steps.{Alters, Reads, Seals, Sets, Shows, Step, Writes, WritesPi}
-use Rattle.run_laws.specs.BoundRun.{fates}
-use Rattle.run_laws.specs.OpsApart.{OpsConflict}
+use Rattle.run_follows.specs.Passed.{fates, OpsConflict, Setting, block_of, route, Alters, Reads, Seals, Sets, Shows, Step, Writes, WritesPi}
 use Rattle.run_follows.specs.Gate.{AreOver, is_over}
 use Rattle.run_follows.specs.Sending.{Carriage, IsElsewhere, carriage_of, with_status}
 use Rattle.run_follows.specs.Slots.{Carried, Settled as NowSettled, Status}

@@ -16,10 +16,7 @@ use Rattle.stack_view.proofs.Ops.{AtSet, Other, Past, Same, at_set}
 use Rattle.stack_view.proofs.Keeps.{admitted-ended, admitted-waits}
 use Rattle.block_path.specs.Acts.{State}
 use Rattle.block_path.specs.Blocks.{Sent}
-use Rattle.whole_run.specs.ScriptWalk.{bad_from as walk_bad, whole_or_bad}
-use Rattle.whole_run.specs.Settings.{Setting}
-use Rattle.whole_run.specs.Steps.{each_from}
-use Rattle.run_laws.specs.ScriptMoves.{fates_of}
+use Rattle.run_follows.specs.Passed.{fates_of, bad_from as walk_bad, whole_or_bad, Setting, each_from}
 use Rattle.run_follows.specs.Sending.{NoneBefore, is_carried}
 use Rattle.run_follows.specs.Slots.{Status}
 use Rattle.run_follows.proofs.WalksMoving.{still}

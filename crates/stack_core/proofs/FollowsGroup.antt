@@ -14,7 +14,7 @@ use Rattle.stack_ops.specs.declared.op.Op.{Op}
 use Rattle.stack_view.specs.Blocks.{is_block, is_settled, place_of, times}
 use Rattle.stack_view.specs.Formed.{Named}
 use Rattle.stack_view.specs.Plan.{Plan, request_at}
-use Rattle.whole_run.specs.Settings.{Setting, block_of, route}
+use Rattle.run_follows.specs.Passed.{Setting, block_of, route}
 use Rattle.run_follows.specs.Sending.{IsElsewhere}
 use Rattle.run_follows.specs.Slots.{Carried, Status}
 use Rattle.run_follows.specs.Statuses.{fate_at, id_of, sent_as}

@@ -21,7 +21,7 @@ use Rattle.block_path.specs.Moves.{make_tuple, map_out}
 use Rattle.block_path.specs.Routes.{host_type}
 use Rattle.block_path.specs.Serial.{plain}
 use Rattle.block_path.proofs.InTurn.{plain_append}
-use Rattle.whole_run.specs.Settings.{Setting, block_of, route}
+use Rattle.run_follows.specs.Passed.{Setting, block_of, route}
 use Rattle.run_follows.specs.Pieces.{all_cut, all_made}
 use Rattle.run_follows.specs.Spots.{spots_from}
 use Rattle.stack_core.specs.Done.{MadeBy, WriteMade, WriteMapped}

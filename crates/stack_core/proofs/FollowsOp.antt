@@ -14,10 +14,7 @@ use Rattle.stack_view.specs.View.{OpView, View, is_admitted, no_op, op_at}
 use Rattle.block_path.specs.Acts.{State, act, tell}
 use Rattle.block_path.specs.Blocks.{Sent, silent}
 use Rattle.block_path.specs.Serial.{plain, plain_tells}
-use Rattle.whole_run.specs.ScriptWalk.{acts_of}
-use Rattle.whole_run.specs.Settings.{Setting}
-use Rattle.whole_run.specs.Steps.{each_from}
-use Rattle.run_laws.specs.ScriptMoves.{fates_of}
+use Rattle.run_follows.specs.Passed.{fates_of, IsPlaced, acts_of, Setting, each_from}
 use Rattle.run_follows.specs.Gate.{BecomesDone, IsAlone, LetsIn}
 use Rattle.run_follows.specs.Sending.{NoneBefore, is_carried}
 use Rattle.run_follows.specs.Slots.{Done, Status}
@@ -32,7 +29,6 @@ use Rattle.rig_api.specs.declared.change.Change.{Change}
 use Rattle.run_follows.specs.Flips.{Flips}
 use Rattle.run_follows.proofs.Flipped.{flip_at, flip_here, flip_there}
 use Rattle.run_follows.proofs.Overwriting.{between}
-use Rattle.run_laws.specs.OpsApart.{IsPlaced}
 use Rattle.stack_core.specs.Courses.{Course, Falling, FollowsBy, Straight}
 use Rattle.stack_core.specs.Rooms.{Suits}
 use Rattle.run_follows.specs.Sheets.{op_in}

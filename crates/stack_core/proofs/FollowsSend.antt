@@ -16,9 +16,7 @@ use Rattle.stack_view.specs.Sound.{Sound}
 use Rattle.stack_view.specs.View.{View, group_at, is_admitted, no_op, op_at, queue_at}
 use Rattle.block_path.specs.Acts.{State}
 use Rattle.block_path.specs.Blocks.{Sent}
-use Rattle.whole_run.specs.Settings.{Setting, block_of, route}
-use Rattle.run_laws.specs.BoundRun.{rooms}
-use Rattle.run_laws.specs.ScriptMoves.{own_at}
+use Rattle.run_follows.specs.Passed.{rooms, own_at, Setting, block_of, route}
 use Rattle.run_follows.specs.Gate.{BlockSpot}
 use Rattle.run_follows.specs.Sending.{AllGoing, IsGoing, NoneBefore, carriage_of, with_fates}
 use Rattle.run_follows.specs.Slots.{Cut, Status}

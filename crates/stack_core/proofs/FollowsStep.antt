@@ -19,9 +19,7 @@ use Rattle.block_path.specs.Acts.{State, act}
 use Rattle.block_path.specs.Blocks.{Sent}
 use Rattle.block_path.specs.Routes.{host_type}
 use Rattle.block_path.specs.Serial.{plain}
-use Rattle.whole_run.specs.Settings.{Setting, block_of, route}
-use Rattle.run_laws.specs.ScriptMoves.{fates_of}
-use Rattle.run_laws.specs.Records.{find}
+use Rattle.run_follows.specs.Passed.{fates_of, find, Setting, block_of, route}
 use Rattle.run_follows.specs.Pieces.{all_made, with_all}
 use Rattle.run_follows.specs.Sending.{NoneBefore, is_carried}
 use Rattle.run_follows.specs.Slots.{Admitted, Cut, Status, Waits}

@@ -15,12 +15,7 @@ use Rattle.stack_view.specs.View.{View, op_at}
 use Rattle.stack_view.proofs.Enabled.{stuck}
 use Rattle.stack_steps.specs.Does.{Holds}
 use Rattle.block_path.specs.Acts.{State}
-use Rattle.whole_run.specs.ScriptWalk.{bad_from, whole_or_bad}
-use Rattle.whole_run.specs.Settings.{Setting}
-use Rattle.whole_run.specs.Steps.{each_from}
-use Rattle.run_laws.specs.ScriptMoves.{fates_of}
-use Rattle.run_laws.specs.Records.{recorded}
-use Rattle.run_laws.specs.ToldRun.{told}
+use Rattle.run_follows.specs.Passed.{fates_of, recorded, told, bad_from, whole_or_bad, Setting, each_from}
 use Rattle.stack_core.specs.declared.stack.Stack.{Stack}
 use Rattle.run_follows.specs.Moved.{why_of}
 use Rattle.stack_core.specs.OnRecord.{IsKeptBad, ListsNone, bad_blocks}

@@ -20,7 +20,7 @@ use Rattle.dix_adapter.specs.Outcomes.{rest_of}
 use Rattle.rig_api.specs.Log.{IsMedium}
 use Rattle.rig_api.specs.declared.rig.Outcome.{Outcome}
 use Rattle.block_path.specs.Senses.{is_medium_why, why_ended}
-use Rattle.whole_run.proofs.Named.{medium_is}
+use Rattle.run_follows.proofs.Passed.{medium_is}
 use Rattle.stack_core.specs.Mediums.{mediums, one_medium}
 use Rattle.run_follows.specs.Settled.{IsSettled, Judged, KeptFates, OneSettled, Settled}
 use Rattle.run_follows.specs.Settling.{fate_by}

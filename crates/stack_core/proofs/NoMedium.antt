@@ -20,11 +20,7 @@ use Rattle.stack_view.specs.View.{OpView, no_op, op_at}
 use Rattle.stack_view.proofs.Enabled.{stuck, all-at}
 use Rattle.block_path.specs.Acts.{State}
 use Rattle.block_path.specs.Blocks.{Sent}
-use Rattle.whole_run.specs.ScriptWalk.{bad_from, whole_or_bad}
-use Rattle.whole_run.specs.Settings.{Setting}
-use Rattle.whole_run.specs.Steps.{each_from}
-use Rattle.run_laws.specs.ScriptMoves.{fates_of}
-use Rattle.run_laws.specs.Records.{recorded}
+use Rattle.run_follows.specs.Passed.{fates_of, recorded, bad_from, whole_or_bad, Setting, each_from}
 use Rattle.run_follows.specs.Following.{Follows}
 use Rattle.run_follows.specs.Slots.{Status}
 use Rattle.run_follows.specs.Flips.{Flips, flip_op, with_flips}

@@ -27,9 +27,7 @@ use Rattle.block_path.specs.Blocks.{ActAnswer, silent}
 use Rattle.block_path.specs.Moves.{in_turn, on_bytes}
 use Rattle.block_path.specs.Serial.{plain, plain_tells}
 use Rattle.block_path.proofs.InTurn.{made_in_turn}
-use Rattle.whole_run.specs.ScriptWalk.{act_of, acts_of}
-use Rattle.whole_run.specs.Settings.{Setting}
-use Rattle.whole_run.specs.Steps.{Seals, Step, body_of, each_from, tuple_of}
+use Rattle.run_follows.specs.Passed.{act_of, acts_of, Setting, Seals, Step, body_of, each_from, tuple_of}
 use Rattle.run_follows.specs.Gate.{IsAlone}
 use Rattle.stack_core.specs.declared.kept.Room.{Room}
 use Rattle.stack_core.specs.declared.kept.Room.TheVariants.{Tuples}

@@ -20,8 +20,7 @@ use Rattle.volume_table.specs.Tables.{Table}
 use Rattle.stack_ops.specs.declared.op.Op.{Op}
 use Rattle.stack_ops.specs.declared.op.Op.TheVariants.{Fetch, FetchPi, Fill, Overwrite, Put, Seal, Show, Wait, Write, WritePi}
 use Rattle.stack_ops.specs.Footprints.{footprint, is_alone}
-use Rattle.whole_run.specs.Settings.{Setting}
-use Rattle.run_laws.specs.OpsApart.{OpsConflict, is_shifted}
+use Rattle.run_follows.specs.Passed.{OpsConflict, is_shifted, Setting}
 use Rattle.run_follows.specs.Ground.{IsPlanOf}
 use Rattle.run_follows.specs.Requests.{requests_from}
 use Rattle.run_follows.specs.Sheets.{do_clash, io_at, layout_of, no_print, op_in, plan_of, prints_of, request_in}

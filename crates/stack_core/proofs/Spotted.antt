@@ -13,9 +13,7 @@ use Rattle.block_path.specs.declared.route.Route.{Route}
 use Rattle.block_path.specs.Acts.{Act}
 use Rattle.block_path.specs.Blocks.{ActAnswer}
 use Rattle.block_path.specs.Moves.{in_turn}
-use Rattle.whole_run.specs.Settings.{Setting, block_of, route}
-use Rattle.run_laws.specs.BoundRun.{fates, rooms}
-use Rattle.run_laws.specs.ScriptMoves.{fates_of, own_at, room_of}
+use Rattle.run_follows.specs.Passed.{fates, rooms, fates_of, own_at, room_of, Setting, block_of, route}
 use Rattle.run_follows.specs.Gate.{parts_at}
 use Rattle.run_follows.specs.Pieces.{all_cut, all_made}
 use Rattle.run_follows.specs.Slots.{StepParts, parts_of}

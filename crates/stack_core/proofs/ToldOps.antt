@@ -24,9 +24,7 @@ use Rattle.stack_ops.specs.declared.op.Op.{Op}
 use Rattle.stack_ops.specs.declared.op.Op.TheVariants.{Fetch, FetchPi, Fill, Overwrite, Put, Seal, Show, Wait, Write, WritePi}
 use Rattle.block_path.specs.Acts.{State}
 use Rattle.block_path.specs.Blocks.{Site}
-use Rattle.whole_run.specs.ScriptWalk.{changed, source_of as source_cell}
-use Rattle.whole_run.specs.Settings.{Setting}
-use Rattle.run_laws.specs.Records.{recorded}
+use Rattle.run_follows.specs.Passed.{recorded, changed, source_of as source_cell, Setting}
 use Rattle.stack_core.specs.Courses.{Course, Falling, Straight}
 use Rattle.stack_core.specs.declared.stack.Stack.{Stack}
 use Rattle.stack_core.specs.Doing.{CanReach}

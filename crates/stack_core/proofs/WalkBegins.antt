@@ -13,9 +13,7 @@ use Rattle.stack_view.specs.Plan.{PlannedOp, request_at}
 use Rattle.stack_view.specs.View.{is_admitted, no_op, op_at, start, waiting}
 use Rattle.stack_steps.specs.Does.{Holds}
 use Rattle.block_path.specs.Acts.{State}
-use Rattle.whole_run.specs.Settings.{Setting}
-use Rattle.run_laws.specs.Records.{recorded}
-use Rattle.run_laws.specs.ToldRun.{told}
+use Rattle.run_follows.specs.Passed.{recorded, told, Setting}
 use Rattle.run_follows.specs.Finished.{FramesFit}
 use Rattle.run_follows.specs.Slots.{Waits}
 use Rattle.run_follows.specs.Statuses.{fate_in}

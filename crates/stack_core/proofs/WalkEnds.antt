@@ -20,14 +20,7 @@ use Rattle.stack_view.proofs.Enabled.{stuck, all-at}
 use Rattle.block_path.specs.Acts.{State}
 use Rattle.block_path.specs.Blocks.{ActAnswer, Sent}
 use Rattle.block_path.specs.Moves.{hidden}
-use Rattle.whole_run.specs.ScriptWalk.{bad_from, reply_of, whole_or_bad}
-use Rattle.whole_run.specs.Settings.{Setting}
-use Rattle.whole_run.specs.Steps.{Step, each_from, steps_of}
-use Rattle.run_laws.specs.BoundRun.{IsBoundRun}
-use Rattle.run_laws.specs.ScriptMoves.{fates_of}
-use Rattle.run_laws.specs.BackedRun.{Backed}
-use Rattle.run_laws.specs.Records.{recorded}
-use Rattle.run_laws.specs.ToldRun.{told}
+use Rattle.run_follows.specs.Passed.{IsBoundRun, fates_of, Backed, recorded, told, bad_from, reply_of, whole_or_bad, Setting, Step, each_from, steps_of}
 use Rattle.run_follows.specs.Finished.{AllEnded, HasEnded, HaveEnded, answer_of, answers_of, replies_of}
 use Rattle.run_follows.specs.Slots.{Done, Settled, Status}
 use Rattle.run_follows.proofs.Backing.{is_backed, told_carried}

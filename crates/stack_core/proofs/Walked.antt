@@ -35,8 +35,7 @@ use Rattle.stack_steps.specs.Shows.{Means, live_ops, op_of}
 use Rattle.block_path.specs.Acts.{State, act}
 use Rattle.block_path.specs.Blocks.{Sent}
 use Rattle.block_path.specs.Serial.{plain}
-use Rattle.whole_run.specs.ScriptWalk.{acts_of}
-use Rattle.whole_run.specs.Settings.{Setting, block_of, route}
+use Rattle.run_follows.specs.Passed.{acts_of, Setting, block_of, route}
 use Rattle.run_follows.specs.Sending.{NoneBefore}
 use Rattle.stack_core.specs.declared.kept.Room.TheVariants.{Nothing}
 use Rattle.stack_core.specs.declared.sheet.Sheet.{Sheet}

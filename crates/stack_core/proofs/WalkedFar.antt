@@ -31,7 +31,7 @@ use Rattle.stack_steps.proofs.Sums.{sends-fit}
 use Rattle.block_path.specs.Acts.{State}
 use Rattle.block_path.specs.Blocks.{Sent}
 use Rattle.volume_table.specs.Places.{place_in, volume_len}
-use Rattle.whole_run.specs.Settings.{Setting}
+use Rattle.run_follows.specs.Passed.{Setting}
 use Rattle.run_follows.specs.Sending.{AllGoing, NoneBefore, with_fates}
 use Rattle.run_follows.specs.Slots.{Status}
 use Rattle.run_follows.proofs.Sending.{in_its_queue}

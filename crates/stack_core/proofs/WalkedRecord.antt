@@ -24,9 +24,7 @@ use Rattle.stack_steps.specs.Does.{Flies, Takes}
 use Rattle.block_path.specs.Acts.{State}
 use Rattle.block_path.specs.Blocks.{Sent}
 use Rattle.block_path.specs.Routes.{wire_size}
-use Rattle.whole_run.specs.Settings.{Block as ScriptBlock, Setting, route}
-use Rattle.run_laws.specs.Records.{recorded}
-use Rattle.run_laws.specs.ToldRun.{told}
+use Rattle.run_follows.specs.Passed.{recorded, told, Block as ScriptBlock, Setting, route}
 use Rattle.run_follows.specs.Finished.{FramesFit}
 use Rattle.run_follows.specs.Following.{Follows}
 use Rattle.run_follows.specs.Sending.{AllGoing, FollowsOn, NoneBefore, with_fates}

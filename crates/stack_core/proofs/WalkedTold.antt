@@ -53,10 +53,7 @@ use Rattle.block_path.specs.Acts.{State}
 use Rattle.block_path.specs.Blocks.{Sent, Site, fetched_cell}
 use Rattle.block_path.specs.declared.route.Route.{Route}
 use Rattle.block_path.specs.Routes.{by_target, passage}
-use Rattle.whole_run.specs.Settings.{Setting, block_of, route}
-use Rattle.run_laws.specs.OpsApart.{is_shifted}
-use Rattle.run_laws.specs.ScriptMoves.{fates_of}
-use Rattle.run_laws.specs.Records.{recorded}
+use Rattle.run_follows.specs.Passed.{is_shifted, fates_of, recorded, Setting, block_of, route}
 use Rattle.run_follows.specs.Sending.{AllGoing, AllSized, NoneBefore, with_fates}
 use Rattle.run_follows.specs.Slots.{Status}
 use Rattle.run_follows.proofs.Recording.{none_in, none_out}

@@ -3,7 +3,7 @@ use Rattle.std.specs.Prelude.{◌≡◌, ℕ, true, List, IfSome}
 use Rattle.stack_ops.specs.declared.op.Op.{Op}
 use Rattle.block_path.specs.Acts.{State}
 use Rattle.block_path.specs.Blocks.{Sent}
-use Rattle.whole_run.specs.Settings.{Setting}
+use Rattle.run_follows.specs.Passed.{Setting}
 use Rattle.run_follows.specs.Following.{Follows}
 use Rattle.run_follows.specs.Sending.{is_carried}
 use Rattle.run_follows.specs.Slots.{Status}

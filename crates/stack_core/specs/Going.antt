@@ -5,7 +5,7 @@ use Rattle.dix_base.specs.Told.{Calm}
 use Rattle.rig_api.specs.State.{KeepsRecords, RigState, Stays as RigStays}
 use Rattle.answered_record.specs.Answered.{PutsAnswers}
 use Rattle.block_path.specs.Acts.{State}
-use Rattle.whole_run.specs.Settings.{Setting}
+use Rattle.run_follows.specs.Passed.{Setting}
 use Rattle.stack_ops.specs.declared.op.Op.{Op}
 use Rattle.stack_ops.specs.declared.reply.Reply.{Reply}
 use Rattle.stack_ops.specs.Ops.{is_overwrite}

@@ -29,16 +29,8 @@ use Rattle.dix_adapter.specs.declared.adapter.Adapter.{Adapter}
 use Rattle.dix_adapter.specs.Groups.{mode_of}
 use Rattle.dix_adapter.specs.Ways.{blocks_told, site_of}
 use Rattle.block_path.specs.Moves.{hidden}
-use Rattle.whole_run.specs.ScriptWalk.{bad_from, changed, script_replies, script_walk, source_of as source_cell, whole_or_bad}
 use Rattle.volume_table.specs.Places.{place_in, volume_len}
-use Rattle.whole_run.specs.Settings.{Setting}
-use Rattle.whole_run.specs.Steps.{each_from}
-use Rattle.run_laws.specs.BoundRun.{fates}
-use Rattle.run_laws.specs.ScriptMoves.{fates_of}
-use Rattle.run_laws.specs.BackedRun.{Backed}
-use Rattle.run_laws.specs.CarriedRun.{Carried}
-use Rattle.run_laws.specs.Records.{recorded}
-use Rattle.run_laws.specs.ToldRun.{told}
+use Rattle.run_follows.specs.Passed.{fates, fates_of, Backed, Carried, recorded, told, bad_from, changed, script_replies, script_walk, source_of as source_cell, whole_or_bad, Setting, each_from}
 use Rattle.run_follows.specs.Finished.{FramesFit}
 use Rattle.run_follows.specs.Sending.{NoneBefore}
 use Rattle.run_follows.specs.Slots.{Status}

@@ -1,2 +1,3 @@
 pub mod Footprints
 pub mod Ops
+pub mod Passed

@@ -1,8 +1,7 @@
 -- A run in which all blocks were good is the one that is known before.
 use Rattle.std.proofs.Common.{◌≡◌, ℕ, zero, suc, ◌+◌, ◌-◌, ◌<◌, ◌≤◌, true, false, List, [], ◌∷◌, ◌++◌, length, drop, get_or, set, replicate, refl, sym, ap, subst, ◌∙◌, ⊎_elim, arith, zero-add}
 use Rattle.std.proofs.lemmas.Bool.{cases_Bool}
-use Rattle.bio_core.specs.declared.fate.Fate.{Fate}
-use Rattle.bio_core.specs.declared.fate.Fate.TheVariants.{Good}
+use Rattle.merge_queue.specs.Passed.{Fate, Good}
 use Rattle.merge_queue.specs.Groups.{size}
 use Rattle.stack_view.specs.Plan.{Plan}
 use Rattle.stack_view.specs.View.{View, Command, no_command, start}

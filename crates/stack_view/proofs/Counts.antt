@@ -2,7 +2,7 @@
 use Rattle.std.proofs.Common.{◌≡◌, ℕ, zero, suc, ◌+◌, ◌<◌, ◌≤◌, true, false, eqb, List, [], ◌∷◌, ◌++◌, length, get_or, set, refl, sym, ap, ◌∙◌, ⊎_elim, arith, length-append}
 use Rattle.std.specs.Prelude.{if◌then◌else◌, nat_lt}
 use Rattle.std.proofs.lemmas.Bool.{cases_eq, cases_lt, eq-eqb, ne_eqb, lt-ltb, le-ltb}
-use Rattle.bio_core.specs.declared.bio.Bio.{Bio}
+use Rattle.merge_queue.specs.Passed.{Bio}
 use Rattle.stack_view.specs.Blocks.{place_of, BlockId, run_of, blocks, times}
 use Rattle.merge_queue.specs.Groups.{size}
 use Rattle.merge_queue.specs.Index.{total}

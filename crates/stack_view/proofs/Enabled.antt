@@ -5,7 +5,7 @@ use Rattle.std.specs.List.{All, filter}
 use Rattle.std.proofs.lemmas.Bool.{cases_Bool, cases_eq, cases_lt, and_parts, and_from, and_left, not-true, not-false, false_from_ne_true, ltb-true, ltb-false, lt-ltb, le-ltb}
 use Rattle.std.proofs.lemmas.List.{get_or_past, nil_from_length}
 use Rattle.std.proofs.lemmas.List.Elements.{All-get_or, filter_passes}
-use Rattle.bio_core.specs.declared.fate.Fate.{Fate}
+use Rattle.merge_queue.specs.Passed.{Fate}
 use Rattle.merge_queue.proofs.Lists.{total-one}
 use Rattle.stack_view.specs.Blocks.{BlockId, blocks, times, settled_count, is_settled}
 use Rattle.merge_queue.specs.Groups.{size, numbers, Group}

@@ -4,10 +4,7 @@ use Rattle.std.specs.Prelude.{nat_lt, nat_le}
 use Rattle.std.specs.List.{All}
 use Rattle.std.proofs.lemmas.Bool.{cases_Bool, and_parts, not-true, ltb-true, eqb-true, eqb-false, leb-true, leb-false}
 use Rattle.std.proofs.lemmas.List.Elements.{All-nil, All-cons, All-head, All-tail, All-append, All-set, All-get_or, All-push, All-map}
-use Rattle.bio_core.specs.declared.bio.Bio.{Bio}
-use Rattle.bio_core.specs.declared.request.Dir.{Dir}
-use Rattle.bio_core.specs.declared.request.Dir.TheVariants.{Read, Write}
-use Rattle.bio_core.specs.declared.fate.Fate.{Fate}
+use Rattle.merge_queue.specs.Passed.{Bio, Dir, Read, Write, Fate}
 use Rattle.merge_queue.specs.Groups.{size, Group, lba_of, dir_of, same_dir, put, put_all, without, joined, may_follow}
 use Rattle.merge_queue.proofs.Moves.{size-append}
 use Rattle.stack_view.specs.Plan.{Plan, request_at}

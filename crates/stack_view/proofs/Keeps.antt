@@ -5,8 +5,7 @@ use Rattle.std.specs.List.{All}
 use Rattle.std.proofs.lemmas.Bool.{cases_Bool, cases_eq, cases_lt, and_parts, not-true, eqb-true, eqb-false, ltb-true}
 use Rattle.std.proofs.lemmas.List.{length-set, get_or_past}
 use Rattle.std.proofs.lemmas.List.Elements.{All-set, All-get_or, All-push}
-use Rattle.bio_core.specs.declared.bio.Bio.{Bio}
-use Rattle.bio_core.specs.declared.fate.Fate.{Fate}
+use Rattle.merge_queue.specs.Passed.{Bio, Fate}
 use Rattle.merge_queue.proofs.Lists.{total-append, total-one, total-without}
 use Rattle.stack_view.specs.Blocks.{place_of, BlockId, run_of, blocks, times, is_block, settled_of, is_settled}
 use Rattle.merge_queue.specs.Index.{total}

@@ -3,7 +3,7 @@ use Rattle.std.proofs.Common.{◌≡◌, ℕ, zero, suc, ◌+◌, ◌-◌, ◌*�
 use Rattle.std.specs.Prelude.{if◌then◌else◌, nat_lt}
 use Rattle.std.proofs.lemmas.Bool.{and_parts, not-true, ltb-true, eqb-false}
 use Rattle.std.proofs.lemmas.List.{length-set}
-use Rattle.bio_core.specs.declared.fate.Fate.{Fate}
+use Rattle.merge_queue.specs.Passed.{Fate}
 use Rattle.merge_queue.proofs.Lists.{total-append, total-without}
 use Rattle.merge_queue.proofs.Moves.{size-append}
 use Rattle.stack_view.specs.Blocks.{blocks, settled_of}

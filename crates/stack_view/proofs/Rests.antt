@@ -6,9 +6,7 @@ use Rattle.std.specs.List.{All}
 use Rattle.std.proofs.lemmas.List.Elements.{All-nil, All-cons, All-tail, All-map, All-weaker}
 use Rattle.stack_view.specs.Sound.{HasBlocks}
 use Rattle.std.specs.Prelude.{if◌then◌else◌, nat_le}
-use Rattle.bio_core.specs.declared.bio.Bio.{Bio}
-use Rattle.bio_core.specs.declared.fate.Fate.{Fate}
-use Rattle.bio_core.specs.declared.fate.Fate.TheVariants.{Good, Bad, Untouched}
+use Rattle.merge_queue.specs.Passed.{Bio, Fate, Good, Bad, Untouched}
 use Rattle.stack_view.specs.Blocks.{place_of, BlockId, run_of, blocks, settled_of, settled_count}
 use Rattle.merge_queue.specs.Groups.{size, Group}
 use Rattle.merge_queue.specs.Index.{total}

@@ -4,7 +4,7 @@ use Rattle.std.specs.Prelude.{if◌then◌else◌, nat_lt}
 use Rattle.std.specs.List.{All}
 use Rattle.std.proofs.lemmas.Bool.{cases_Bool, and_parts, not-true, ltb-true, eqb-false}
 use Rattle.std.proofs.lemmas.List.Elements.{All-head, All-tail}
-use Rattle.bio_core.specs.declared.fate.Fate.{Fate}
+use Rattle.merge_queue.specs.Passed.{Fate}
 use Rattle.merge_queue.proofs.Lists.{total-append, total-one, total-without}
 use Rattle.merge_queue.proofs.Moves.{size-append}
 use Rattle.stack_view.specs.Blocks.{blocks, settled_count}

@@ -1,10 +1,7 @@
 -- The definitions tried on scripts whose commands are known.
 use Rattle.std.proofs.Common.{◌≡◌, ℕ, ◌+◌, ◌-◌, ◌*◌, ◌≤◌, zero, suc, Bool, true, false, ◌&&◌, ◌||◌, eqb, ltb, List, [], ◌∷◌, replicate, get_or, refl, arith}
 use Rattle.std.specs.Prelude.{◌/◌, ◌%◌, if◌then◌else◌}
-use Rattle.bio_core.specs.declared.request.Dir.TheVariants.{Read, Write}
-use Rattle.bio_core.specs.declared.fate.Fate.{Fate}
-use Rattle.bio_core.specs.declared.fate.Fate.TheVariants.{Good, Bad, Untouched}
-use Rattle.bio_core.specs.declared.fate.Why.TheVariants.{Medium}
+use Rattle.merge_queue.specs.Passed.{Read, Write, Fate, Good, Bad, Untouched, Medium}
 use Rattle.merge_queue.specs.declared.limits.Limits.{Limits}
 use Rattle.merge_queue.specs.Groups.{size}
 use Rattle.stack_view.specs.Plan.{Plan, PlannedOp, Place, no_request, request_at}

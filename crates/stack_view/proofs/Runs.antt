@@ -4,7 +4,7 @@ use Rattle.std.specs.List.{All}
 use Rattle.std.proofs.lemmas.Bool.{cases_Bool, ltb-true}
 use Rattle.std.proofs.lemmas.List.{length-replicate}
 use Rattle.std.proofs.lemmas.List.Elements.{All-head, All-drop}
-use Rattle.bio_core.specs.declared.fate.Fate.TheVariants.{Good}
+use Rattle.merge_queue.specs.Passed.{Good}
 use Rattle.merge_queue.specs.Groups.{size}
 use Rattle.stack_view.specs.Blocks.{settled_count}
 use Rattle.stack_view.specs.Plan.{Plan}

@@ -4,8 +4,7 @@ use Rattle.std.specs.Prelude.{if◌then◌else◌, nat_lt}
 use Rattle.std.proofs.lemmas.Bool.{cases_Bool, and_parts, not-true, ltb-true, eqb-false, lt-ltb, le-ltb}
 use Rattle.std.proofs.lemmas.List.{length-set}
 use Rattle.std.proofs.lemmas.List.Elements.{All-nil, All-set, All-get_or, All-push}
-use Rattle.bio_core.specs.declared.fate.Fate.{Fate}
-use Rattle.bio_core.specs.declared.fate.Fate.TheVariants.{Good, Bad, Untouched}
+use Rattle.merge_queue.specs.Passed.{Fate, Good, Bad, Untouched}
 use Rattle.merge_queue.proofs.Lists.{total-without}
 use Rattle.stack_view.specs.Blocks.{blocks, settled_of, settled_count}
 use Rattle.merge_queue.specs.Index.{total}

@@ -1,8 +1,6 @@
 -- Single blocks of requests, and how often one stands in a list.
 use Rattle.std.specs.Prelude.{ℕ, zero, suc, ◌+◌, Bool, true, false, ◌&&◌, eqb, if◌then◌else◌, List, [], ◌∷◌, ◌++◌}
-use Rattle.bio_core.specs.declared.bio.Bio.{Bio}
-use Rattle.bio_core.specs.declared.fate.Fate.{Fate}
-use Rattle.bio_core.specs.declared.fate.Fate.TheVariants.{Good, Bad, Untouched}
+use Rattle.merge_queue.specs.Passed.{Bio, Fate, Good, Bad, Untouched}
 use Rattle.merge_queue.specs.Index.{total}
 
 -- block k of op i

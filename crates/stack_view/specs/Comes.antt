@@ -1,7 +1,6 @@
 -- Views that come of the first one by a schedule, whatever the fates are.
 use Rattle.std.specs.Prelude.{◌≡◌, ◌<◌, ℕ, zero, suc, List, [], ◌∷◌, length, get_or, replicate}
-use Rattle.bio_core.specs.declared.fate.Fate.{Fate}
-use Rattle.bio_core.specs.declared.fate.Fate.TheVariants.{Good}
+use Rattle.merge_queue.specs.Passed.{Fate, Good}
 use Rattle.merge_queue.specs.Groups.{size}
 use Rattle.stack_view.specs.Plan.{Plan}
 use Rattle.stack_view.specs.View.{View, Command, start}

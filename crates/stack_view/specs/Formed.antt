@@ -1,7 +1,7 @@
 -- What the groups in the queues and in the commands look like.
 use Rattle.std.specs.Prelude.{◌≡◌, ◌<◌, ◌≤◌, ℕ, suc, ◌+◌, List, [], ◌∷◌}
 use Rattle.std.specs.List.{All}
-use Rattle.bio_core.specs.declared.bio.Bio.{Bio}
+use Rattle.merge_queue.specs.Passed.{Bio}
 use Rattle.stack_view.specs.Blocks.{place_of}
 use Rattle.merge_queue.specs.Groups.{size, Group, lba_of, dir_of}
 use Rattle.stack_view.specs.Plan.{Plan, request_at}

@@ -1,7 +1,6 @@
 -- The pieces that a request is cut into.
 use Rattle.std.specs.Prelude.{ℕ, zero, suc, ◌+◌, ◌-◌, ◌%◌, min, Bool, ◌&&◌, nat_le, if◌then◌else◌}
-use Rattle.bio_core.specs.declared.bio.Bio.{Bio}
-use Rattle.bio_core.specs.Bios.{bio_with, part_with}
+use Rattle.merge_queue.specs.Passed.{Bio, bio_with, part_with}
 use Rattle.stack_view.specs.Blocks.{place_of}
 use Rattle.stack_view.specs.Plan.{Plan, request_at}
 

@@ -1,7 +1,6 @@
 -- What a run is given: its requests, where their blocks lie, how they are segmented, which of them conflict.
 use Rattle.std.specs.Prelude.{ℕ, Bool, List, get_or}
-use Rattle.bio_core.specs.declared.request.Dir.{Dir}
-use Rattle.bio_core.specs.declared.request.Dir.TheVariants.{Read}
+use Rattle.merge_queue.specs.Passed.{Dir, Read}
 use Rattle.merge_queue.specs.declared.limits.Limits.{Limits}
 
 -- one op; one that is no read or write has no blocks

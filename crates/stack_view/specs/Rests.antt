@@ -1,8 +1,6 @@
 -- What goes back into the queue of a command that was done in part: each maximal run of untouched blocks.
 use Rattle.std.specs.Prelude.{ℕ, suc, ◌-◌, eqb, nat_le, if◌then◌else◌, List, [], ◌∷◌, map}
-use Rattle.bio_core.specs.declared.bio.Bio.{Bio}
-use Rattle.bio_core.specs.declared.fate.Fate.{Fate}
-use Rattle.bio_core.specs.declared.fate.Fate.TheVariants.{Good, Bad, Untouched}
+use Rattle.merge_queue.specs.Passed.{Bio, Fate, Good, Bad, Untouched}
 use Rattle.merge_queue.specs.Groups.{Group}
 use Rattle.stack_view.specs.Plan.{Plan}
 use Rattle.stack_view.specs.Pieces.{part}

@@ -1,6 +1,6 @@
 -- How much room the rig must still have.
 use Rattle.std.specs.Prelude.{◌≡◌, ℕ, ◌+◌, ◌-◌, if◌then◌else◌, List, length}
-use Rattle.bio_core.specs.declared.fate.Fate.{Fate}
+use Rattle.merge_queue.specs.Passed.{Fate}
 use Rattle.merge_queue.specs.Groups.{size}
 use Rattle.merge_queue.specs.Index.{total}
 use Rattle.stack_view.specs.Blocks.{settled_count}

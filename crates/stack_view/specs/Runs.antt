@@ -1,8 +1,6 @@
 -- Whole runs by a schedule, and what they send.
 use Rattle.std.specs.Prelude.{ℕ, zero, suc, ◌+◌, ◌*◌, Bool, true, false, if◌then◌else◌, List, [], ◌∷◌, length, map, drop, replicate}
-use Rattle.bio_core.specs.declared.request.Dir.{Dir}
-use Rattle.bio_core.specs.declared.fate.Fate.{Fate}
-use Rattle.bio_core.specs.declared.fate.Fate.TheVariants.{Good}
+use Rattle.merge_queue.specs.Passed.{Dir, Fate, Good}
 use Rattle.merge_queue.specs.Groups.{size, Group, lba_of, dir_of}
 use Rattle.stack_view.specs.Plan.{Plan, PlannedOp}
 use Rattle.stack_view.specs.View.{View, Command, start, group_at}

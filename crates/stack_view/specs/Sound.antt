@@ -1,7 +1,7 @@
 -- What holds between two steps.
 use Rattle.std.specs.Prelude.{◌≡◌, ◌<◌, ◌≤◌, ℕ, ◌+◌, ◌-◌, true, false, nat_lt, if◌then◌else◌, List, [], length, get_or}
 use Rattle.std.specs.List.{All}
-use Rattle.bio_core.specs.declared.fate.Fate.{Fate}
+use Rattle.merge_queue.specs.Passed.{Fate}
 use Rattle.stack_view.specs.Blocks.{BlockId, run_of, blocks, times, settled_count}
 use Rattle.merge_queue.specs.Groups.{size, Group}
 use Rattle.merge_queue.specs.Index.{total}

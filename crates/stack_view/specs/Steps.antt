@@ -1,8 +1,7 @@
 -- The steps: which are enabled, which one a word chooses, and what each does.
 use Rattle.std.specs.Prelude.{ℕ, zero, suc, ◌+◌, ◌%◌, Bool, true, false, not, ◌&&◌, eqb, nat_lt, if◌then◌else◌, List, [], ◌∷◌, ◌++◌, length, get_or, set, map}
 use Rattle.std.specs.List.{filter, flat_map}
-use Rattle.bio_core.specs.declared.bio.Bio.{Bio}
-use Rattle.bio_core.specs.declared.fate.Fate.{Fate}
+use Rattle.merge_queue.specs.Passed.{Bio, Fate}
 use Rattle.merge_queue.specs.declared.limits.Limits.{Limits}
 use Rattle.range_gate.specs.Gates.{is_waiting, has_ended, none_conflicts}
 use Rattle.stack_view.specs.Blocks.{BlockId, blocks, settled_of}

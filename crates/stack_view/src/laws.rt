@@ -2,7 +2,7 @@
 
 ghost use Rattle.std.specs.Prelude.{◌≡◌, ◌<◌, ◌≤◌, ◌+◌, ◌*◌, ℕ, true, false, List, [], ◌∷◌, ◌++◌, length};
 ghost use Rattle.std.specs.List.{All};
-ghost use Rattle.bio_core.specs.declared.fate.Fate.{Fate};
+ghost use Rattle.merge_queue.specs.Passed.{Fate};
 ghost use Rattle.stack_view.specs.Blocks.{blocks, times};
 ghost use Rattle.stack_view.specs.Plan.{Plan, request_at};
 ghost use Rattle.stack_view.specs.Pieces.{fits, longest, greatest_piece, cut_to};

@@ -2,7 +2,7 @@
 use Rattle.target_answer.specs.declared.units.Version.{Version}
 use Rattle.std.proofs.Common.{List, ℕ, ◌≡◌, true}
 use Rattle.target_answer.specs.Headers.{is_header, is_layout, specs_in}
-use Rattle.small_laws.proofs.Tests.{and_first}
+use Rattle.fault_schedule.proofs.Passed.{and_first}
 
 pub header_layout : (v : Version) (b : List ℕ) → is_header v b ≡ true → is_layout (specs_in v b) ≡ true
 unfolding is_header

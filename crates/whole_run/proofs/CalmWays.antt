@@ -18,17 +18,13 @@ use Rattle.pi_tuple.specs.declared.checks.Check.{Check}
 use Rattle.pi_tuple.specs.declared.checks.Check.TheVariants.{AppTag, Guard, RefTag}
 use Rattle.pi_tuple.specs.declared.checks.Checks.{Checks}
 use Rattle.pi_tuple.proofs.TupleLaws.{tag_below}
-use Rattle.cdb_codec.specs.Rule.{is_two}
 use Rattle.fault_schedule.specs.Altered.{altered, named}
 use Rattle.fault_schedule.specs.declared.Label.{Label}
 use Rattle.fault_schedule.specs.declared.fault.Crossing.{Crossing}
 use Rattle.fault_schedule.specs.declared.fault.Crossing.TheVariants.{AdapterToHost, AdapterToTarget, HostToAdapter, MediumToTarget, TargetToAdapter, TargetToMedium}
 use Rattle.fault_schedule.proofs.Unaltered.{altered_none}
-use Rattle.integrity_payload.specs.Payloads.{all_asked}
-use Rattle.integrity_payload.specs.declared.payload.Owner.{Owner}
-use Rattle.bio_core.specs.declared.fate.Why.TheVariants.{Adapter}
-use Rattle.target_answer.specs.Frames.{data_of, frame_of, tuple_of}
-use Rattle.target_answer.specs.Passing.{accepted, asked_of as checked_of, found_in, from_medium, released, then_crossed, to_medium, unless, wanted_of}
+use Rattle.stack_ops.specs.Passed.{Adapter, is_two}
+use Rattle.block_path.specs.Passed.{data_of, frame_of, tuple_of, accepted, asked_of as checked_of, found_in, from_medium, released, then_crossed, to_medium, unless, wanted_of, all_asked, Owner}
 use Rattle.block_path.specs.declared.route.Route.{Route}
 use Rattle.block_path.specs.Routes.{by_target, converted, host_type, is_crc, passage, passes_tuples, target, with_guard, wire_lba, medium_lba}
 use Rattle.block_path.specs.WayIn.{Delivers, adapter_finds_in, at_host, from_device, from_wire, mapped_back, owner_finds, received, delivered_unless, verified, way_in}

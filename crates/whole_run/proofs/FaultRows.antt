@@ -7,10 +7,10 @@ use Rattle.pi_tuple.specs.declared.checks.Check.TheVariants.{Guard, RefTag}
 use Rattle.pi_tuple.specs.declared.checks.PiType.TheVariants.{One}
 use Rattle.page_pool.specs.Places.{run}
 use Rattle.fault_schedule.specs.declared.fault.Crossing.TheVariants.{AdapterToHost, AdapterToTarget, MediumToTarget, TargetToAdapter, TargetToMedium}
-use Rattle.rig_api.specs.declared.change.Change.TheVariants.{Copy}
+use Rattle.stack_ops.specs.Passed.{Copy}
 use Rattle.stack_ops.specs.declared.op.Op.{Op}
 use Rattle.stack_ops.specs.declared.op.Op.TheVariants.{Fetch, Overwrite, Write}
-use Rattle.target_answer.specs.Passing.{found_in, from_medium, to_medium}
+use Rattle.block_path.specs.Passed.{found_in, from_medium, to_medium}
 use Rattle.block_path.specs.WayIn.{from_wire}
 use Rattle.block_path.specs.WayOut.{to_wire}
 use Rattle.whole_run.specs.Detectable.{detectable, found}

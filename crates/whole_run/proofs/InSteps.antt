@@ -4,9 +4,8 @@ use Rattle.std.proofs.lemmas.Bool.{eq-eqb, ne_eqb}
 use Rattle.std.proofs.lemmas.List.{append_assoc, length-set}
 use Rattle.page_pool.specs.declared.segs.Seg.{Seg}
 use Rattle.page_pool.specs.Cells.{gather, scatter, share_a_cell}
-use Rattle.integrity_payload.specs.declared.payload.Owner.{Owner}
-use Rattle.integrity_payload.specs.declared.payload.Owner.TheVariants.{Block as OfBlock, App as OfApp}
-use Rattle.bio_core.specs.declared.fate.Why.{Why}
+use Rattle.block_path.specs.Passed.{Owner, Block as OfBlock, App as OfApp}
+use Rattle.stack_ops.specs.Passed.{Why}
 use Rattle.stack_ops.specs.declared.op.Op.{Op}
 use Rattle.stack_ops.specs.declared.reply.BadBlock.{BadBlock}
 use Rattle.block_path.specs.Acts.{Act, State, act, effect, tell}

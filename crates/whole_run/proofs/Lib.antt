@@ -1,12 +1,13 @@
-pub mod ScriptRows
-mod FaultRows
-pub mod TupleFrames
-pub mod CalmWays
-pub mod MapUnder
-pub mod PlainSteps
-pub mod CalmRuns
 pub mod AnyOrder
-pub mod Named
-pub mod InSteps
+pub mod CalmRuns
+pub mod CalmWays
 pub mod EachFrom
+mod FaultRows
+pub mod InSteps
+pub mod MapUnder
+pub mod Named
+pub mod Passed
+pub mod PlainSteps
+pub mod ScriptRows
 pub mod TagLaws
+pub mod TupleFrames

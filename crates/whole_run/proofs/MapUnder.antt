@@ -9,7 +9,7 @@ use Rattle.pi_tuple.specs.declared.tuple.Tuple.{Tuple}
 use Rattle.pi_tuple.specs.declared.checks.PiType.{PiType}
 use Rattle.pi_tuple.specs.declared.checks.PiType.TheVariants.{Zero, One, Two, Three}
 use Rattle.pi_tuple.specs.declared.checks.Check.{Check}
-use Rattle.target_answer.specs.Frames.{data_of, frame_of, stored_size, tuple_of}
+use Rattle.block_path.specs.Passed.{data_of, frame_of, stored_size, tuple_of}
 use Rattle.block_path.proofs.Cells.{AllBelow, below}
 use Rattle.whole_run.specs.CalmRun.{LiesInImage}
 use Rattle.whole_run.specs.PlainMap.{MapEntry, all_pass, kept_unless, no_entry}

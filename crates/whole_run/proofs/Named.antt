@@ -2,9 +2,8 @@
 use Rattle.std.proofs.Common.{ℕ, ◌≡◌, Bool, true, false, eqb, if◌then◌else◌, Option, Some, None, refl}
 use Rattle.std.proofs.lemmas.Bool.{and_parts, eqb-true}
 use Rattle.pi_tuple.specs.declared.checks.Check.{Check}
-use Rattle.sense_codes.specs.declared.Sense.{Sense}
-use Rattle.bio_core.specs.declared.fate.Why.TheVariants.{Adapter, Medium, Refused, Target}
-use Rattle.rig_api.specs.Log.{IsMediumSense}
+use Rattle.block_path.specs.Passed.{Sense}
+use Rattle.stack_ops.specs.Passed.{IsMediumSense, Adapter, Medium, Refused, Target}
 use Rattle.block_path.specs.Senses.{check_of, finding_of, is_medium, is_medium_why, why_ended, why_of}
 
 medium_or : (t : Bool) (key asc ascq : ℕ) → is_medium_why (if t then Medium else Refused key asc ascq) ≡ true → t ≡ true

@@ -11,10 +11,9 @@ use Rattle.pi_tuple.specs.declared.tuple.Tuple.{Tuple}
 use Rattle.pi_tuple.specs.declared.checks.Check.{Check}
 use Rattle.pi_tuple.specs.declared.checks.Check.TheVariants.{AppTag, Guard, RefTag}
 use Rattle.pi_tuple.proofs.TupleLaws.{tag_below}
-use Rattle.integrity_payload.specs.declared.payload.Owner.{Owner}
 use Rattle.page_pool.specs.Cells.{gather, scatter}
-use Rattle.bio_core.specs.declared.fate.Why.{Why}
-use Rattle.target_answer.specs.Frames.{data_of, frame_of, tuple_of}
+use Rattle.stack_ops.specs.Passed.{Why}
+use Rattle.block_path.specs.Passed.{data_of, frame_of, tuple_of, Owner}
 use Rattle.stack_ops.specs.declared.op.Op.{Op}
 use Rattle.stack_ops.specs.declared.op.Op.TheVariants.{Fetch, FetchPi, Fill, Overwrite, Put, Seal, Show, Wait, Write, WritePi}
 use Rattle.stack_ops.specs.declared.reply.Reply.TheVariants.{Shown}

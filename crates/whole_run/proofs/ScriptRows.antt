@@ -15,15 +15,12 @@ use Rattle.fault_schedule.specs.declared.fault.Crossing.{Crossing}
 use Rattle.fault_schedule.specs.declared.fault.Crossing.TheVariants.{AdapterToHost, AdapterToTarget, MediumToTarget, TargetToMedium}
 use Rattle.fault_schedule.specs.declared.fault.FaultKind.TheVariants.{Flip, Shift}
 use Rattle.fault_schedule.specs.declared.fault.FaultLine.{FaultLine}
-use Rattle.rig_api.specs.declared.change.Change.TheVariants.{Copy}
-use Rattle.bio_core.specs.declared.fate.Why.{Why}
-use Rattle.bio_core.specs.declared.fate.Why.TheVariants.{Adapter, App, Target}
+use Rattle.stack_ops.specs.Passed.{Copy, Why, Adapter, App, Target}
 use Rattle.stack_ops.specs.declared.op.Op.{Op}
 use Rattle.stack_ops.specs.declared.op.Op.TheVariants.{Fetch, FetchPi, Overwrite, Put, Seal, Show, Write, WritePi}
 use Rattle.stack_ops.specs.declared.reply.Reply.{Reply}
 use Rattle.stack_ops.specs.declared.reply.Reply.TheVariants.{Bad, Shown, Silent, Whole}
-use Rattle.target_answer.specs.Frames.{tuple_of}
-use Rattle.target_answer.specs.Passing.{found_in, from_medium, to_medium}
+use Rattle.block_path.specs.Passed.{tuple_of, found_in, from_medium, to_medium}
 use Rattle.volume_table.specs.declared.entry.Entry.TheVariants.{Linear}
 use Rattle.block_path.specs.Acts.{State}
 use Rattle.block_path.specs.Routes.{target}

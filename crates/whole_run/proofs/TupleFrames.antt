@@ -15,9 +15,8 @@ use Rattle.pi_tuple.specs.declared.checks.Check.{Check}
 use Rattle.pi_tuple.specs.declared.checks.Checks.{Checks}
 use Rattle.pi_tuple.proofs.TupleLaws.{read_back as slices}
 use Rattle.page_pool.specs.Cells.{gather, scatter}
-use Rattle.ref_remap.specs.Remapped.{remapped, remapped_bytes}
-use Rattle.ref_remap.proofs.Tags.{mapped-bytes}
-use Rattle.target_answer.specs.Frames.{data_of, frame_of, tuple_of}
+use Rattle.block_path.specs.Passed.{remapped, remapped_bytes, data_of, frame_of, tuple_of}
+use Rattle.block_path.proofs.Passed.{mapped-bytes}
 use Rattle.block_path.proofs.Cells.{AllBelow}
 use Rattle.small_laws.proofs.Numbers.{two_bytes}
 use Rattle.small_laws.proofs.Lists.{behind_long}

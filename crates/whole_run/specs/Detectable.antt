@@ -8,8 +8,7 @@ use Rattle.page_pool.specs.Cells.{gather}
 use Rattle.fault_schedule.specs.Altered.{altered}
 use Rattle.fault_schedule.specs.declared.fault.Crossing.{Crossing}
 use Rattle.fault_schedule.specs.declared.fault.Crossing.TheVariants.{AdapterToHost, AdapterToTarget, HostToAdapter, MediumToTarget, TargetToAdapter, TargetToMedium}
-use Rattle.target_answer.specs.Frames.{data_of, tuple_of}
-use Rattle.target_answer.specs.Passing.{found_in}
+use Rattle.block_path.specs.Passed.{data_of, tuple_of, found_in}
 use Rattle.block_path.specs.Acts.{State, act}
 use Rattle.block_path.specs.Blocks.{fetched_cell, own_frame}
 use Rattle.block_path.specs.Routes.{host_type, passage, wire_lba}

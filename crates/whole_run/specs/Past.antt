@@ -1,9 +1,8 @@
 use Rattle.std.specs.Prelude.{ℕ, suc, List, [], ◌∷◌, ◌++◌, Option, Some, None}
 use Rattle.page_pool.specs.Cells.{gather}
-use Rattle.bio_core.specs.declared.fate.Why.{Why}
-use Rattle.bio_core.specs.declared.fate.Why.TheVariants.{Adapter, App, Block as ByOwner, Medium, Refused, Short, Target}
+use Rattle.stack_ops.specs.Passed.{Why, Adapter, App, Block as ByOwner, Medium, Refused, Short, Target}
 use Rattle.stack_ops.specs.declared.op.Op.{Op}
-use Rattle.target_answer.specs.Frames.{data_of, tuple_of}
+use Rattle.block_path.specs.Passed.{data_of, tuple_of}
 use Rattle.block_path.specs.Acts.{State, act, tell}
 use Rattle.whole_run.specs.ScriptWalk.{act_of}
 use Rattle.whole_run.specs.Settings.{Block, Setting}

@@ -8,10 +8,10 @@ use Rattle.pi_tuple.specs.declared.checks.PiType.TheVariants.{Zero, One, Two, Th
 use Rattle.pi_tuple.specs.declared.checks.Check.{Check}
 use Rattle.pi_tuple.specs.declared.checks.Check.TheVariants.{AppTag, Guard, RefTag}
 use Rattle.page_pool.specs.Cells.{gather, scatter}
-use Rattle.bio_core.specs.declared.fate.Why.TheVariants.{Adapter}
+use Rattle.stack_ops.specs.Passed.{Adapter}
 use Rattle.stack_ops.specs.declared.op.Op.{Op}
 use Rattle.stack_ops.specs.declared.reply.Reply.{Reply}
-use Rattle.target_answer.specs.Frames.{data_of, frame_of, tuple_of}
+use Rattle.block_path.specs.Passed.{data_of, frame_of, tuple_of}
 use Rattle.block_path.specs.Blocks.{ActAnswer, own_tuple, silent, tuple_after}
 use Rattle.block_path.specs.Routes.{host_type}
 use Rattle.block_path.specs.Serial.{plain, plain_tells}

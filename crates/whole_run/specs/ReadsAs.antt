@@ -2,16 +2,13 @@ use Rattle.std.specs.Prelude.{ℕ, ◌≡◌, suc, Bool, true, false, eqb, if◌
 use Rattle.pi_tuple.specs.declared.checks.Check.{Check}
 use Rattle.page_pool.specs.declared.segs.Seg.{Seg}
 use Rattle.page_pool.specs.Cells.{gather}
-use Rattle.integrity_payload.specs.declared.payload.Owner.{Owner}
-use Rattle.integrity_payload.specs.declared.payload.Owner.TheVariants.{Block as OfBlock, App as OfApp}
-use Rattle.bio_core.specs.declared.fate.Why.{Why}
-use Rattle.bio_core.specs.declared.fate.Why.TheVariants.{Adapter, Target}
+use Rattle.stack_ops.specs.Passed.{Why, Adapter, Target}
 use Rattle.stack_ops.specs.declared.op.Op.{Op}
 use Rattle.stack_ops.specs.declared.op.Op.TheVariants.{Fetch, FetchPi}
 use Rattle.stack_ops.specs.declared.reply.BadBlock.{BadBlock}
 use Rattle.stack_ops.specs.declared.reply.Reply.{Reply}
 use Rattle.stack_ops.specs.declared.reply.Reply.TheVariants.{Bad, Medium, Shown, Silent, Whole}
-use Rattle.target_answer.specs.Frames.{data_of, tuple_of}
+use Rattle.block_path.specs.Passed.{data_of, tuple_of, Owner, Block as OfBlock, App as OfApp}
 use Rattle.block_path.specs.Acts.{State}
 use Rattle.block_path.specs.Blocks.{fetched_cell, own_tuple}
 use Rattle.block_path.specs.WayIn.{owner_says}

@@ -2,9 +2,7 @@ use Rattle.std.specs.Prelude.{ℕ, suc, Bool, if◌then◌else◌, List, [], ◌
 use Rattle.pi_guard.specs.Guards.{guard_of}
 use Rattle.pi_tuple.specs.Tuples.{tuple_bytes}
 use Rattle.fault_schedule.specs.Altered.{byte_at, xored_from}
-use Rattle.rig_api.specs.declared.change.Change.{Change}
-use Rattle.rig_api.specs.declared.change.Change.TheVariants.{Copy, Flip}
-use Rattle.bio_core.specs.declared.fate.Why.{Why}
+use Rattle.stack_ops.specs.Passed.{Change, Copy, Flip, Why}
 use Rattle.stack_ops.specs.declared.op.Op.{Op}
 use Rattle.stack_ops.specs.declared.op.Op.TheVariants.{Fetch, FetchPi, Fill, Overwrite, Put, Seal, Show, Wait, Write, WritePi}
 use Rattle.stack_ops.specs.declared.reply.BadBlock.{BadBlock}

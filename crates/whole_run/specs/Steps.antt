@@ -2,10 +2,8 @@ use Rattle.std.specs.Prelude.{ℕ, zero, suc, ◌+◌, ◌*◌, ◌%◌, ◌^◌
 use Rattle.page_pool.specs.declared.segs.Seg.{Seg}
 use Rattle.page_pool.specs.Cells.{cell}
 use Rattle.page_pool.specs.Places.{range_of}
-use Rattle.integrity_payload.specs.declared.payload.Owner.{Owner}
-use Rattle.integrity_payload.specs.declared.payload.Owner.TheVariants.{Block as OfBlock, App as OfApp}
-use Rattle.range_gate.specs.Cells.{cells_of}
-use Rattle.rig_api.specs.declared.change.Change.{Change}
+use Rattle.block_path.specs.Passed.{Owner, Block as OfBlock, App as OfApp}
+use Rattle.stack_ops.specs.Passed.{Change, cells_of}
 use Rattle.stack_ops.specs.declared.op.Op.{Op}
 use Rattle.stack_ops.specs.declared.op.Op.TheVariants.{Fetch, FetchPi, Fill, Overwrite, Put, Seal, Show, Wait, Write, WritePi}
 use Rattle.stack_ops.specs.Footprints.{put_seg}

@@ -3,7 +3,7 @@ use Rattle.pi_guard.specs.Guards.{crc}
 use Rattle.pi_tuple.specs.Finds.{has_ref_tag, is_escaped, is_zero}
 use Rattle.pi_tuple.specs.Tuples.{ref_tag}
 use Rattle.stack_ops.specs.declared.op.Op.{Op}
-use Rattle.target_answer.specs.Frames.{data_of, frame_of, tuple_of}
+use Rattle.block_path.specs.Passed.{data_of, frame_of, tuple_of}
 use Rattle.volume_table.specs.Places.{place_in, volume_len}
 use Rattle.page_pool.specs.Cells.{gather}
 use Rattle.block_path.specs.Acts.{State, act}

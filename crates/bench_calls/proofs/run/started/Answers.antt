@@ -1,5 +1,5 @@
 use Rattle.std.proofs.Common.{◌≡◌, true, false, ◌∙◌, sym, arith}
-use Rattle.script_ground.proofs.Suits.{suits}
+use Rattle.script_stack.proofs.Passed.{suits}
 use Rattle.bench_calls.proofs.run.started.Goals as goal
 
 pub start_script-requires : goal.start_script-requires

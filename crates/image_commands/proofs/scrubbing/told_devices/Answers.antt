@@ -3,7 +3,7 @@ use Rattle.std.specs.Prelude.{is_some}
 use Rattle.std.proofs.lemmas.Result.{err_from_is_err_and}
 use Rattle.rig_api.specs.Telling.{Standing}
 use Rattle.rig_api.specs.State.{RigState}
-use Rattle.answered_record.proofs.Going.{answers_from}
+use Rattle.rig_discovery.proofs.Passed.{answers_from}
 use Rattle.image_commands.proofs.Devices.{devices_are, few_units, silent}
 use Rattle.image_commands.proofs.Bytes.{image_kept, some_unit}
 use Rattle.image_commands.proofs.scrubbing.told_devices.Goals as goal

@@ -1,5 +1,5 @@
 use Rattle.std.proofs.Common.{◌≡◌, List, [], is_some}
-use Rattle.leg_runs.specs.LegRuns.{LegRun}
+use Rattle.mirror_volume.specs.Passed.{LegRun}
 use Rattle.mirror_volume.specs.Running.{CanGoOn}
 use Rattle.mirror_command.specs.Stages.{Served, stage_of}
 use Rattle.mirror_command.proofs.serving.do_ops.Given as goal

@@ -1,6 +1,6 @@
 use Rattle.std.proofs.Common.{◌≡◌, ◌*◌, ap, drop, rules, subst, sym, take, ◌∙◌, arith}
 use Rattle.page_pool.specs.Cells.{flat}
-use Rattle.script_ground.specs.SuitsStack.{SuitsStack}
+use Rattle.script_stack.specs.Passed.{SuitsStack}
 use Rattle.script_text.specs.Bindings.{binding_fault}
 use Rattle.script_text.specs.declared.script.Script.{Script}
 use Rattle.script_stack.specs.Causes.{table_of}

@@ -1,5 +1,5 @@
 use Rattle.std.proofs.Common.{◌≡◌, ap, rules, subst, sym, ◌∙◌, arith}
-use Rattle.script_ground.specs.SuitsStack.{SuitsStack}
+use Rattle.script_stack.specs.Passed.{SuitsStack}
 use Rattle.script_text.specs.Bindings.{binding_fault}
 use Rattle.script_text.specs.declared.script.Script.{Script}
 use Rattle.script_stack.specs.Causes.{table_of}

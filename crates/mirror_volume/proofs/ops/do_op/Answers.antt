@@ -6,7 +6,7 @@ use Rattle.stack_ops.specs.Footprints.{put_seg}
 use Rattle.stack_ops.specs.declared.op.Op.{Op}
 use Rattle.stack_ops.specs.declared.op.Op.TheVariants.{Fetch, Fill, Overwrite, Put, Show, Write}
 use Rattle.script_stack.specs.Causes.{table_of}
-use Rattle.mirror_script.specs.MirrorFaults.{op_fault}
+use Rattle.mirror_legs.specs.Passed.{op_fault}
 use Rattle.leg_runs.specs.OnOps.{DidOp, RanOp, Sides}
 use Rattle.leg_runs.specs.Standing.{op_at}
 use Rattle.leg_runs.proofs.Ends.{did-fill, did-idle, did-overwrite, did-put, did-show, op-is}

@@ -3,7 +3,7 @@ use Rattle.std.specs.Prelude.{is_some, map}
 use Rattle.rig_api.specs.Log.{HasRoom}
 use Rattle.rig_api.specs.Telling.{greatest_size, specs_of}
 use Rattle.rig_api.specs.State.{Stays}
-use Rattle.target_answer.specs.Target.{Stored}
+use Rattle.rig_api.specs.Passed.{Stored}
 use Rattle.answered_record.specs.Answered.{Answers}
 use Rattle.rig_discovery.specs.Discovery.{Ends, Spent, info_of}
 use Rattle.rig_discovery.proofs.Steps.{SoFar}

@@ -4,7 +4,7 @@ use Rattle.std.proofs.lemmas.Result.{err_from_is_err_and}
 use Rattle.rig_api.specs.State.{RigState}
 use Rattle.run_command.proofs.Completing.{stops_from_outside}
 use Rattle.run_command.proofs.Devices.{has_device, known_infos}
-use Rattle.script_ground.proofs.Suits.{suits}
+use Rattle.script_stack.proofs.Passed.{suits}
 use Rattle.script_stack.specs.Sends.{SendsBy, entries_of}
 use Rattle.script_stack.proofs.Following.{sizes-found}
 use Rattle.run_command.proofs.Refusing.{asked_still}

@@ -1,10 +1,7 @@
 use Rattle.std.proofs.Common.{◌*◌, drop, map, refl, subst, sym, true}
-use Rattle.block_path.specs.Moves.{hidden}
-use Rattle.run_laws.specs.BoundRun.{IsBoundRun}
-use Rattle.run_laws.specs.ToldRun.{told}
+use Rattle.dix_adapter.specs.Passed.{hidden}
+use Rattle.script_ground.specs.Passed.{IsBoundRun, told, Backed, recorded}
 use Rattle.script_ground.proofs.Units.{over-units}
-use Rattle.run_laws.specs.BackedRun.{Backed}
-use Rattle.run_laws.specs.Records.{recorded}
 use Rattle.script_stack.specs.Followed.{begun_of, failed_in, setting_of, unit_of}
 use Rattle.script_stack.proofs.Runs.{has-cells, has-room, hides}
 use Rattle.script_stack.proofs.laws.a_script_run_is_backed.Goals as goal

@@ -1,11 +1,8 @@
 use Rattle.std.proofs.Common.{◌≡◌, ◌*◌, ℕ, true, eqb, List, [], length, get_or, drop, refl, ap, subst, sym, take, ◌∙◌}
 use Rattle.page_pool.specs.Cells.{flat}
 use Rattle.dix_adapter.specs.Ways.{blocks_told, shapes_of}
-use Rattle.run_laws.specs.BoundRun.{IsBoundRun}
-use Rattle.run_laws.specs.Suited.{keeps_size}
-use Rattle.run_laws.specs.Records.{recorded}
-use Rattle.run_follows.specs.Takes.{AllTakeAny}
-use Rattle.run_follows.specs.Flips.{with_flips}
+use Rattle.script_ground.specs.Passed.{IsBoundRun, keeps_size, recorded}
+use Rattle.stack_core.specs.Passed.{AllTakeAny, with_flips}
 use Rattle.stack_core.specs.Walking.{EndsFallen}
 use Rattle.script_ground.proofs.Units.{over-units}
 use Rattle.script_stack.specs.Followed.{begun_of, failed_in, opening_of, setting_of}

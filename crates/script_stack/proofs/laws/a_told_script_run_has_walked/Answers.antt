@@ -1,9 +1,7 @@
 use Rattle.std.proofs.Common.{◌*◌, ap, drop, refl, subst, sym, ◌∙◌}
 use Rattle.dix_adapter.specs.Ways.{blocks_told, shapes_of}
-use Rattle.whole_run.specs.ScriptWalk.{script_replies, script_walk}
-use Rattle.run_laws.specs.BoundRun.{IsBoundRun}
-use Rattle.run_laws.specs.Suited.{keeps_size}
-use Rattle.run_laws.specs.CarriedRun.{Carried}
+use Rattle.stack_core.specs.Passed.{script_replies, script_walk}
+use Rattle.script_ground.specs.Passed.{IsBoundRun, keeps_size, Carried}
 use Rattle.script_ground.proofs.Units.{over-units}
 use Rattle.stack_core.specs.Walking.{EndsTold}
 use Rattle.stack_core.proofs.NoMedium.{none_failed}

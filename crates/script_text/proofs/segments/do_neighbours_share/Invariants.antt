@@ -1,5 +1,5 @@
 use Rattle.std.proofs.Common.{◌≡◌, length}
-use Rattle.range_gate.specs.Prints.{Rises}
+use Rattle.stack_ops.specs.Passed.{Rises}
 use Rattle.script_text.specs.Segments.{any_share}
 use Rattle.script_text.proofs.segments.do_neighbours_share.Given as goal
 

@@ -1,8 +1,8 @@
 use Rattle.std.proofs.Common.{rules, sym, subst}
 use Rattle.std.specs.List.{All}
 use Rattle.std.proofs.lemmas.List.Sorted.{All-permutation, IsNonDecreasingBy-from_sort_by_key}
-use Rattle.range_gate.specs.Prints.{IsSound, begins}
-use Rattle.range_gate.proofs.Rising.{rises}
+use Rattle.stack_ops.specs.Passed.{IsSound, begins}
+use Rattle.stack_ops.proofs.Passed.{rises}
 use Rattle.script_text.proofs.segments.sorted.Goals as goal
 
 pub returns-clause-rises : goal.returns-clause-rises

@@ -8,7 +8,7 @@ use Rattle.pi_tuple.specs.Finds.{is_zero}
 use Rattle.bio_core.specs.Bios.{block_size}
 use Rattle.cdb_codec.specs.Forms.{form}
 use Rattle.cdb_codec.specs.declared.choice.Dir2.TheVariants.{In}
-use Rattle.target_answer.specs.Frames.{frames_of}
+use Rattle.rig_api.specs.Passed.{frames_of}
 use Rattle.dix_adapter.specs.Carried.{command_for, command_of, fates_in, frame_len, frames_came, landed, way_of}
 use Rattle.dix_adapter.specs.Groups.{block_len, IsBio, blocks_in, first_of, label_of, no_bio, no_request, request_of, size}
 use Rattle.dix_adapter.specs.Outcomes.{done_of, rest_of}

@@ -3,7 +3,7 @@ use Rattle.std.proofs.lemmas.List.{length-drop}
 use Rattle.bio_core.specs.Bios.{block_size}
 use Rattle.block_path.specs.Routes.{host_size, wire_size}
 use Rattle.block_path.specs.WayOut.{to_wire}
-use Rattle.target_answer.specs.Passing.{unless}
+use Rattle.rig_api.specs.Passed.{unless}
 use Rattle.dix_adapter.specs.Groups.{route_by}
 use Rattle.dix_adapter.proofs.Frames.{host-frame}
 use Rattle.dix_adapter.proofs.adapter.Adapter.gather_block.Goals as goal

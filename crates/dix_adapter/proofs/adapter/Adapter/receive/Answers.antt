@@ -1,6 +1,6 @@
 use Rattle.std.proofs.Common.{◌≡◌, ◌+◌, ◌++◌, take, ap, sym, ◌∙◌, arith}
 use Rattle.page_pool.specs.Cells.{flat}
-use Rattle.target_answer.specs.Passing.{unless}
+use Rattle.rig_api.specs.Passed.{unless}
 use Rattle.block_path.specs.Routes.{host_size, wire_size}
 use Rattle.block_path.specs.WayIn.{from_wire}
 use Rattle.block_path.specs.declared.route.Route.{Route}

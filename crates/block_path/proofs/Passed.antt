@@ -1,0 +1,3 @@
+-- Lemmas of the crates below, for the crates above that stand on this one alone.
+pub use Rattle.ref_remap.proofs.Tags.{mapped-bytes}
+pub use Rattle.target_answer.proofs.FrameLaws.{frames_length, stored_least}

@@ -1,0 +1,3 @@
+-- Lemmas of the crates below, for the crates above that stand on this one alone.
+pub use Rattle.run_laws.proofs.Behind.{all_below}
+pub use Rattle.run_laws.proofs.Passed.{Small, data_is, tuple_below, tuple_is}
