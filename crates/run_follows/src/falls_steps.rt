@@ -65,7 +65,7 @@ pub fn an_op_is_done_whole_where_calls_fail()
 pub fn a_write_is_held_back_where_calls_fail()
     ensures { (m : Setting) (n : ℕ) (ops : List AnyOp) (a : AnyAdapter) (ios : List AnyIo) (req : List AnyBio) (pool pool' : List (List ℕ)) (fates : List AnyFate) (opening : State)
         (status : ℕ → ℕ → Status)
-        (blocks : List (List ℕ)) (es : List Sent) (spots : List Spot)
+        (blocks : List (List ℕ)) (es : List Sent) (spots : List BlockSpot)
         → IsCarriedGroup a pool m.size ios req → (first_of req).dir ≡ Write → m.site.faults ≡ a.tamper → Unsent a ios req pool pool' fates
         → AllGoing m n ops a ios (length opening.logs) status (blocks_in req) spots → FollowsFalling m n ops opening status (flat pool) blocks es
         → FollowsFalling m n ops opening (with_fates (blocks_in req) fates status) (flat pool) blocks es }
