@@ -46,7 +46,7 @@ once-tuples pool io None e h = tt
 once-tuples pool io (Some pi) e h = (h.tuples pi e).once
 
 -- a request with blocks, as the adapter wants it
-fits-adapter : (a : Adapter) (pool : List (List ℕ)) (bytes : ℕ) (ios : List Io) (i : ℕ) → AreUniform a.dix bytes ios → AreAllWhole pool ios → HaveNumbers ios → i < length ios → 0 < (io_at ios i).count → Carry.IsRequest a pool bytes (io_at ios i)
+fits-adapter : (a : Adapter) (pool : List (List ℕ)) (bytes : ℕ) (ios : List Io) (i : ℕ) → AreUniform a.dix bytes ios → AreAllWhole pool ios → HaveNumbers ios → i < length ios → 0 < (io_at ios i).count → Carry.IsCarriedRequest a pool bytes (io_at ios i)
 fits-adapter a pool bytes ios i u w n l h = record {
   size = u.size i h;
   walks = record { some = h; lies = (w i l).lies; tuples = walks-tuples pool (io_at ios i) (io_at ios i).pi refl (w i l) };
@@ -92,7 +92,7 @@ each-bio ops shifted ios table limits devices d a pool bytes dev dir (b ∷ bs) 
 
 -- the group, as the adapter wants it
 pub carried-group : (ops : List Op) (shifted : List Bool) (ios : List Io) (table : Table) (limits : Limits) (devices d : ℕ) (a : Adapter) (pool : List (List ℕ)) (bytes : ℕ) (g : List Bio) →
-    Fine (plan_of ops shifted ios table limits devices) → AreUniform a.dix bytes ios → AreAllWhole pool ios → HaveNumbers ios → HasBlocks g → IsGroup (plan_of ops shifted ios table limits devices) d g → Carry.IsGroup a pool bytes ios g
+    Fine (plan_of ops shifted ios table limits devices) → AreUniform a.dix bytes ios → AreAllWhole pool ios → HaveNumbers ios → HasBlocks g → IsGroup (plan_of ops shifted ios table limits devices) d g → Carry.IsCarriedGroup a pool bytes ios g
 carried-group ops shifted ios table limits devices d a pool bytes [] f u w n h i = absurd (omega arith)
 carried-group ops shifted ios table limits devices d a pool bytes (b ∷ bs) f u w n h i =
     let p = plan_of ops shifted ios table limits devices in

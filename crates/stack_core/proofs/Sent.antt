@@ -61,7 +61,7 @@ pub holds-all : (ios : List Io) (bytes most : ℕ) (s : Scratch) → ((i : ℕ) 
 holds-all ios bytes most s small h = λ i z. holds-fewer bytes (block_size (io_at ios i)) most most s (small i z) (omega arith) h
 
 -- room for the blocks of each request is room for those of a group
-pub holds-group : (a : Adapter) (pool : List (List ℕ)) (bytes : ℕ) (ios : List Io) (req : List Bio) (most : ℕ) (s : Scratch) → Carry.IsGroup a pool bytes ios req → Carry.size req ≤ most → HoldsEach ios most s →
+pub holds-group : (a : Adapter) (pool : List (List ℕ)) (bytes : ℕ) (ios : List Io) (req : List Bio) (most : ℕ) (s : Scratch) → Carry.IsCarriedGroup a pool bytes ios req → Carry.size req ≤ most → HoldsEach ios most s →
     HoldsBlocks (Carry.block_len ios req) (Carry.size req) s
 holds-group a pool bytes ios req most s g l h =
     let k = All-get_or (Carry.IsBio a pool bytes ios (Carry.first_of req).dev (Carry.first_of req).dir) req 0 Carry.no_bio (let x = g.some in omega arith) g.bios in
@@ -106,7 +106,7 @@ head-device p d (b ∷ bs) h i = (All-head (Named p d) b bs i.named).on
 -- what is known of the group that is sent: all that the adapter asks of it, and where it comes from
 pub record IsSentGroup (s : Stack) (d i : ℕ) (group : List Bio) (st : Standing) (room : Room) : Type 0 where
   pub bytes : ℕ
-  pub fits : Carry.IsGroup s.adapter s.pool bytes s.sheet.ios.items group
+  pub fits : Carry.IsCarriedGroup s.adapter s.pool bytes s.sheet.ios.items group
   pub most : Carry.size group ≤ s.sheet.limits.max_blocks
   pub some : HasBlocks group
   pub of_plan : IsGroup (plan_in s.sheet) d group

@@ -157,8 +157,8 @@ module _ {course : Course} (over : Setting) (n : ℕ) (opening : State) (es : Li
     bytes_are : k.fixed.bytes ≡ over.size
     bytes_are = sym (k.fixed.uniform.size ((first_of (group_at view d i)).op - 1) head_there) ∙ o.size ((first_of (group_at view d i)).op - 1) head_there
 
-    pub fits : Carry.IsGroup s.adapter s.pool over.size s.sheet.ios.items (group_at view d i)
-    fits = subst (λ bytes. Carry.IsGroup s.adapter s.pool bytes s.sheet.ios.items (group_at view d i)) bytes_are
+    pub fits : Carry.IsCarriedGroup s.adapter s.pool over.size s.sheet.ios.items (group_at view d i)
+    fits = subst (λ bytes. Carry.IsCarriedGroup s.adapter s.pool bytes s.sheet.ios.items (group_at view d i)) bytes_are
         (carried-group s.sheet.ops s.sheet.shifted.items s.sheet.ios.items s.sheet.table s.sheet.limits s.sheet.devices d s.adapter s.pool k.fixed.bytes (group_at view d i) s.sheet.right.fine k.fixed.uniform k.whole s.sheet.right.numbers some named)
 
     -- its device is one of the stack's

@@ -83,7 +83,7 @@ module _ (m : Setting) (n : ℕ) (opening : State) (first : ℕ) (s : Stack) (st
         (named device n opening records w.left s k over_record w.walks s' d i group fates between stays ch takes flies settles same)
         (once device n opening records w.left s k over_record w.walks s' d i group fates between stays ch takes flies settles same)
 
-    fit : Carry.IsGroup s.adapter s.pool m.size s.sheet.ios.items (group_at view d i)
+    fit : Carry.IsCarriedGroup s.adapter s.pool m.size s.sheet.ios.items (group_at view d i)
     fit = fits device n opening records w.left s k over_record w.walks s' d i group fates between stays ch takes flies settles same
 
     head : 0 < (Carry.request_of s.sheet.ios.items (first_of (group_at view d i)).op).count

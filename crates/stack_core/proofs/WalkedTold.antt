@@ -146,7 +146,7 @@ module _ {course : Course} (m : Setting) (n : â„•) (opening : State) (first : â„
     here : i < length (queue_at view d)
     here = place m n opening records told_blocks s k w.over w.walks s' d i group fates between stays ch takes flies settles same
 
-    fit : Carry.IsGroup s.adapter s.pool m.size ios g
+    fit : Carry.IsCarriedGroup s.adapter s.pool m.size ios g
     fit = fits m n opening records told_blocks s k w.over w.walks s' d i group fates between stays ch takes flies settles same
 
     has_some : HasBlocks g

@@ -24,13 +24,13 @@ use Rattle.stack_core.specs.Mediums.{RoseBy, medium_replies}
 use Rattle.stack_core.proofs.StackCounts.{set_rises}
 use Rattle.stack_core.proofs.stack.Stack.admit.Goals as goal
 
-pub io-requires : goal.io-requires
-io-requires g c =
+pub request-requires : goal.request-requires
+request-requires g c =
     let s = c.args.self.now.sheet in
     op-enters s.ops s.shifted.items s.ios.items s.table s.limits s.devices c.args.self.now.machine c.args.q c.admit-op.result s.right.fine c.requires.ready c.admit-op.ensures.op
 
-pub io-requires-then-io-gt0 : goal.io-requires-then-io-gt0
-io-requires-then-io-gt0 g c =
+pub request-requires-then-request-gt0 : goal.request-requires-then-request-gt0
+request-requires-then-request-gt0 g c =
     let s = c.args.self.now.sheet in
     op-enters s.ops s.shifted.items s.ios.items s.table s.limits s.devices c.args.self.now.machine c.args.q c.admit-op.result s.right.fine c.requires.ready c.admit-op.ensures.op
 
@@ -43,7 +43,7 @@ pub make_tuples-requires-clause-some : goal.make_tuples-requires-clause-some
 make_tuples-requires-clause-some g c =
     let e = c.request.ensures in
     let f = c.request-then-request-gt0.ensures in
-    rw f (rw e at c.if-io-gt0.true)
+    rw f (rw e at c.if-request-gt0.true)
 
 pub take_room-room-requires : goal.take_room-room-requires
 take_room-room-requires g c =
@@ -66,8 +66,8 @@ set_reply-requires g c =
     let n = c.requires.stands.stack.replies in
     omega arith
 
-pub returns-then-io-gt0-clause-stack : goal.returns-then-io-gt0-clause-stack
-returns-then-io-gt0-clause-stack g c = is-stack c.args.self.now _ c.requires.stands.stack (record {
+pub returns-then-request-gt0-clause-stack : goal.returns-then-request-gt0-clause-stack
+returns-then-request-gt0-clause-stack g c = is-stack c.args.self.now _ c.requires.stands.stack (record {
   sheet = refl;
   adapter = refl;
   works = works (plan_in c.args.self.now.sheet) c.args.self.now.machine c.admit-op.new.self (Admit c.args.q) 0 c.requires.ready (c.admit-op.ensures.step 0);
@@ -96,10 +96,10 @@ returns-clause-stack g c =
       scratch = c.requires.stands.stack.lists.scratch_room;
     })
 
-pub returns-then-io-gt0-clause-walks : goal.returns-then-io-gt0-clause-walks
-returns-then-io-gt0-clause-walks g c = λ ch.
+pub returns-then-request-gt0-clause-walks : goal.returns-then-request-gt0-clause-walks
+returns-then-request-gt0-clause-walks g c = λ ch.
     (let s = c.args.self.now in
-    let some = subst (λ (io : Io). 0 < io.count) c.request.ensures c.if-io-gt0.true in
+    let some = subst (λ (io : Io). 0 < io.count) c.request.ensures c.if-request-gt0.true in
     let made = subst (λ (io : Io). WriteMade io.dir io.pi s.adapter.kind s.host io.body s.pool c.make_tuples.new.pool) c.request-then-request-gt0.ensures c.make_tuples.ensures.made in
     record {
       op = Wait;
@@ -117,7 +117,7 @@ returns-clause-walks g c = λ ch.
     let i = c.admit-op.result in
     let d = data_of s in
     let none = ap (λ (io : Io). io.count) (sym c.request.ensures) in
-    let empty : (io_at s.sheet.ios.items i).count ≡ 0 = omega (arith, none, c.if-io-gt0.false) in
+    let empty : (io_at s.sheet.ios.items i).count ≡ 0 = omega (arith, none, c.if-request-gt0.false) in
     let done = subst (λ op. OpDone op s.adapter.kind c.take_room-room.result s.pool c.do_op-done.new.pool c.do_op-done.result) c.op.ensures c.do_op-done.ensures.done in
     let done' = subst (λ room. OpDone (op_in s.sheet.ops i) s.adapter.kind room s.pool c.do_op-done.new.pool c.do_op-done.result) c.take_room-room.ensures.room done in
     let li = op-enters s.sheet.ops s.sheet.shifted.items s.sheet.ios.items s.sheet.table s.sheet.limits s.sheet.devices s.machine c.args.q i s.sheet.right.fine c.requires.ready c.admit-op.ensures.op in
@@ -145,8 +145,8 @@ returns-clause-walks g c = λ ch.
       tells = λ us e known. c.do_op-done.ensures.left us e (subst (λ op. IsKnown op c.do_op-done.result) (sym c.op.ensures) known) ∙ ap (λ op. Some (units_left op us)) c.op.ensures;
     })
 
-pub returns-then-io-gt0-clause-fails : goal.returns-then-io-gt0-clause-fails
-returns-then-io-gt0-clause-fails g c = record { silent = λ calm h. h; counts = λ n first h. h }
+pub returns-then-request-gt0-clause-fails : goal.returns-then-request-gt0-clause-fails
+returns-then-request-gt0-clause-fails g c = record { silent = λ calm h. h; counts = λ n first h. h }
 
 pub returns-clause-fails : goal.returns-clause-fails
 returns-clause-fails g c =
@@ -160,8 +160,8 @@ returns-clause-fails g c =
           (set_rises replies c.admit-op.result c.do_op-done.result o.faults o'.faults c.do_op-done.ensures.stays.count (λ calm e. false≢true (sym (c.do_op-done.ensures.silent calm) ∙ ap is_medium e)) n first h);
     }
 
-pub returns-then-io-gt0-clause-rig : goal.returns-then-io-gt0-clause-rig
-returns-then-io-gt0-clause-rig g c =
+pub returns-then-request-gt0-clause-rig : goal.returns-then-request-gt0-clause-rig
+returns-then-request-gt0-clause-rig g c =
     let rig = g.R.Rig.state c.args.rig.now in
     record {
       stays = record { tells = refl; standing = refl; armed = refl; count = omega arith };

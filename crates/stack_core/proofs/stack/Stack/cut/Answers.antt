@@ -9,8 +9,8 @@ use Rattle.stack_core.specs.Done.{WriteMapped}
 use Rattle.stack_core.proofs.Walked.{walk_cuts}
 use Rattle.stack_core.proofs.stack.Stack.cut.Goals as goal
 
-pub io-requires : goal.io-requires
-io-requires c =
+pub request-requires : goal.request-requires
+request-requires c =
     let s = c.args.self.now.sheet in
     let k = piece-is s.ops s.shifted.items s.ios.items s.table s.limits s.devices c.args.self.now.machine c.args.q c.args.size c.cut-bio.result s.right.fine c.requires.ready c.cut-bio.ensures.piece in
     let n = k.numbered in

@@ -24,8 +24,8 @@ take_room-room-requires c =
     let n = c.requires.stack.rooms.count in
     omega arith
 
-pub io-requires : goal.io-requires
-io-requires c =
+pub request-requires : goal.request-requires
+request-requires c =
     let s = c.args.self.now.sheet in
     op-ends s.ops s.shifted.items s.ios.items s.table s.limits s.devices c.args.self.now.machine c.args.q c.end-op.result s.right.fine c.requires.ready c.end-op.ensures.op
 
