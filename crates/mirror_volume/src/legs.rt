@@ -125,28 +125,6 @@ fn copy_out(alloc: Global, pool: &PagePool, page: u32, into: &mut [u8]) -> Resul
     Ok(())
 }
 
-/// Copies data out of the first pages, and tuples out of those from page `behind` on.
-fn copy_both(
-    alloc: Global,
-    pool: &PagePool,
-    behind: u32,
-    bytes: &mut [u8],
-    tuples: &mut [u8],
-) -> Result<(), AllocError>
-    requires some { 1 ≤ length bytes.old }
-    requires few { length bytes.old < 2 ^ 32 }
-    requires lie { AllLieIn pool.now (page_segs 0 (pages_for (length bytes.old)) (length bytes.old)) }
-    requires tuples_some { 1 ≤ length tuples.old }
-    requires tuples_few { behind + length tuples.old < 2 ^ 32 }
-    requires tuples_lie { AllLieIn pool.now (page_segs behind (pages_for (length tuples.old)) (length tuples.old)) }
-    ensures copied { OnOk result ((bytes.new ≡ take (length bytes.old) (flat pool.now)) × (tuples.new ≡ take (length tuples.old) (drop (PAGE * behind) (flat pool.now)))) }
-    ensures long { length bytes.new ≡ length bytes.old }
-    ensures tuples_long { length tuples.new ≡ length tuples.old }
-{
-    copy_out(alloc, pool, 0, bytes)?;
-    copy_out(alloc, pool, behind, tuples)
-}
-
 /// Reads the blocks of the piece: their data, with zeros where one isn't delivered, and notes what was found of each.
 pub(crate) fn read_piece<R: Rig>(
     alloc: Global,
@@ -205,6 +183,7 @@ pub(crate) fn read_pi_piece<R: Rig>(
     let own = read_pi_script(alloc, &plan.script, plan.half, piece)?;
     let stack = run_own(alloc, plan, own, used, rig)?;
     found_last(stack.replies(), found);
+    copy_out(alloc, stack.pool(), 0, bytes)?;
     let behind = pages_for(piece.n * plan.script.block);
-    copy_both(alloc, stack.pool(), behind, bytes, tuples)
+    copy_out(alloc, stack.pool(), behind, tuples)
 }
