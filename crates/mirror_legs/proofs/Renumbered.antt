@@ -15,12 +15,16 @@ use Rattle.fault_schedule.specs.declared.fault.FaultKind.TheVariants.{Flip, Shif
 use Rattle.fault_schedule.specs.declared.fault.FaultLine.{FaultLine}
 use Rattle.integrity_payload.specs.declared.payload.Owner.{Owner}
 use Rattle.bio_core.specs.declared.fate.Why.{Why}
+use Rattle.bio_core.specs.declared.request.Dir.TheVariants.{Read, Write}
 use Rattle.target_answer.specs.Passing.{accepted, found_in, from_medium, released, then_crossed, to_medium, unless}
 use Rattle.block_path.specs.declared.mode.Mode.{Mode}
+use Rattle.block_path.specs.declared.operation.Operation.{Operation}
+use Rattle.block_path.specs.declared.operation.Operation.TheVariants.{Normal, ReadInsert, ReadPass, ReadStrip, WriteInsert, WritePass, WriteStrip}
 use Rattle.block_path.specs.declared.route.Route.{Route}
+use Rattle.block_path.specs.Operations.{handed_on, operation_of}
 use Rattle.block_path.specs.Routes.{by_target, medium_lba, moved, passage, target, wire_lba}
 use Rattle.block_path.specs.WayIn.{Delivers, Spoils, Stops, WayIn, adapter_finds_in, at_host, from_device, from_wire, received, verified, way_in}
-use Rattle.block_path.specs.WayOut.{at_device, checked_out, from_adapter, mapped_out, to_wire, way_out}
+use Rattle.block_path.specs.WayOut.{adapter_finds_out, at_device, checked_out, from_adapter, mapped_out, to_wire, way_out}
 use Rattle.script_text.specs.Bindings.{is_shift}
 use Rattle.script_stack.specs.Passed.{Each}
 use Rattle.mirror_legs.specs.declared.piece.Piece.{Piece}
@@ -150,15 +154,30 @@ module _ (F G : List FaultLine) (l q : Label) (virt dev lba : ℕ) (ty : PiType)
   behind_same (Ok carried) = ap (at_device carried) (stores_same carried)
   behind_same (Err check) = refl
 
+  handed_same : (o : Operation) (x : List ℕ) → handed_on o r x ≡ handed_on o w x
+  handed_same Normal x = refl
+  handed_same WriteInsert x = refl
+  handed_same ReadStrip x = refl
+  handed_same WriteStrip x = refl
+  handed_same ReadInsert x = refl
+  handed_same WritePass x = refl
+  handed_same ReadPass x = refl
+
+  checked_same : (x : List ℕ) → checked_out r x ≡ checked_out w x
+  checked_same x = ap (unless (adapter_finds_out r x)) (handed_same (operation_of r Write) x)
+
   pub out_same : (frame : List ℕ) → way_out F (target F) r frame ≡ way_out G (target G) w frame
   unfolding to_wire
   out_same frame =
       ap (λ x. from_adapter (target F) r (checked_out r x)) (same HostToAdapter (mapped_out r frame))
-      ∙ behind_same (checked_out r (altered G HostToAdapter q (mapped_out r frame)))
+      ∙ ap (from_adapter (target F) r) (checked_same (altered G HostToAdapter q (mapped_out r frame)))
+      ∙ behind_same (checked_out w (altered G HostToAdapter q (mapped_out r frame)))
 
   host_same : (x : List ℕ) → from_wire F r x ≡ from_wire G w x
   unfolding from_wire
-  host_same x = then_same AdapterToHost (unless (adapter_finds_in r x) (received r x))
+  host_same x =
+      then_same AdapterToHost (unless (adapter_finds_in r x) (received r x))
+      ∙ ap (λ f. then_crossed G (Some q) AdapterToHost (unless (adapter_finds_in r x) f)) (handed_same (operation_of r Read) x)
 
   device_same : (came : Result (List ℕ) Why) → from_device F r came ≡ from_device G w came
   device_same (Ok carried) = ap (at_host carried) (host_same carried)
