@@ -12,7 +12,7 @@ returns-in_default-clause-swept g c = (inr (c.requires.base.own, tt), refl, refl
 
 pub write_sweep-ended-requires-clause-sites : goal.write_sweep-ended-requires-clause-sites
 write_sweep-ended-requires-clause-sites g c =
-    c.deref.ensures.value ∙ c.in-Ok-sites_of.ensures ∙ ap (sites_from 1) c.as_slice.ensures
+    c.deref.ensures.value ∙ c.in-Ok.ensures ∙ ap (sites_from 1) c.as_slice.ensures
 
 pub returns-in-Ok-flush-clause-swept : goal.returns-in-Ok-flush-clause-swept
 returns-in-Ok-flush-clause-swept g c =
@@ -25,4 +25,4 @@ pub returns-clause-swept : goal.returns-clause-swept
 returns-clause-swept g c =
     let e = c.write_sweep-ended.ensures in
     fails c.write_sweep-ended.result (swept_in c.args.base.now) _ _ _ _ _ _
-    (record { free = c.requires.base.own; counts = e.counts; whole = e.whole; part = e.part; cause = e.cause; count = e.count }) c.in-Err-flush.ensures.cause c.flush.ensures.same
+    (record { free = c.requires.base.own; counts = e.counts; whole = e.whole; part = e.part; cause = e.cause; count = e.count }) c.in-Err.ensures.cause c.flush.ensures.same

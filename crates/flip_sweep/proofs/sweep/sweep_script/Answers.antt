@@ -5,5 +5,5 @@ use Rattle.flip_sweep.proofs.sweep.sweep_script.Goals as goal
 pub returns-in-Err-clause-swept : goal.returns-in-Err-clause-swept
 returns-in-Err-clause-swept g c = (c.in-Err.ensures.cause, refl, refl)
 
-pub returns-in-Ok-clause-swept : goal.returns-in-Ok-clause-swept
-returns-in-Ok-clause-swept g c = subst (λ (w : Sweep). SweepEnds c.sweep_ground.result w _ _ _ _) c.in-Ok.ensures.swept c.sweep_ground.ensures.swept
+pub returns-clause-swept : goal.returns-clause-swept
+returns-clause-swept g c = subst (λ (w : Sweep). SweepEnds c.sweep_ground.result w _ _ _ _) c.in-Ok.ensures.swept c.sweep_ground.ensures.swept
