@@ -50,7 +50,7 @@ fn input_in(alloc: Global, lines: &[String]) -> Result<MemSource, AllocError> {
 }
 
 /// What a call came to that ended with this status: what the sink took, and what the rig has on record.
-fn came<R: Rig>(alloc: Global, status: u8, sink: &MemSink, rig: &R) -> Result<Came, AllocError> {
+fn ended<R: Rig>(alloc: Global, status: u8, sink: &MemSink, rig: &R) -> Result<Came, AllocError> {
     let text = Vec::from_slice(alloc, sink.bytes())?;
     let records = records_of(alloc, rig)?;
     Ok(Came {
@@ -71,5 +71,5 @@ pub(crate) fn came_over<R: Rig>(
     let mut source = input_in(alloc, lines)?;
     let mut sink = sink_in(alloc, lines)?;
     let status = exit(alloc, &words, &mut source, rig, &mut sink);
-    came(alloc, status, &sink, rig)
+    ended(alloc, status, &sink, rig)
 }

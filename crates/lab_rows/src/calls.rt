@@ -142,7 +142,7 @@ impl Outside {
     }
 
     /// Makes the call of a row over these images.
-    fn came(
+    fn ended(
         &mut self,
         alloc: Global,
         lines: &[String],
@@ -169,5 +169,5 @@ pub(crate) fn came_over(
     let words = words_in(alloc, lines)?;
     let images = images_in(alloc, lines, table)?;
     let mut outside = outside_of(alloc, lines, &images)?;
-    outside.came(alloc, lines, &images, &words)
+    outside.ended(alloc, lines, &images, &words)
 }
