@@ -16,7 +16,7 @@ use Rattle.image_blocks.specs.declared.stretch.Stretch.{Stretch}
 use Rattle.image_blocks.specs.Blocks.{HasStretch}
 use Rattle.image_blocks.specs.Places.{IsStretch, behind_in, front_in}
 use Rattle.image_blocks.proofs.Stretches.{has_both, has_none, has_some}
-use Rattle.image_walk.proofs.Walks.{behind_is, front_is}
+use Rattle.image_blocks.proofs.Walks.{behind_is, front_is}
 use Rattle.target_model.proofs.Bytes.{rise}
 use Rattle.image_diff.specs.declared.fault.DiffFault.{DiffFault}
 use Rattle.image_diff.specs.declared.fault.DiffFault.TheVariants.{First, Second, Sink}

@@ -11,8 +11,7 @@ ghost use Rattle.target_answer.specs.declared.TheConstants.{MOST_FRAME};
 use crate::fault::DiffFault;
 use block_lines::{Pair, write_compared, write_diff_first, write_differences};
 use dix_base::{Failed, Sink, Store};
-use image_blocks::{Image, Stretch, behind_of, block_bytes, front_of, read_blocks};
-use image_walk::blocks_in;
+use image_blocks::{Image, Stretch, behind_of, block_bytes, blocks_in, front_of, read_blocks};
 
 /// The units in which two places lie.
 fn pair_of(image: &Image, at: Stretch, other_image: &Image, to: Stretch) -> Pair

@@ -13,10 +13,10 @@ use Rattle.block_lines.proofs.Frames.{next_frame, shorter}
 use Rattle.image_blocks.specs.declared.stretch.Stretch.{Stretch}
 use Rattle.image_blocks.specs.Blocks.{HasStretch, blocks_of}
 use Rattle.image_blocks.specs.Places.{IsStretch, behind_in, front_in, spec_of}
-use Rattle.image_walk.proofs.Walks.{behind_is}
+use Rattle.image_blocks.proofs.Walks.{behind_is}
 use Rattle.image_blocks.proofs.Stretches.{has_both, has_none, has_some}
-use Rattle.image_walk.specs.declared.fault.WalkFault.{WalkFault}
-use Rattle.image_walk.specs.declared.fault.WalkFault.TheVariants.{Store, Sink}
+use Rattle.image_blocks.specs.declared.fault.WalkFault.{WalkFault}
+use Rattle.image_blocks.specs.declared.fault.WalkFault.TheVariants.{Store, Sink}
 use Rattle.image_dumps.specs.declared.layout.Layout.{Layout}
 use Rattle.image_dumps.specs.declared.layout.Layout.TheVariants.{Interleaved}
 use Rattle.image_dumps.specs.Dumps.{dump_of, piece_of}

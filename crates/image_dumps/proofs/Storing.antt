@@ -17,7 +17,7 @@ use Rattle.image_blocks.specs.declared.stretch.Stretch.{Stretch}
 use Rattle.image_blocks.specs.Blocks.{AreLeft, ArePut, blocks_at, blocks_of, with_stretch}
 use Rattle.image_blocks.specs.Places.{IsStretch, behind_in, front_in, spec_of}
 use Rattle.image_blocks.proofs.Stretches.{stretch_found}
-use Rattle.image_walk.proofs.Walks.{front_is}
+use Rattle.image_blocks.proofs.Walks.{front_is}
 use Rattle.image_dumps.specs.declared.layout.Layout.{Layout}
 use Rattle.image_dumps.specs.declared.layout.Layout.TheVariants.{Interleaved, Plain, Tuples}
 use Rattle.image_dumps.specs.Dumps.{fits, imported, imported_block, piece_len}

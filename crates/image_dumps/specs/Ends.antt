@@ -12,8 +12,8 @@ use Rattle.image_blocks.specs.Blocks.{HasStretch, blocks_at, blocks_of, with_str
 use Rattle.image_blocks.specs.Places.{IsStretch, spec_of}
 use Rattle.image_dumps.specs.declared.layout.Layout.{Layout}
 use Rattle.image_dumps.specs.declared.layout.Layout.TheVariants.{Interleaved, Plain, Tuples}
-use Rattle.image_walk.specs.declared.fault.WalkFault.{WalkFault}
-use Rattle.image_walk.specs.declared.fault.WalkFault.TheVariants as dump
+use Rattle.image_blocks.specs.declared.fault.WalkFault.{WalkFault}
+use Rattle.image_blocks.specs.declared.fault.WalkFault.TheVariants as dump
 use Rattle.image_dumps.specs.declared.fault.ImportFault.{ImportFault}
 use Rattle.image_dumps.specs.declared.fault.ImportFault.TheVariants as import
 use Rattle.image_dumps.specs.Dumps.{dump_of, fits, imported, piece_len}

@@ -15,10 +15,10 @@ use Rattle.image_blocks.specs.declared.stretch.Stretch.{Stretch}
 use Rattle.image_blocks.specs.Blocks.{HasStretch}
 use Rattle.image_blocks.specs.Places.{IsStretch, behind_in, front_in, spec_of}
 use Rattle.image_blocks.proofs.Stretches.{has_both, has_none, has_some}
-use Rattle.image_walk.proofs.Walks.{behind_is}
+use Rattle.image_blocks.proofs.Walks.{behind_is}
 use Rattle.target_model.proofs.Bytes.{rise}
-use Rattle.image_walk.specs.declared.fault.WalkFault.{WalkFault}
-use Rattle.image_walk.specs.declared.fault.WalkFault.TheVariants.{Store, Sink}
+use Rattle.image_blocks.specs.declared.fault.WalkFault.{WalkFault}
+use Rattle.image_blocks.specs.declared.fault.WalkFault.TheVariants.{Store, Sink}
 use Rattle.image_show.specs.Shown.{HasShown, HasShownSome, ShowEnds, bad_of, lines_of, text_of}
 
 -- ---- lines and counts of blocks behind others

@@ -11,8 +11,7 @@ ghost use Rattle.target_answer.specs.declared.TheConstants.{MOST_FRAME};
 
 use block_lines::{write_blocks, write_first, write_last};
 use dix_base::{Failed, Sink, Store};
-use image_blocks::{Image, Stretch, behind_of, block_bytes, front_of, read_blocks};
-use image_walk::{WalkFault, blocks_in};
+use image_blocks::{Image, Stretch, WalkFault, behind_of, block_bytes, blocks_in, front_of, read_blocks};
 
 /// Reads the blocks of a stretch into `into`, which has just their length, and writes their lines.
 fn show_piece<S: Store, O: Sink>(

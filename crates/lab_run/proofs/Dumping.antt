@@ -14,8 +14,8 @@ use Rattle.image_blocks.specs.declared.stretch.Stretch.{Stretch}
 use Rattle.image_layout.specs.Places.{block_place}
 use Rattle.image_dumps.specs.Dumps.{fits, imported, piece_len}
 use Rattle.image_dumps.specs.Ends.{DumpEnds, HasTaken, ImportEnds, IsShort, KeepsOutside, imported_in}
-use Rattle.image_walk.specs.declared.fault.WalkFault.{WalkFault}
-use Rattle.image_walk.specs.declared.fault.WalkFault.TheVariants as walk
+use Rattle.image_blocks.specs.declared.fault.WalkFault.{WalkFault}
+use Rattle.image_blocks.specs.declared.fault.WalkFault.TheVariants as walk
 use Rattle.image_dumps.specs.declared.fault.ImportFault.{ImportFault}
 use Rattle.image_dumps.specs.declared.fault.ImportFault.TheVariants as halt
 use Rattle.image_dumps.specs.declared.layout.Layout.{Layout as DumpLayout}

@@ -12,8 +12,8 @@ use Rattle.image_blocks.specs.declared.stretch.PlaceFault.{PlaceFault}
 use Rattle.image_blocks.specs.declared.stretch.Stretch.{Stretch}
 use Rattle.image_commands.specs.Views.{OpenedOnce as RigOpenedOnce}
 use Rattle.image_show.specs.Shown.{ShowEnds, text_of}
-use Rattle.image_walk.specs.declared.fault.WalkFault.{WalkFault}
-use Rattle.image_walk.specs.declared.fault.WalkFault.TheVariants as walk
+use Rattle.image_blocks.specs.declared.fault.WalkFault.{WalkFault}
+use Rattle.image_blocks.specs.declared.fault.WalkFault.TheVariants as walk
 use Rattle.lab_words.specs.declared.command.Command.{Command}
 use Rattle.lab_words.specs.declared.command.Command.TheVariants.{Help, Version, ShowUnits, ShowBlocks, Diff, Export, Import, Vectors, Judge, Explain, Sweep}
 use Rattle.lab_words.specs.declared.place.PlaceWord.{PlaceWord}

@@ -10,8 +10,8 @@ use Rattle.image_blocks.specs.declared.stretch.PlaceFault.{PlaceFault}
 use Rattle.image_blocks.specs.declared.stretch.Stretch.{Stretch}
 use Rattle.image_dumps.specs.Dumps.{fits}
 use Rattle.image_dumps.specs.Ends.{ImportEnds, KeepsOutside, dump_in}
-use Rattle.image_walk.specs.declared.fault.WalkFault.{WalkFault}
-use Rattle.image_walk.specs.declared.fault.WalkFault.TheVariants as walk
+use Rattle.image_blocks.specs.declared.fault.WalkFault.{WalkFault}
+use Rattle.image_blocks.specs.declared.fault.WalkFault.TheVariants as walk
 use Rattle.image_dumps.specs.declared.fault.ImportFault.{ImportFault}
 use Rattle.image_dumps.specs.declared.fault.ImportFault.TheVariants as halt
 use Rattle.image_diff.specs.Compared.{HaveBlocks, Places, diff_of, differ_of}

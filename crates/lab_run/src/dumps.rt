@@ -10,9 +10,8 @@ ghost use Rattle.lab_run.specs.Verdict.{dumped_status, halted};
 
 use crate::refusal::Refusal;
 use crate::status::Status;
-use image_blocks::{Image, Stretch};
+use image_blocks::{Image, Stretch, WalkFault};
 use image_dumps::{ImportFault, fits};
-use image_walk::WalkFault;
 use lab_words::Layout;
 use report_text::{Line, add, add_number};
 

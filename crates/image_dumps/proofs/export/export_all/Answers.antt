@@ -4,7 +4,7 @@ use Rattle.image_blocks.specs.Images.{units_open}
 use Rattle.image_dumps.specs.Ends.{HasDumped}
 use Rattle.image_dumps.proofs.Dumping.{at_first, at_last, breaks_off, goes_on, passed_on}
 use Rattle.dix_base.proofs.Stores.{not_read, read_on}
-use Rattle.image_walk.proofs.Walks.{in_room}
+use Rattle.image_blocks.proofs.Walks.{in_room}
 use Rattle.image_dumps.proofs.export.export_all.Goals as goal
 
 pub returns-in-Err-clause-dumped : goal.returns-in-Err-clause-dumped

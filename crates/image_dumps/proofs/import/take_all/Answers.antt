@@ -4,7 +4,7 @@ use Rattle.target_model.proofs.Bytes.{refilled}
 use Rattle.image_blocks.specs.Images.{units_open}
 use Rattle.image_dumps.specs.Ends.{TakingEnds}
 use Rattle.dix_base.proofs.Stores.{not_written, written_on}
-use Rattle.image_walk.proofs.Walks.{in_room}
+use Rattle.image_blocks.proofs.Walks.{in_room}
 use Rattle.image_dumps.proofs.Importing.{at_first, breaks_off, goes_on}
 use Rattle.image_dumps.proofs.Keeping.{keeps_all, keeps_on, keeps_piece}
 use Rattle.image_dumps.proofs.Storing.{cut_few, cut_is, piece_room, piece_taken, pieces_held}

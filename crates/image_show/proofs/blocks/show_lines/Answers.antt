@@ -4,7 +4,7 @@ use Rattle.image_blocks.specs.Images.{units_open}
 use Rattle.image_show.specs.Shown.{HasShown, lines_of}
 use Rattle.image_show.proofs.Showing.{at_first, at_last, breaks_off, few_counted, goes_on, passed_on}
 use Rattle.dix_base.proofs.Stores.{not_read, read_on}
-use Rattle.image_walk.proofs.Walks.{in_room}
+use Rattle.image_blocks.proofs.Walks.{in_room}
 use Rattle.image_show.proofs.blocks.show_lines.Goals as goal
 
 pub returns-in-Err-clause-shown : goal.returns-in-Err-clause-shown
