@@ -1,14 +1,14 @@
 //! A rig in memory that takes every block and keeps its records.
 
 ghost use Rattle.std.specs.Prelude.{◌≡◌, ◌≤◌, ◌^◌, ◌-◌, None, true, refl};
-ghost use Rattle.rig_log.specs.Entries.{few_of, keyed_of};
-ghost use Rattle.rig_log.specs.Logs.{logged, room_in};
+ghost use Rattle.image_rig.specs.Entries.{few_of, keyed_of};
+ghost use Rattle.image_rig.specs.Logs.{logged, room_in};
 ghost use Rattle.test_answers.specs.Answering.{is_count, ready_of, size_of, standing_of};
 
 use dix_base::Failed;
 use fault_schedule::{FaultList, Label, Tamper};
 use rig_api::{Change, Outcome, Record, Rig, RigFault, UnitSpec};
-use rig_log::Log;
+use image_rig::Log;
 use std::alloc::{AllocError, Global};
 
 /// Eight devices: 0 to 3 have blocks of 512 bytes and the types 0 to 3, 4 to 7 the same with blocks of 4,096 bytes.

@@ -5,7 +5,7 @@ use Rattle.image_scripts.specs.Over.{image_with, left_by, opening_over, replied,
 use Rattle.image_scripts.proofs.FreshHead.{right_head, units_back}
 use Rattle.image_scripts.proofs.Got.{got_walked}
 use Rattle.image_scripts.proofs.Told.{IsAfter, after, head_asked, image_after, units_asked}
-use Rattle.image_layout.proofs.Heads.{right_units, right_head as right_parts}
+use Rattle.image_rig.proofs.Heads.{right_units, right_head as right_parts}
 use Rattle.page_pool.specs.Cells.{flat}
 use Rattle.rig_api.specs.Head.{Head, head_fault, head_of}
 use Rattle.rig_api.specs.Telling.{IsStanding, Standing, own_units, units_told}

@@ -19,7 +19,7 @@ use Rattle.dix_adapter.specs.Ways.{blocks_told, cell_in, shapes_of}
 use Rattle.whole_run.specs.Past.{brought_by}
 use Rattle.whole_run.specs.UnderMap.{address_of, home}
 use Rattle.whole_run.proofs.TupleFrames.{Small, data_is, tuple_is}
-use Rattle.image_layout.proofs.Heads.{layout_parts}
+use Rattle.image_rig.proofs.Heads.{layout_parts}
 use Rattle.script_premises.proofs.Fresh.{blocks_are, fresh_unit, shapes_are, cell_is}
 use Rattle.script_text.specs.declared.script.Script.{Script}
 use Rattle.image_scripts.specs.Passed.{devices_of}

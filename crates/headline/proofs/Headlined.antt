@@ -19,7 +19,7 @@ use Rattle.whole_run.specs.PlainMap.{as_expected}
 use Rattle.whole_run.specs.Settings.{Setting}
 use Rattle.whole_run.specs.UnderMap.{address_of}
 use Rattle.run_laws.specs.ShownRun.{DevicesAreClean}
-use Rattle.image_layout.proofs.Heads.{layout_parts}
+use Rattle.image_rig.proofs.Heads.{layout_parts}
 use Rattle.run_premises.proofs.Escapes.{none_supplied}
 use Rattle.script_premises.proofs.Fresh.{formatted_clean, shapes_are}
 use Rattle.script_text.specs.declared.script.Script.{Script}

@@ -11,7 +11,7 @@ use Rattle.target_answer.specs.declared.units.UnitSpec.{UnitSpec}
 use Rattle.block_lines.specs.DiffText.{compared_line, count_differ, diff_first, diff_line, diff_lines, differences, differs}
 use Rattle.block_lines.specs.ShowText.{one_if}
 use Rattle.block_lines.specs.declared.diff.Pair.{Pair}
-use Rattle.image_layout.specs.Places.{block_len}
+use Rattle.image_rig.specs.LayoutPlaces.{block_len}
 use Rattle.image_blocks.specs.declared.stretch.Stretch.{Stretch}
 use Rattle.image_blocks.specs.Blocks.{HasStretch}
 use Rattle.image_blocks.specs.Places.{IsStretch, behind_in, front_in}

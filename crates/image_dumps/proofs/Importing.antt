@@ -11,8 +11,8 @@ use Rattle.target_answer.specs.declared.units.UnitSpec.{UnitSpec}
 use Rattle.target_answer.proofs.FrameLaws.{joined_append, frames_length}
 use Rattle.target_model.specs.Served.{AllLong}
 use Rattle.target_model.proofs.Bytes.{long_both, rise}
-use Rattle.image_layout.specs.Places.{block_len}
-use Rattle.image_layout.proofs.Units.{unit_found}
+use Rattle.image_rig.specs.LayoutPlaces.{block_len}
+use Rattle.image_rig.proofs.Units.{unit_found}
 use Rattle.image_blocks.specs.declared.stretch.Stretch.{Stretch}
 use Rattle.image_blocks.specs.Blocks.{blocks_at, with_stretch}
 use Rattle.image_blocks.specs.Places.{IsStretch, behind_in, front_in, spec_of}

@@ -12,7 +12,7 @@ use Rattle.target_answer.specs.declared.units.UnitSpec.{UnitSpec}
 use Rattle.target_answer.proofs.FrameLaws.{frames_length}
 use Rattle.target_model.specs.Served.{AllLong}
 use Rattle.target_model.proofs.Bytes.{frames_back, joined_frames, long_frames}
-use Rattle.image_layout.specs.Places.{block_len, block_place}
+use Rattle.image_rig.specs.LayoutPlaces.{block_len, block_place}
 use Rattle.image_blocks.specs.declared.stretch.Stretch.{Stretch}
 use Rattle.image_blocks.specs.Blocks.{AreLeft, ArePut, blocks_at, blocks_of, with_stretch}
 use Rattle.image_blocks.specs.Places.{IsStretch, behind_in, front_in, spec_of}

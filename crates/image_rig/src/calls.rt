@@ -1,12 +1,12 @@
 //! The calls of the rig.
 
 ghost use Rattle.std.specs.Prelude.{◌≡◌, [], length, refl};
-ghost use Rattle.rig_log.specs.Entries.{few_of, keyed_of};
-ghost use Rattle.rig_log.specs.Logs.{logged, room_in};
-ghost use Rattle.image_layout.specs.Heads.{called, head_in};
+ghost use Rattle.image_rig.specs.Entries.{few_of, keyed_of};
+ghost use Rattle.image_rig.specs.Logs.{logged, room_in};
+ghost use Rattle.image_rig.specs.Heads.{called, head_in};
 ghost use Rattle.image_rig.specs.Told.{laid_of, ready_of, standing_of, units_of_image};
 
-use crate::ImageRig;
+use crate::{ImageHead, ImageRig, Log, look};
 use crate::formatting::append_formatted;
 use crate::migrating::migrate_head;
 use crate::overwriting::change_block;
@@ -14,9 +14,7 @@ use crate::place::{greatest_size, logical};
 use arrayvec::ArrayVec;
 use dix_base::{Failed, Store, StoreFault};
 use fault_schedule::{FaultList, Label, Tamper};
-use image_layout::{ImageHead, look};
 use rig_api::{Change, Outcome, Record, Rig, RigFault, UnitSpec};
-use rig_log::Log;
 use std::alloc::{AllocError, Global};
 use target_model::serve;
 

@@ -9,7 +9,7 @@ use Rattle.target_answer.specs.declared.units.UnitSpec.{UnitSpec}
 use Rattle.target_answer.proofs.FrameLaws.{joined_append}
 use Rattle.rig_api.specs.Head.{head_fault, head_of, units_of}
 use Rattle.dix_adapter.specs.Ways.{blocks_told}
-use Rattle.image_layout.proofs.Heads.{right_head, right_units}
+use Rattle.image_rig.proofs.Heads.{right_head, right_units}
 use Rattle.image_scripts.specs.Over.{blocks_in, image_with}
 use Rattle.run_command.proofs.Passed.{joined_frames}
 

@@ -18,7 +18,7 @@ use Rattle.target_answer.specs.declared.units.Version.TheVariants.{First, Second
 use Rattle.target_answer.proofs.FreshBlocks.{fresh_long}
 use Rattle.rig_api.specs.Head.{fault_of_header, fault_under, head_fault, head_of, specs_under, units_of}
 use Rattle.rig_api.specs.declared.rig.RigFault.TheVariants.{BadLength}
-use Rattle.image_layout.proofs.Heads.{layout_parts}
+use Rattle.image_rig.proofs.Heads.{layout_parts}
 use Rattle.image_rig.proofs.Migrates.{header_back as second_back, header_long as second_long, spec_told, type_back, same_spec}
 
 -- ---- the header of version 1 is read back

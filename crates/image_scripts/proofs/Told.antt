@@ -19,7 +19,7 @@ use Rattle.whole_run.specs.Settings.{Setting}
 use Rattle.run_laws.specs.ShownRun.{DevicesAreClean}
 use Rattle.dix_base.specs.Told.{Becomes}
 use Rattle.run_command.specs.Passed.{WasFormatted}
-use Rattle.image_layout.proofs.Heads.{layout_parts}
+use Rattle.image_rig.proofs.Heads.{layout_parts}
 use Rattle.run_command.specs.Verdict.{WasAsked, devices_of}
 use Rattle.run_command.proofs.Devices.{image_devices}
 use Rattle.image_scripts.specs.Over.{blocks_in, image_with}

@@ -36,7 +36,7 @@ use Rattle.script_text.specs.declared.fault.ScriptFault.{ScriptFault}
 use Rattle.script_text.specs.declared.script.Script.{Script}
 use Rattle.image_scripts.specs.Passed.{devices_of}
 use Rattle.image_scripts.proofs.Passed.{all_end, blocks_are, formatted_below, fresh_unit, shapes_are}
-use Rattle.image_layout.proofs.Heads.{layout_parts}
+use Rattle.image_rig.proofs.Heads.{layout_parts}
 use Rattle.image_scripts.specs.Over.{setting_over, volume_over}
 use Rattle.image_scripts.proofs.Told.{devices_back, stored_back}
 use Rattle.flip_sweep.specs.Flips.{bad_if, fault_before, overwrite_fault, with_flip}

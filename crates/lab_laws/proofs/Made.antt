@@ -36,9 +36,9 @@ use Rattle.script_laws.proofs.Keeping.{read_keeps}
 use Rattle.script_laws.proofs.Ranges.{all_in_range}
 use Rattle.image_scripts.specs.Passed.{setting_told, HasTable, devices_of, table_over}
 use Rattle.image_scripts.proofs.Passed.{all_end, blocks_are, fresh_unit}
-use Rattle.image_layout.specs.Places.{block_place}
-use Rattle.image_layout.proofs.Heads.{layout_parts}
-use Rattle.image_layout.proofs.Units.{unit_found}
+use Rattle.image_rig.specs.LayoutPlaces.{block_place}
+use Rattle.image_rig.proofs.Heads.{layout_parts}
+use Rattle.image_rig.proofs.Units.{unit_found}
 use Rattle.image_blocks.specs.Places.{spec_of, whole_in}
 use Rattle.image_blocks.specs.declared.stretch.PlaceFault.{PlaceFault}
 use Rattle.image_blocks.specs.declared.stretch.PlaceFault.TheVariants.{NoDevice}

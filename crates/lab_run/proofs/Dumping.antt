@@ -11,7 +11,7 @@ use Rattle.image_blocks.specs.Places.{spec_of}
 use Rattle.image_blocks.specs.declared.image.Image.{Image}
 use Rattle.image_blocks.specs.declared.stretch.PlaceFault.{PlaceFault}
 use Rattle.image_blocks.specs.declared.stretch.Stretch.{Stretch}
-use Rattle.image_layout.specs.Places.{block_place}
+use Rattle.image_rig.specs.LayoutPlaces.{block_place}
 use Rattle.image_dumps.specs.Dumps.{fits, imported, piece_len}
 use Rattle.image_dumps.specs.Ends.{DumpEnds, HasTaken, ImportEnds, IsShort, KeepsOutside, imported_in}
 use Rattle.image_blocks.specs.declared.fault.WalkFault.{WalkFault}

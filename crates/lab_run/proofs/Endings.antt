@@ -1,7 +1,7 @@
 -- The verdicts of `show`.
 use Rattle.std.proofs.Common.{ℕ, ◌≡◌, ◌≤◌, inl, inr, List, Option, Some, None, Result, Ok, Err, refl, sym, ap, subst, ◌∙◌, arith, ltb}
 use Rattle.std.specs.Prelude.{IsErrOf}
-use Rattle.image_layout.specs.Heads.{HasLooked, called}
+use Rattle.image_rig.specs.Heads.{HasLooked, called}
 use Rattle.dix_base.specs.Told.{Rose}
 use Rattle.unit_words.specs.Words.{image_in}
 use Rattle.dix_base.specs.Stores.{StoreState, WasRead}

@@ -5,7 +5,7 @@ use Rattle.image_blocks.specs.declared.stretch.PlaceFault.{PlaceFault}
 use Rattle.image_blocks.specs.declared.stretch.Stretch.{Stretch}
 use Rattle.image_dumps.specs.declared.layout.Layout.{Layout as DumpLayout}
 use Rattle.image_dumps.specs.declared.layout.Layout.TheVariants as dump
-use Rattle.image_layout.specs.Heads.{called}
+use Rattle.image_rig.specs.Heads.{called}
 use Rattle.lab_words.specs.declared.command.Command.{Command}
 use Rattle.lab_words.specs.declared.command.Command.TheVariants.{Help, Version, ShowUnits, ShowBlocks, Diff, Export, Import, Vectors, Judge, Explain, Sweep}
 use Rattle.lab_words.specs.declared.layout.Layout.{Layout}

@@ -1,5 +1,5 @@
 use Rattle.std.specs.Prelude.{ℕ, ◌≡◌, ◌≤◌, ◌⊎◌, Bool, false, true, ltb, if◌then◌else◌, List, length, take, Option, Some, None, Result, Ok, Err}
-use Rattle.image_layout.specs.Heads.{called}
+use Rattle.image_rig.specs.Heads.{called}
 use Rattle.dix_base.specs.Stores.{StoreState}
 use Rattle.dix_base.specs.Told.{Appended, AppendedSome, Becomes, Rose}
 use Rattle.unit_words.specs.Words.{image_in}

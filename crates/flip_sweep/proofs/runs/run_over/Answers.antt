@@ -1,6 +1,6 @@
 use Rattle.std.proofs.Common.{Some, refl, ap, ◌∙◌}
 use Rattle.std.proofs.lemmas.Result.{err_from_is_err_and}
-use Rattle.image_layout.specs.Heads.{head_in}
+use Rattle.image_rig.specs.Heads.{head_in}
 use Rattle.image_rig.specs.Told.{laid_of, ready_of}
 use Rattle.target_answer.specs.Image.{formatted}
 use Rattle.image_scripts.proofs.FreshHead.{right_head}

@@ -1,7 +1,7 @@
 use Rattle.std.proofs.Common.{◌∙◌, ap, length, rules}
 use Rattle.target_answer.specs.Target.{target_answer}
 use Rattle.target_model.specs.Served.{unit_in}
-use Rattle.image_layout.specs.Heads.{head_in}
+use Rattle.image_rig.specs.Heads.{head_in}
 use Rattle.image_rig.specs.Places.{logical_of}
 use Rattle.image_rig.proofs.Devices.{calm, head_after, is_open, is_sized, is_unit, some_blocks, told_by}
 use Rattle.image_rig.proofs.calls.ImageRigRig.exchange.Goals as goal
