@@ -12,8 +12,8 @@ use Rattle.report_text.specs.Report.{report}
 use Rattle.report_text.specs.Trace.{trace}
 use Rattle.pi_scrub.specs.declared.found.Found.{Found}
 use Rattle.image_commands.specs.Causes.{CauseUnformatted, CauseUnmigrated, CauseUnscrubbed, WasFormatted, WasMigrated, WasScrubbed}
-use Rattle.nvme_lines.specs.Texts.{text_in}
-use Rattle.nvme_lines.specs.declared.line.NvmLine.{NvmLine}
+use Rattle.nvme_command.specs.Texts.{text_in}
+use Rattle.nvme_command.specs.declared.line.NvmLine.{NvmLine}
 use Rattle.nvme_command.specs.Causes.{WereDone}
 use Rattle.nvme_command.specs.Fits.{misfit}
 use Rattle.mode_map.specs.Modes.{modes_text}

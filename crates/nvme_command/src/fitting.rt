@@ -4,7 +4,7 @@ ghost use Rattle.std.specs.Prelude.{◌≡◌};
 ghost use Rattle.nvme_command.specs.Fits.{fits, meta_wanted, misfit};
 
 use nvme_front::{NvmCommand, NvmFront};
-use nvme_lines::NvmLine;
+use crate::NvmLine;
 use script_lines::ScriptKind;
 use script_text::ScriptFault;
 

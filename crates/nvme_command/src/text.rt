@@ -6,7 +6,7 @@ ghost use Rattle.nvme_front.specs.Completions.{is_success};
 ghost use Rattle.nvme_command.specs.Replies.{brought, completion_text, meta_text, reply_line, reply_of};
 
 use nvme_front::{Completion, NvmCommand};
-use nvme_session::NvmReply;
+use crate::NvmReply;
 use pi_guard::crc16;
 use std::alloc::{AllocError, Global};
 

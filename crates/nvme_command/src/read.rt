@@ -3,7 +3,7 @@
 ghost use Rattle.std.specs.Prelude.{◌≡◌, ◌⊎◌, IfErr, IfOk};
 ghost use Rattle.script_lines.specs.declared.kind.ScriptKind.{ScriptKind};
 ghost use Rattle.script_words.specs.Cuts.{lines_of, words_of};
-ghost use Rattle.nvme_lines.specs.Texts.{Takes, is_comment, lines_read, text_in, text_taken, words_taken};
+ghost use Rattle.nvme_command.specs.Texts.{Takes, is_comment, lines_read, text_in, text_taken, words_taken};
 
 use crate::line::{NvmLine, line_of};
 use script_lines::{ScriptKind, Words};

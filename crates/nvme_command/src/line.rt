@@ -4,7 +4,7 @@ ghost use Rattle.std.specs.Prelude.{◌≡◌, ◌∷◌, ◌≤◌, [], IfErr, 
 ghost use Rattle.std.specs.Str.{bytes_eq};
 ghost use Rattle.script_lines.specs.declared.kind.ScriptKind.{ScriptKind};
 ghost use Rattle.script_lines.specs.Reading.{IsUnless};
-ghost use Rattle.nvme_lines.specs.Lines.{IsGot, fill_word, line_form, meta_in, meta_word, sqe_in, sqe_word};
+ghost use Rattle.nvme_command.specs.Lines.{IsGot, fill_word, line_form, meta_in, meta_word, sqe_in, sqe_word};
 ghost use Rattle.script_words.specs.Hexes.{hex_in};
 
 use dix_base::ByteList;

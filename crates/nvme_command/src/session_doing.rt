@@ -8,7 +8,7 @@ ghost use Rattle.nvme_front.specs.Results.{IsAnswered};
 ghost use Rattle.nvme_front.specs.Commands.{command_in};
 ghost use Rattle.nvme_front.specs.Completions.{is_internal, is_of_medium};
 ghost use Rattle.nvme_front.specs.Refusals.{body_len, device_at, meta_len, refusal};
-ghost use Rattle.nvme_session.specs.Sessions.{HasReplied, given};
+ghost use Rattle.nvme_command.specs.Sessions.{HasReplied, given};
 
 use nvme_front::{Completion, NvmCommand, NvmFront};
 use rig_api::Rig;

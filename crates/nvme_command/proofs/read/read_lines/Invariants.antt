@@ -1,7 +1,7 @@
 use Rattle.std.proofs.Common.{◌≡◌, ◌+◌, ◌≤◌, [], length}
 use Rattle.script_words.specs.Cuts.{lines_of}
-use Rattle.nvme_lines.specs.Texts.{lines_read}
-use Rattle.nvme_lines.proofs.read.read_lines.Given as goal
+use Rattle.nvme_command.specs.Texts.{lines_read}
+use Rattle.nvme_command.proofs.read.read_lines.Given as goal
 
 abbrev pub invariant-loop-first : goal.invariant-loop-first
 invariant-loop-first l = record {

@@ -17,7 +17,7 @@ use Rattle.nvme_front.specs.Answers.{HasNamespaces, device_of}
 use Rattle.nvme_front.specs.Results.{IsAnswered}
 use Rattle.nvme_front.specs.declared.command.NvmCommand.{NvmCommand}
 use Rattle.nvme_front.specs.declared.completion.Completion.{Completion}
-use Rattle.nvme_session.specs.Sessions.{given}
+use Rattle.nvme_command.specs.Sessions.{given}
 
 pub kept-front : (n : ℕ) (xs ys : List ℕ) → length xs ≡ n → xs ≡ take n (xs ++ ys)
 kept-front n xs ys e = sym (take_at xs ys n e)

@@ -5,7 +5,7 @@ ghost use Rattle.rig_api.specs.Head.{head_fault, units_of};
 ghost use Rattle.rig_api.specs.State.{Stays};
 ghost use Rattle.rig_discovery.specs.Discovery.{HasFound};
 ghost use Rattle.nvme_front.specs.Answers.{HasNamespaces};
-ghost use Rattle.nvme_session.specs.Sessions.{CauseNoFront};
+ghost use Rattle.nvme_command.specs.Sessions.{CauseNoFront};
 
 use call_refusal::Refusal;
 use nvme_front::NvmFront;

@@ -6,8 +6,8 @@ use Rattle.rig_api.specs.Telling.{Standing}
 use Rattle.rig_api.specs.State.{RigState}
 use Rattle.nvme_front.specs.Refusals.{has_size}
 use Rattle.image_commands.proofs.Devices.{devices_are, few_units, silent}
-use Rattle.nvme_session.proofs.Sizes.{for-front, sizes-found}
-use Rattle.nvme_session.proofs.opening.front_of.Goals as goal
+use Rattle.nvme_command.proofs.Sizes.{for-front, sizes-found}
+use Rattle.nvme_command.proofs.session_opening.front_of.Goals as goal
 
 pub discover-requires-clause-few : goal.discover-requires-clause-few
 discover-requires-clause-few g c =

@@ -4,7 +4,7 @@ use Rattle.hex.specs.Hex.{decode_sized}
 use Rattle.script_words.specs.Hexes.{byte_in, bytes_by, hex_in}
 use Rattle.script_lines.specs.declared.kind.ScriptKind.{ScriptKind}
 use Rattle.script_lines.specs.declared.kind.ScriptKind.TheVariants.{BadNumber, ExtraWord, MissingWord}
-use Rattle.nvme_lines.specs.declared.line.NvmLine.{NvmLine}
+use Rattle.nvme_command.specs.declared.line.NvmLine.{NvmLine}
 
 -- A line of an NVM command: SQE FILL META.
 

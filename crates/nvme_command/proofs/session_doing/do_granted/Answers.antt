@@ -1,6 +1,6 @@
 use Rattle.std.proofs.Common.{◌≡◌, length, ap, sym, ◌∙◌}
-use Rattle.nvme_session.proofs.Kept.{answered-as, kept-front}
-use Rattle.nvme_session.proofs.doing.do_granted.Goals as goal
+use Rattle.nvme_command.proofs.Kept.{answered-as, kept-front}
+use Rattle.nvme_command.proofs.session_doing.do_granted.Goals as goal
 
 pub returns-clause-answered : goal.returns-clause-answered
 returns-clause-answered g c =

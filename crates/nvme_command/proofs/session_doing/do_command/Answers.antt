@@ -6,10 +6,10 @@ use Rattle.nvme_front.specs.Answers.{HasNamespaces}
 use Rattle.nvme_front.specs.Commands.{command_in}
 use Rattle.nvme_front.specs.Refusals.{device_at, meta_len}
 use Rattle.nvme_front.specs.Results.{IsAnswered}
-use Rattle.nvme_session.specs.Sessions.{filled, given}
-use Rattle.nvme_session.specs.declared.doing.NvmReply.{NvmReply}
-use Rattle.nvme_session.proofs.Kept.{devices-kept, given-long}
-use Rattle.nvme_session.proofs.doing.do_command.Goals as goal
+use Rattle.nvme_command.specs.Sessions.{filled, given}
+use Rattle.nvme_command.specs.declared.session_doing.NvmReply.{NvmReply}
+use Rattle.nvme_command.proofs.Kept.{devices-kept, given-long}
+use Rattle.nvme_command.proofs.session_doing.do_command.Goals as goal
 
 pub do_granted-requires-clause-meta : goal.do_granted-requires-clause-meta
 do_granted-requires-clause-meta g c = ap length c.in_ok-tuples.ensures ∙ given-long c.in-Ok.lengths.1 c.args.meta.now ∙ c.in-Ok.ensures.meta

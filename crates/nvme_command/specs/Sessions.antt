@@ -9,7 +9,7 @@ use Rattle.nvme_front.specs.Refusals.{body_len, device_at, meta_len, refusal}
 use Rattle.nvme_front.specs.Results.{IsAnswered}
 use Rattle.nvme_front.specs.declared.command.NvmCommand.{NvmCommand}
 use Rattle.nvme_front.specs.declared.completion.Completion.{Completion}
-use Rattle.nvme_session.specs.declared.doing.NvmReply.{NvmReply}
+use Rattle.nvme_command.specs.declared.session_doing.NvmReply.{NvmReply}
 use Rattle.call_refusal.specs.declared.refusal.Refusal.{Refusal}
 use Rattle.call_refusal.specs.declared.refusal.Refusal.TheVariants as stop
 
