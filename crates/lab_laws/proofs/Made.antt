@@ -43,15 +43,15 @@ use Rattle.image_blocks.specs.Places.{spec_of, whole_in}
 use Rattle.image_blocks.specs.declared.stretch.PlaceFault.{PlaceFault}
 use Rattle.image_blocks.specs.declared.stretch.PlaceFault.TheVariants.{NoDevice}
 use Rattle.image_blocks.specs.declared.stretch.Stretch.{Stretch}
-use Rattle.image_dumps.specs.Dumps.{imported, imported_block}
-use Rattle.image_dumps.specs.Ends.{HasTaken}
-use Rattle.image_dumps.specs.declared.layout.Layout.TheVariants.{Plain}
-use Rattle.image_dumps.proofs.Putting.{imported_length}
+use Rattle.image_text.specs.Dumps.{imported, imported_block}
+use Rattle.image_text.specs.Ends.{HasTaken}
+use Rattle.image_text.specs.declared.layout.Layout.TheVariants.{Plain}
+use Rattle.image_text.proofs.Putting.{imported_length}
 use Rattle.image_scripts.specs.Over.{blocks_in, setting_over, volume_over}
 use Rattle.lab_laws.specs.Clean.{ClaimsOnClean, FormatMakes, HoldsClean, ImportMakes, IsImported, IsMade, KeepsHead, RunsOnClean}
 use Rattle.lab_laws.proofs.Blocks.{made_clean}
 use Rattle.lab_laws.proofs.Cells.{there}
-use Rattle.image_dumps.proofs.Importing.{length_units}
+use Rattle.image_text.proofs.Importing.{length_units}
 
 -- ---- a block of such a unit
 

@@ -20,9 +20,9 @@ use Rattle.script_text.specs.declared.script.Script.{Script}
 use Rattle.image_scripts.specs.Passed.{setting_told, HasTable}
 use Rattle.image_blocks.specs.Places.{whole_in}
 use Rattle.image_blocks.specs.declared.stretch.Stretch.{Stretch}
-use Rattle.image_dumps.specs.Dumps.{imported, imported_block}
-use Rattle.image_dumps.specs.Ends.{HasTaken, KeepsOutside}
-use Rattle.image_dumps.specs.declared.layout.Layout.TheVariants.{Plain}
+use Rattle.image_text.specs.Dumps.{imported, imported_block}
+use Rattle.image_text.specs.Ends.{HasTaken, KeepsOutside}
+use Rattle.image_text.specs.declared.layout.Layout.TheVariants.{Plain}
 use Rattle.image_scripts.specs.Over.{FitsImage, blocks_in, setting_over, volume_over}
 use Rattle.image_scripts.specs.Over as over
 

@@ -6,11 +6,11 @@ use Rattle.dix_base.proofs.Counts.{never_rose}
 use Rattle.image_blocks.specs.declared.stretch.PlaceFault.{PlaceFault}
 use Rattle.image_blocks.specs.declared.stretch.Stretch.{Stretch}
 use Rattle.image_blocks.specs.Places.{spec_of}
-use Rattle.image_dumps.specs.Dumps.{fits}
-use Rattle.image_dumps.specs.declared.fault.ImportFault.TheVariants as halt
+use Rattle.image_text.specs.Dumps.{fits}
+use Rattle.image_text.specs.declared.dumps_fault.ImportFault.TheVariants as halt
 use Rattle.unit_words.specs.Words.{image_in}
-use Rattle.image_diff.specs.Compared.{Places, differ_of}
-use Rattle.image_show.specs.Shown.{bad_of}
+use Rattle.image_text.specs.Compared.{Places, differ_of}
+use Rattle.image_text.specs.Shown.{bad_of}
 use Rattle.lab_words.specs.declared.command.Command.{Command}
 use Rattle.lab_words.specs.declared.command.Command.TheVariants.{Help, Version, ShowUnits, ShowBlocks, Diff, Export, Import, Vectors, Judge, Explain, Sweep}
 use Rattle.lab_words.specs.declared.layout.Layout.{Layout}

@@ -8,9 +8,9 @@ use Rattle.image_blocks.specs.Images.{units_open}
 use Rattle.image_blocks.specs.Places.{spec_of}
 use Rattle.image_blocks.specs.declared.image.Image.{Image}
 use Rattle.image_blocks.specs.declared.stretch.Stretch.{Stretch}
-use Rattle.image_diff.specs.Compared.{DiffEnds, HaveBlocks, counts, diff_of, places}
-use Rattle.image_diff.specs.declared.fault.DiffFault.{DiffFault}
-use Rattle.image_diff.specs.declared.fault.DiffFault.TheVariants as compare
+use Rattle.image_text.specs.Compared.{DiffEnds, HaveBlocks, counts, diff_of, places}
+use Rattle.image_text.specs.declared.fault.DiffFault.{DiffFault}
+use Rattle.image_text.specs.declared.fault.DiffFault.TheVariants as compare
 use Rattle.lab_words.specs.declared.command.Command.{Command}
 use Rattle.lab_words.specs.declared.command.Command.TheVariants.{Diff}
 use Rattle.lab_words.specs.declared.place.PlaceWord.{PlaceWord}

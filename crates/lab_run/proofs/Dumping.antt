@@ -12,13 +12,13 @@ use Rattle.image_blocks.specs.declared.image.Image.{Image}
 use Rattle.image_blocks.specs.declared.stretch.PlaceFault.{PlaceFault}
 use Rattle.image_blocks.specs.declared.stretch.Stretch.{Stretch}
 use Rattle.image_rig.specs.LayoutPlaces.{block_place}
-use Rattle.image_dumps.specs.Dumps.{fits, imported, piece_len}
-use Rattle.image_dumps.specs.Ends.{DumpEnds, HasTaken, ImportEnds, IsShort, KeepsOutside, imported_in}
+use Rattle.image_text.specs.Dumps.{fits, imported, piece_len}
+use Rattle.image_text.specs.Ends.{DumpEnds, HasTaken, ImportEnds, IsShort, KeepsOutside, imported_in}
 use Rattle.image_blocks.specs.declared.fault.WalkFault.{WalkFault}
 use Rattle.image_blocks.specs.declared.fault.WalkFault.TheVariants as walk
-use Rattle.image_dumps.specs.declared.fault.ImportFault.{ImportFault}
-use Rattle.image_dumps.specs.declared.fault.ImportFault.TheVariants as halt
-use Rattle.image_dumps.specs.declared.layout.Layout.{Layout as DumpLayout}
+use Rattle.image_text.specs.declared.dumps_fault.ImportFault.{ImportFault}
+use Rattle.image_text.specs.declared.dumps_fault.ImportFault.TheVariants as halt
+use Rattle.image_text.specs.declared.layout.Layout.{Layout as DumpLayout}
 use Rattle.lab_words.specs.declared.command.Command.{Command}
 use Rattle.lab_words.specs.declared.command.Command.TheVariants.{Export, Import}
 use Rattle.lab_words.specs.declared.layout.Layout.{Layout}

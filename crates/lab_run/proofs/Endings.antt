@@ -11,7 +11,7 @@ use Rattle.image_blocks.specs.declared.image.Image.{Image}
 use Rattle.image_blocks.specs.declared.stretch.PlaceFault.{PlaceFault}
 use Rattle.image_blocks.specs.declared.stretch.Stretch.{Stretch}
 use Rattle.image_commands.specs.Views.{OpenedOnce as RigOpenedOnce}
-use Rattle.image_show.specs.Shown.{ShowEnds, text_of}
+use Rattle.image_text.specs.Shown.{ShowEnds, text_of}
 use Rattle.image_blocks.specs.declared.fault.WalkFault.{WalkFault}
 use Rattle.image_blocks.specs.declared.fault.WalkFault.TheVariants as walk
 use Rattle.lab_words.specs.declared.command.Command.{Command}

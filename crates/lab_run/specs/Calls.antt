@@ -3,8 +3,8 @@ use Rattle.dix_base.specs.Stores.{StoreState}
 use Rattle.image_blocks.specs.Places.{part_in, whole_in}
 use Rattle.image_blocks.specs.declared.stretch.PlaceFault.{PlaceFault}
 use Rattle.image_blocks.specs.declared.stretch.Stretch.{Stretch}
-use Rattle.image_dumps.specs.declared.layout.Layout.{Layout as DumpLayout}
-use Rattle.image_dumps.specs.declared.layout.Layout.TheVariants as dump
+use Rattle.image_text.specs.declared.layout.Layout.{Layout as DumpLayout}
+use Rattle.image_text.specs.declared.layout.Layout.TheVariants as dump
 use Rattle.image_rig.specs.Heads.{called}
 use Rattle.lab_words.specs.declared.command.Command.{Command}
 use Rattle.lab_words.specs.declared.command.Command.TheVariants.{Help, Version, ShowUnits, ShowBlocks, Diff, Export, Import, Vectors, Judge, Explain, Sweep}

@@ -1,11 +1,11 @@
 use Rattle.std.specs.Prelude.{ℕ, ◌≡◌, ◌*◌, ◌⊎◌, false, true, ltb, List, length, Option, Some, None, Ok, Err}
 use Rattle.dix_base.specs.Told.{Appended, Calm, Rose}
-use Rattle.block_lines.specs.UnitText.{units_text}
-use Rattle.image_diff.specs.Compared.{Places, diff_of, differ_of}
-use Rattle.image_show.specs.Shown.{bad_of, text_of}
+use Rattle.image_text.specs.UnitText.{units_text}
+use Rattle.image_text.specs.Compared.{Places, diff_of, differ_of}
+use Rattle.image_text.specs.Shown.{bad_of, text_of}
 use Rattle.image_blocks.specs.Places.{spec_of}
-use Rattle.image_dumps.specs.Dumps.{fits, piece_len}
-use Rattle.image_dumps.specs.Ends.{dump_in}
+use Rattle.image_text.specs.Dumps.{fits, piece_len}
+use Rattle.image_text.specs.Ends.{dump_in}
 use Rattle.image_blocks.specs.declared.stretch.PlaceFault.{PlaceFault}
 use Rattle.image_blocks.specs.declared.stretch.Stretch.{Stretch}
 use Rattle.lab_words.specs.declared.command.Command.{Command}

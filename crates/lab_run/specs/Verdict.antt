@@ -3,21 +3,21 @@ use Rattle.image_rig.specs.Heads.{called}
 use Rattle.dix_base.specs.Stores.{StoreState}
 use Rattle.dix_base.specs.Told.{Appended, AppendedSome, Becomes, Rose}
 use Rattle.unit_words.specs.Words.{image_in}
-use Rattle.block_lines.specs.UnitText.{units_text}
+use Rattle.image_text.specs.UnitText.{units_text}
 use Rattle.image_blocks.specs.Blocks.{HasStretch, with_stretch}
 use Rattle.image_blocks.specs.Places.{spec_of}
 use Rattle.image_blocks.specs.declared.stretch.PlaceFault.{PlaceFault}
 use Rattle.image_blocks.specs.declared.stretch.Stretch.{Stretch}
-use Rattle.image_dumps.specs.Dumps.{fits}
-use Rattle.image_dumps.specs.Ends.{ImportEnds, KeepsOutside, dump_in}
+use Rattle.image_text.specs.Dumps.{fits}
+use Rattle.image_text.specs.Ends.{ImportEnds, KeepsOutside, dump_in}
 use Rattle.image_blocks.specs.declared.fault.WalkFault.{WalkFault}
 use Rattle.image_blocks.specs.declared.fault.WalkFault.TheVariants as walk
-use Rattle.image_dumps.specs.declared.fault.ImportFault.{ImportFault}
-use Rattle.image_dumps.specs.declared.fault.ImportFault.TheVariants as halt
-use Rattle.image_diff.specs.Compared.{HaveBlocks, Places, diff_of, differ_of}
-use Rattle.image_diff.specs.declared.fault.DiffFault.{DiffFault}
-use Rattle.image_diff.specs.declared.fault.DiffFault.TheVariants as compare
-use Rattle.image_show.specs.Shown.{bad_of, text_of}
+use Rattle.image_text.specs.declared.dumps_fault.ImportFault.{ImportFault}
+use Rattle.image_text.specs.declared.dumps_fault.ImportFault.TheVariants as halt
+use Rattle.image_text.specs.Compared.{HaveBlocks, Places, diff_of, differ_of}
+use Rattle.image_text.specs.declared.fault.DiffFault.{DiffFault}
+use Rattle.image_text.specs.declared.fault.DiffFault.TheVariants as compare
+use Rattle.image_text.specs.Shown.{bad_of, text_of}
 use Rattle.lab_words.specs.declared.command.Command.{Command}
 use Rattle.lab_words.specs.declared.command.Command.TheVariants.{Help, Version, ShowUnits, ShowBlocks, Diff, Export, Import, Vectors, Judge, Explain, Sweep}
 use Rattle.lab_words.specs.declared.layout.Layout.{Layout}

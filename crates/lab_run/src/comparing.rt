@@ -16,7 +16,7 @@ use crate::showing::stretch_of;
 use crate::status::Status;
 use dix_base::{Sink, Store};
 use image_blocks::{Image, Stretch, open_image};
-use image_diff::{DiffFault, diff_blocks};
+use image_text::{DiffFault, diff_blocks};
 use lab_words::PlaceWord;
 use std::alloc::Global;
 use unit_words::image_of;

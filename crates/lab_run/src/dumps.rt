@@ -3,7 +3,7 @@
 ghost use Rattle.std.specs.Prelude.{◌≡◌};
 ghost use Rattle.image_blocks.specs.Images.{units_open};
 ghost use Rattle.image_blocks.specs.Places.{IsStretch, spec_of};
-ghost use Rattle.image_dumps.specs.Dumps.{fits};
+ghost use Rattle.image_text.specs.Dumps.{fits};
 ghost use Rattle.lab_run.specs.Calls.{laid_as};
 ghost use Rattle.lab_run.specs.Texts.{imported_text};
 ghost use Rattle.lab_run.specs.Verdict.{dumped_status, halted};
@@ -11,18 +11,18 @@ ghost use Rattle.lab_run.specs.Verdict.{dumped_status, halted};
 use crate::refusal::Refusal;
 use crate::status::Status;
 use image_blocks::{Image, Stretch, WalkFault};
-use image_dumps::{ImportFault, fits};
+use image_text::{ImportFault, fits};
 use lab_words::Layout;
 use report_text::{Line, add, add_number};
 
 /// The layout of the words, as that of a dump.
-pub(crate) fn laid(layout: Layout) -> image_dumps::Layout
+pub(crate) fn laid(layout: Layout) -> image_text::Layout
     ensures { result ≡ laid_as layout }
 {
     match layout {
-        Layout::Interleaved => image_dumps::Layout::Interleaved,
-        Layout::Plain => image_dumps::Layout::Plain,
-        Layout::Tuples => image_dumps::Layout::Tuples,
+        Layout::Interleaved => image_text::Layout::Interleaved,
+        Layout::Plain => image_text::Layout::Plain,
+        Layout::Tuples => image_text::Layout::Tuples,
     }
 }
 

@@ -16,7 +16,7 @@ use crate::showing::{ROOM, stretch_of};
 use crate::status::Status;
 use dix_base::{Sink, Store};
 use image_blocks::open_image;
-use image_dumps::export_blocks;
+use image_text::export_blocks;
 use lab_words::{Layout, PlaceWord};
 use std::alloc::Global;
 use unit_words::image_of;

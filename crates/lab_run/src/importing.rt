@@ -16,7 +16,7 @@ use crate::showing::stretch_of;
 use crate::status::Status;
 use dix_base::{Sink, Source, Store};
 use image_blocks::open_image;
-use image_dumps::import_blocks;
+use image_text::import_blocks;
 use lab_words::{Layout, PlaceWord};
 use std::alloc::Global;
 use unit_words::image_of;

@@ -2,7 +2,7 @@
 
 ghost use Rattle.std.specs.Prelude.{◌≡◌, ℕ, IfOk, List, Option, Some};
 ghost use Rattle.dix_base.specs.Stores.{StoreState};
-ghost use Rattle.block_lines.specs.UnitText.{units_text};
+ghost use Rattle.image_text.specs.UnitText.{units_text};
 ghost use Rattle.unit_words.specs.Words.{word_bytes};
 ghost use Rattle.image_blocks.specs.Images.{units_open};
 ghost use Rattle.image_blocks.specs.Places.{IsStretch};
@@ -36,7 +36,7 @@ pub(crate) fn stretch_of(image: &Image, place: PlaceWord) -> Result<Stretch, Pla
 fn list_units<O: Sink>(image: &Image, out: &mut O) -> Status
     ensures { Written Status.Whole (units_text (units_open image.now)) (O.taken out.old) (O.taken out.new) (O.faults out.old) (O.faults out.new) result }
 {
-    match image_show::show_units(image, out) {
+    match image_text::show_units(image, out) {
         Ok(()) => Status::Whole,
         Err(Failed) => Status::WriteFault,
     }
@@ -94,7 +94,7 @@ pub(crate) fn show_blocks<A: Store, O: Sink>(
         Ok(at) => at,
         Err(fault) => return refuse(out, Refusal::Place(fault)),
     };
-    status_of(image_show::show_blocks(store, &image, at, &mut room, out))
+    status_of(image_text::show_blocks(store, &image, at, &mut room, out))
 }
 
 /// So many bytes of blocks are read at once, at most: 64 of the longest blocks. A file is read ahead by 262,144 bytes,
