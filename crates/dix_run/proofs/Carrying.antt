@@ -9,9 +9,9 @@ use Rattle.image_commands.proofs.Opened.{right_head, told_is_good}
 use Rattle.nvme_command.specs.Causes.{CauseNotDone}
 use Rattle.nvme_command.proofs.Completes.{spared_alone}
 use Rattle.unit_words.specs.Words.{image_in}
-use Rattle.command_line.specs.Grammar.{command_in}
-use Rattle.command_line.specs.declared.command.Command.{Command}
-use Rattle.command_line.specs.declared.command.Command.TheVariants.{Run, Trace, Format, Migrate, Mirror, Scrub, Nvme, Modes, Big}
+use Rattle.dix_run.specs.Grammar.{command_in}
+use Rattle.dix_run.specs.declared.command.Command.{Command}
+use Rattle.dix_run.specs.declared.command.Command.TheVariants.{Run, Trace, Format, Migrate, Mirror, Scrub, Nvme, Modes, Big}
 use Rattle.mirror_command.proofs.Completing.{complete as mirror_complete}
 use Rattle.mirror_command.specs.Texts.{is_any_lost}
 use Rattle.mirror_command.specs.Verdict.{IsComplete as MirrorComplete}

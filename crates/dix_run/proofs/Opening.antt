@@ -6,8 +6,8 @@ use Rattle.nvme_command.proofs.Completes.{done_opens, not_done_opens}
 use Rattle.rig_api.specs.Telling.{Standing, Stayed}
 use Rattle.rig_api.specs.State.{RigState}
 use Rattle.unit_words.specs.Words.{image_in}
-use Rattle.command_line.specs.declared.command.Command.{Command}
-use Rattle.command_line.specs.declared.command.Command.TheVariants.{Run, Trace, Format, Migrate, Mirror, Scrub, Nvme, Modes, Big}
+use Rattle.dix_run.specs.declared.command.Command.{Command}
+use Rattle.dix_run.specs.declared.command.Command.TheVariants.{Run, Trace, Format, Migrate, Mirror, Scrub, Nvme, Modes, Big}
 use Rattle.script_text.specs.declared.script.Script.{Script}
 use Rattle.mirror_command.specs.Verdict.{CauseStopped as CauseMidway, HasMirroredSource, StoppedMidway}
 use Rattle.mirror_command.specs.declared.mirrored.Mirrored.{Mirrored}

@@ -31,9 +31,9 @@ use Rattle.big_run.specs.Ran.{RanBig}
 use Rattle.big_run.specs.Text.{big_text}
 use Rattle.big_run.specs.declared.running.BigRun.{BigRun}
 use Rattle.unit_words.specs.Words.{image_in}
-use Rattle.command_line.specs.Grammar.{command_in}
-use Rattle.command_line.specs.declared.command.Command.{Command}
-use Rattle.command_line.specs.declared.command.Command.TheVariants.{Run, Trace, Format, Migrate, Mirror, Scrub, Nvme, Modes, Big}
+use Rattle.dix_run.specs.Grammar.{command_in}
+use Rattle.dix_run.specs.declared.command.Command.{Command}
+use Rattle.dix_run.specs.declared.command.Command.TheVariants.{Run, Trace, Format, Migrate, Mirror, Scrub, Nvme, Modes, Big}
 use Rattle.dix_run.specs.ScrubText.{has_some, scrub_text}
 use Rattle.dix_run.specs.Verdict.{ByCause, CauseNotCommanded, CauseNotMirrored, CauseNotRun, EndedAs, Facts, HasNoCommand, LeavesSource, WantsMemory, Work, call_of, done_status, usage_text}
 use Rattle.dix_run.specs.declared.status.Status.{Status}

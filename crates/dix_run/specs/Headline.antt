@@ -1,7 +1,7 @@
 use Rattle.std.specs.Prelude.{ℕ, List, Option}
 use Rattle.image_commands.specs.Views.{OpenedOnce}
 use Rattle.unit_words.specs.Words.{image_in}
-use Rattle.command_line.specs.Grammar.{command_in}
+use Rattle.dix_run.specs.Grammar.{command_in}
 use Rattle.dix_run.specs.Commands.{Ended, work_of}
 use Rattle.dix_run.specs.Verdict.{Facts, IsComplete}
 use Rattle.dix_run.specs.declared.status.Status.{Status}

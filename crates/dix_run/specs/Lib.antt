@@ -4,3 +4,4 @@ pub mod Passed
 pub mod ScrubText
 pub mod Statuses
 pub mod Verdict
+pub mod Grammar

@@ -12,7 +12,9 @@ mod refusal;
 mod running;
 mod scrub_text;
 mod status;
+mod command;
 
 pub use program::{refuse, run};
 pub use refusal::Refusal;
 pub use status::Status;
+pub use command::{Command, command_of};

@@ -13,7 +13,7 @@ use crate::nvme::nvme;
 use crate::refusal::Refusal;
 use crate::running::{run_image, trace_image};
 use crate::status::Status;
-use command_line::{Command, command_of};
+use crate::{Command, command_of};
 use dix_base::{Failed, Sink, Source};
 use report_text::write_out;
 use rig_api::Rig;

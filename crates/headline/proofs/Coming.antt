@@ -6,9 +6,9 @@ use Rattle.dix_base.proofs.Counts.{never_rose}
 use Rattle.rig_api.specs.Head.{head_fault, head_of}
 use Rattle.rig_api.specs.Telling.{IsStanding, units_told}
 use Rattle.unit_words.specs.Words.{image_in}
-use Rattle.command_line.specs.Grammar.{command_in}
-use Rattle.command_line.specs.declared.command.Command.{Command}
-use Rattle.command_line.specs.declared.command.Command.TheVariants as command
+use Rattle.dix_run.specs.Grammar.{command_in}
+use Rattle.dix_run.specs.declared.command.Command.{Command}
+use Rattle.dix_run.specs.declared.command.Command.TheVariants as command
 use Rattle.report_text.specs.Report.{report}
 use Rattle.script_text.specs.declared.script.Script.{Script}
 use Rattle.image_scripts.proofs.Passed.{complete, same_script}

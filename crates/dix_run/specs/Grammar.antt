@@ -6,8 +6,8 @@ use Rattle.target_answer.specs.declared.units.UnitSpec.{UnitSpec}
 use Rattle.script_words.specs.Decimals.{number_in}
 use Rattle.unit_words.specs.Units.{type_in}
 use Rattle.unit_words.specs.Words.{is_name, units_in}
-use Rattle.command_line.specs.declared.command.Command.{Command}
-use Rattle.command_line.specs.declared.command.Command.TheVariants.{Run, Trace, Format, Migrate, Mirror, Scrub, Nvme, Modes, Big}
+use Rattle.dix_run.specs.declared.command.Command.{Command}
+use Rattle.dix_run.specs.declared.command.Command.TheVariants.{Run, Trace, Format, Migrate, Mirror, Scrub, Nvme, Modes, Big}
 
 -- The grammar of the program's words.
 

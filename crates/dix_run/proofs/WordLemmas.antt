@@ -2,7 +2,7 @@
 use Rattle.std.proofs.Common.{◌≡◌, false, List, [], ◌∷◌, length, None, refl}
 use Rattle.std.specs.Prelude.{String}
 use Rattle.unit_words.specs.Words.{word_bytes}
-use Rattle.command_line.specs.Grammar.{big_of, is_one_name, modes_of}
+use Rattle.dix_run.specs.Grammar.{big_of, is_one_name, modes_of}
 
 -- other than one word, and other than two
 pub not_one : {Z : Type 0} (ws : List (String Z)) → (length ws ≡ 1 → ⊥) → modes_of (word_bytes ws) ≡ None

@@ -3,7 +3,7 @@
 ghost use Rattle.std.specs.Prelude.{◌≡◌, string_bytes};
 ghost use Rattle.std.specs.Str.{bytes_eq};
 ghost use Rattle.unit_words.specs.Words.{units_in, word_bytes};
-ghost use Rattle.command_line.specs.Grammar.{big_of, big_with, command_by, command_in, format_of, format_with, is_one_name, modes_of, on_image};
+ghost use Rattle.dix_run.specs.Grammar.{big_of, big_with, command_by, command_in, format_of, format_with, is_one_name, modes_of, on_image};
 
 use pi_tuple::PiType;
 use script_words::number;
