@@ -11,15 +11,15 @@ use Rattle.image_text.specs.declared.dumps_fault.ImportFault.TheVariants as halt
 use Rattle.unit_words.specs.Words.{image_in}
 use Rattle.image_text.specs.Compared.{Places, differ_of}
 use Rattle.image_text.specs.Shown.{bad_of}
-use Rattle.lab_words.specs.declared.command.Command.{Command}
-use Rattle.lab_words.specs.declared.command.Command.TheVariants.{Help, Version, ShowUnits, ShowBlocks, Diff, Export, Import, Vectors, Judge, Explain, Sweep}
-use Rattle.lab_words.specs.declared.layout.Layout.{Layout}
-use Rattle.lab_words.specs.declared.place.PlaceWord.{PlaceWord}
+use Rattle.lab_run.specs.declared.command.Command.{Command}
+use Rattle.lab_run.specs.declared.command.Command.TheVariants.{Help, Version, ShowUnits, ShowBlocks, Diff, Export, Import, Vectors, Judge, Explain, Sweep}
+use Rattle.lab_run.specs.declared.layout.Layout.{Layout}
+use Rattle.lab_run.specs.declared.place.PlaceWord.{PlaceWord}
 use Rattle.rig_api.specs.Head.{head_fault, head_of, units_of}
 use Rattle.rig_api.specs.declared.rig.RigFault.{RigFault}
 use Rattle.rig_api.proofs.HeadLaws.{headed}
 use Rattle.target_answer.specs.declared.units.UnitSpec.{UnitSpec}
-use Rattle.lab_words.specs.Grammar.{command_in}
+use Rattle.lab_run.specs.Grammar.{command_in}
 use Rattle.lab_run.specs.Calls.{Facts, laid_as, second_in, stretch_in, uses_rig, uses_second}
 use Rattle.lab_run.specs.Headline.{AreCalm, CameTo, Carries, Causes, DoneBy, IsAtFault, IsBadHead, IsComplete, IsDone, IsDumpAtFault, IsNoPlace, IsNoTuples, IsOtherLength, IsReady, IsRight, IsSecondWrong, IsWrong, IsWrongDump, StoreRose, Wrote, dump_len, layout_named, place_named}
 use Rattle.lab_run.specs.Outcomes.{BadImage, BadInput, Done, Ending, Found, NoMemory, Outcome, RigFailed, SourceFailed, ending_status}

@@ -11,14 +11,14 @@ use Rattle.image_blocks.specs.declared.stretch.Stretch.{Stretch}
 use Rattle.image_text.specs.Compared.{DiffEnds, HaveBlocks, counts, diff_of, places}
 use Rattle.image_text.specs.declared.fault.DiffFault.{DiffFault}
 use Rattle.image_text.specs.declared.fault.DiffFault.TheVariants as compare
-use Rattle.lab_words.specs.declared.command.Command.{Command}
-use Rattle.lab_words.specs.declared.command.Command.TheVariants.{Diff}
-use Rattle.lab_words.specs.declared.place.PlaceWord.{PlaceWord}
+use Rattle.lab_run.specs.declared.command.Command.{Command}
+use Rattle.lab_run.specs.declared.command.Command.TheVariants.{Diff}
+use Rattle.lab_run.specs.declared.place.PlaceWord.{PlaceWord}
 use Rattle.rig_api.specs.declared.rig.RigFault.{RigFault}
 use Rattle.rig_api.specs.declared.rig.RigFault.TheVariants as head
 use Rattle.rig_api.specs.State.{RigState}
 use Rattle.target_answer.specs.declared.units.UnitSpec.{UnitSpec}
-use Rattle.lab_words.specs.Grammar.{command_in}
+use Rattle.lab_run.specs.Grammar.{command_in}
 use Rattle.lab_run.specs.Calls.{Facts, OpenedOnce, on_both, second_in, stretch_in, uses_second}
 use Rattle.lab_run.specs.Texts.{refusal_of, refusal_text, second_refusal_of, status_of}
 use Rattle.lab_run.specs.Verdict.{CauseByCommand, CauseNotCompared, Compared, Ended, HasCompared, HasFirst, HaveBoth, Keeps, OpenedAs, Written, compared_status, done_status}

@@ -19,10 +19,10 @@ use Rattle.image_blocks.specs.declared.fault.WalkFault.TheVariants as walk
 use Rattle.image_text.specs.declared.dumps_fault.ImportFault.{ImportFault}
 use Rattle.image_text.specs.declared.dumps_fault.ImportFault.TheVariants as halt
 use Rattle.image_text.specs.declared.layout.Layout.{Layout as DumpLayout}
-use Rattle.lab_words.specs.declared.command.Command.{Command}
-use Rattle.lab_words.specs.declared.command.Command.TheVariants.{Export, Import}
-use Rattle.lab_words.specs.declared.layout.Layout.{Layout}
-use Rattle.lab_words.specs.declared.place.PlaceWord.{PlaceWord}
+use Rattle.lab_run.specs.declared.command.Command.{Command}
+use Rattle.lab_run.specs.declared.command.Command.TheVariants.{Export, Import}
+use Rattle.lab_run.specs.declared.layout.Layout.{Layout}
+use Rattle.lab_run.specs.declared.place.PlaceWord.{PlaceWord}
 use Rattle.pi_tuple.specs.declared.checks.PiType.{PiType}
 use Rattle.rig_api.specs.declared.rig.RigFault.{RigFault}
 use Rattle.rig_api.specs.declared.rig.RigFault.TheVariants as head
@@ -32,7 +32,7 @@ use Rattle.target_answer.specs.Image.{units_in}
 use Rattle.target_answer.specs.declared.units.UnitSpec.{UnitSpec}
 use Rattle.target_model.specs.Served.{AllLong}
 use Rattle.target_model.proofs.Bytes.{rise as rose_since}
-use Rattle.lab_words.specs.Grammar.{command_in}
+use Rattle.lab_run.specs.Grammar.{command_in}
 use Rattle.lab_run.specs.Calls.{Facts, OpenedOnce, laid_as, on_first, on_input, stretch_in}
 use Rattle.lab_run.specs.Headline.{IsOtherLength}
 use Rattle.lab_run.specs.Texts.{imported_text, refusal_of, refusal_text, status_of}

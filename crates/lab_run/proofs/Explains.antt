@@ -6,8 +6,8 @@ use Rattle.dix_base.proofs.Counts.{never_rose}
 use Rattle.unit_words.specs.Words.{image_in}
 use Rattle.image_commands.specs.Causes.{CauseUntold, HasOpened}
 use Rattle.image_commands.specs.Views.{OpenedOnce}
-use Rattle.lab_words.specs.declared.command.Command.{Command}
-use Rattle.lab_words.specs.declared.command.Command.TheVariants.{Explain}
+use Rattle.lab_run.specs.declared.command.Command.{Command}
+use Rattle.lab_run.specs.declared.command.Command.TheVariants.{Explain}
 use Rattle.rig_api.specs.Head.{head_fault, head_of}
 use Rattle.rig_api.specs.Telling.{Standing}
 use Rattle.rig_api.specs.State.{RigState}
@@ -27,7 +27,7 @@ use Rattle.call_refusal.specs.declared.refusal.Refusal.{Refusal as Stop}
 use Rattle.call_refusal.specs.declared.refusal.Refusal.TheVariants as stop
 use Rattle.run_command.specs.declared.verdict.Finished.{Finished}
 use Rattle.volume_table.specs.Faults.{table_fault}
-use Rattle.lab_words.specs.Grammar.{command_in}
+use Rattle.lab_run.specs.Grammar.{command_in}
 use Rattle.lab_run.specs.Calls.{Facts, on_rig}
 use Rattle.lab_run.specs.Explained.{ExplainsRun, HasExplained, HasToldFault, HasToldRun, HasToldStop, explain_call}
 use Rattle.lab_run.specs.Outcomes.{BadInput, Ending, Outcome, RigFailed, SourceFailed, ending_status, found_ending, stop_ending}

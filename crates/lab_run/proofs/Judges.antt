@@ -7,8 +7,8 @@ use Rattle.dix_base.specs.Stores.{StoreState}
 use Rattle.dix_base.specs.Told.{Calm, IsAtEnd, Took}
 use Rattle.dix_base.proofs.Counts.{never_rose}
 use Rattle.fault_marks.specs.Texts.{marked_text, right_text}
-use Rattle.lab_words.specs.declared.command.Command.{Command}
-use Rattle.lab_words.specs.declared.command.Command.TheVariants.{Judge}
+use Rattle.lab_run.specs.declared.command.Command.{Command}
+use Rattle.lab_run.specs.declared.command.Command.TheVariants.{Judge}
 use Rattle.script_lines.specs.declared.kind.ScriptKind.TheVariants.{TooMany}
 use Rattle.script_text.specs.Language.{lines_read, nothing_read, script_in}
 use Rattle.script_text.specs.declared.fault.ScriptFault.{ScriptFault}
@@ -16,7 +16,7 @@ use Rattle.script_text.specs.declared.script.Script.{Script}
 use Rattle.script_words.specs.Cuts.{lines_of}
 use Rattle.source_text.specs.Reading.{IsOver, IsWhole, most_bytes}
 use Rattle.source_text.proofs.Taking.{most_is}
-use Rattle.lab_words.specs.Grammar.{command_in}
+use Rattle.lab_run.specs.Grammar.{command_in}
 use Rattle.lab_run.specs.Calls.{Facts, on_input}
 use Rattle.lab_run.specs.Judging.{CauseNotJudged, HasJudged, HasScriptFault, JudgesText}
 use Rattle.lab_run.specs.Saying.{IsTold, Says}

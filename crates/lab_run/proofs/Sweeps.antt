@@ -10,8 +10,8 @@ use Rattle.flip_sweep.specs.declared.sweep.Halt.TheVariants as halt
 use Rattle.flip_sweep.specs.declared.sweep.Unswept.{Unswept}
 use Rattle.flip_sweep.specs.declared.sweep.Unswept.TheVariants as unswept
 use Rattle.rig_api.specs.State.{RigState}
-use Rattle.lab_words.specs.declared.command.Command.{Command}
-use Rattle.lab_words.specs.declared.command.Command.TheVariants.{Sweep}
+use Rattle.lab_run.specs.declared.command.Command.{Command}
+use Rattle.lab_run.specs.declared.command.Command.TheVariants.{Sweep}
 use Rattle.rig_api.specs.declared.rig.RigFault.{RigFault}
 use Rattle.script_text.specs.Bindings.{binding_fault}
 use Rattle.script_text.specs.Language.{script_in}
@@ -29,7 +29,7 @@ use Rattle.volume_table.specs.Faults.{table_fault}
 use Rattle.volume_table.specs.declared.fault.VolumeFault.{VolumeFault}
 use Rattle.volume_table.specs.declared.fault.VolumeFault.TheVariants.{At}
 use Rattle.volume_table.specs.declared.fault.VolumeKind.{VolumeKind}
-use Rattle.lab_words.specs.Grammar.{command_in}
+use Rattle.lab_run.specs.Grammar.{command_in}
 use Rattle.lab_run.specs.Calls.{Facts, on_input}
 use Rattle.lab_run.specs.Outcomes.{BadImage, BadInput, Done, Ending, Found, NoMemory, Outcome, RigFailed, SourceFailed, ending_status, stop_ending}
 use Rattle.lab_run.specs.Swept.{HasSwept, IsUnswept, SweepCameTo, SweepsTexts, halt_status, swept}

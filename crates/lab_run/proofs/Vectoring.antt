@@ -5,8 +5,8 @@ use Rattle.dix_base.specs.Told.{Calm, Rose}
 use Rattle.dix_base.proofs.Counts.{never_rose}
 use Rattle.unit_words.specs.Words.{image_in}
 use Rattle.image_commands.specs.Views.{OpenedOnce as RigOpenedOnce}
-use Rattle.lab_words.specs.declared.command.Command.{Command}
-use Rattle.lab_words.specs.declared.command.Command.TheVariants.{Vectors}
+use Rattle.lab_run.specs.declared.command.Command.{Command}
+use Rattle.lab_run.specs.declared.command.Command.TheVariants.{Vectors}
 use Rattle.rig_api.specs.declared.rig.RigFault.{RigFault}
 use Rattle.rig_api.specs.State.{RigState}
 use Rattle.script_text.specs.declared.fault.ScriptFault.{ScriptFault}
@@ -20,7 +20,7 @@ use Rattle.vector_runs.specs.Taken.{text_fault}
 use Rattle.vector_runs.specs.declared.playing.Played.{Played}
 use Rattle.vector_runs.proofs.Heads.{head_refused, not_played_out, not_played_over, range_refused}
 use Rattle.vector_runs.proofs.Whole.{faulty_refused, list_complete, not_played_faulty, rig_failed, script_complete, source_failed}
-use Rattle.lab_words.specs.Grammar.{command_in}
+use Rattle.lab_run.specs.Grammar.{command_in}
 use Rattle.lab_run.specs.Calls.{Facts, on_rig}
 use Rattle.lab_run.specs.Outcomes.{Outcome, RigFailed, SourceFailed, ending_status, found_ending, stop_ending}
 use Rattle.lab_run.specs.Vectors.{HasVectors, IsDoneOrShort, PlaysTexts, WereNotPlayed, played_by}

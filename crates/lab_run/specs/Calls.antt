@@ -6,12 +6,12 @@ use Rattle.image_blocks.specs.declared.stretch.Stretch.{Stretch}
 use Rattle.image_text.specs.declared.layout.Layout.{Layout as DumpLayout}
 use Rattle.image_text.specs.declared.layout.Layout.TheVariants as dump
 use Rattle.image_rig.specs.Heads.{called}
-use Rattle.lab_words.specs.declared.command.Command.{Command}
-use Rattle.lab_words.specs.declared.command.Command.TheVariants.{Help, Version, ShowUnits, ShowBlocks, Diff, Export, Import, Vectors, Judge, Explain, Sweep}
-use Rattle.lab_words.specs.declared.layout.Layout.{Layout}
-use Rattle.lab_words.specs.declared.layout.Layout.TheVariants as word
-use Rattle.lab_words.specs.declared.place.PlaceWord.{PlaceWord}
-use Rattle.lab_words.specs.declared.place.PlaceWord.TheVariants.{Device, Blocks}
+use Rattle.lab_run.specs.declared.command.Command.{Command}
+use Rattle.lab_run.specs.declared.command.Command.TheVariants.{Help, Version, ShowUnits, ShowBlocks, Diff, Export, Import, Vectors, Judge, Explain, Sweep}
+use Rattle.lab_run.specs.declared.layout.Layout.{Layout}
+use Rattle.lab_run.specs.declared.layout.Layout.TheVariants as word
+use Rattle.lab_run.specs.declared.place.PlaceWord.{PlaceWord}
+use Rattle.lab_run.specs.declared.place.PlaceWord.TheVariants.{Device, Blocks}
 use Rattle.rig_api.specs.Telling.{Opened, Stayed}
 use Rattle.rig_api.specs.State.{RigState}
 use Rattle.target_answer.specs.declared.units.UnitSpec.{UnitSpec}

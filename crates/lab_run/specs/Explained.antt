@@ -1,7 +1,7 @@
 use Rattle.std.specs.Prelude.{ℕ, ◌≡◌, ◌⊎◌, List, drop, Some, None, Ok}
 use Rattle.dix_base.specs.Told.{Calm}
 use Rattle.unit_words.specs.Words.{image_in}
-use Rattle.lab_words.specs.declared.command.Command.TheVariants.{Explain}
+use Rattle.lab_run.specs.declared.command.Command.TheVariants.{Explain}
 use Rattle.rig_api.specs.Head.{head_fault, head_of}
 use Rattle.run_words.specs.Explained.{CauseNotRun, HasMarked}
 use Rattle.run_words.specs.Texts.{explained_text}
@@ -14,7 +14,7 @@ use Rattle.run_command.specs.Verdict.{Facts as Call, HasRead, HasRun, devices_of
 use Rattle.call_refusal.specs.declared.refusal.Refusal.{Refusal as Stop}
 use Rattle.run_command.specs.declared.verdict.Finished.{Finished}
 use Rattle.volume_table.specs.Faults.{table_fault}
-use Rattle.lab_words.specs.Grammar.{command_in}
+use Rattle.lab_run.specs.Grammar.{command_in}
 use Rattle.lab_run.specs.Calls.{Facts}
 use Rattle.lab_run.specs.Outcomes.{BadInput, Outcome, found_ending, stop_ending}
 use Rattle.lab_run.specs.declared.status.Status.{Status}

@@ -9,3 +9,6 @@ pub mod Swept
 pub mod Verdict
 pub mod Saying
 pub mod Headline
+pub mod Places
+pub mod Layouts
+pub mod Grammar

@@ -4,7 +4,7 @@ use Rattle.flip_sweep.specs.Flips.{own_fault}
 use Rattle.flip_sweep.specs.Swept.{CauseUnswept, Sweep as Swept, has_unseen, sweep_text}
 use Rattle.flip_sweep.specs.declared.sweep.Halt.{Halt}
 use Rattle.flip_sweep.specs.declared.sweep.Halt.TheVariants as halt
-use Rattle.lab_words.specs.declared.command.Command.TheVariants.{Sweep}
+use Rattle.lab_run.specs.declared.command.Command.TheVariants.{Sweep}
 use Rattle.script_text.specs.Bindings.{binding_fault}
 use Rattle.script_text.specs.Language.{script_in}
 use Rattle.script_text.specs.declared.fault.ScriptFault.{ScriptFault}
@@ -17,7 +17,7 @@ use Rattle.target_answer.specs.Image.{formatted}
 use Rattle.target_answer.specs.declared.units.UnitSpec.{UnitSpec}
 use Rattle.volume_table.specs.Faults.{table_fault}
 use Rattle.volume_table.specs.declared.fault.VolumeKind.{VolumeKind}
-use Rattle.lab_words.specs.Grammar.{command_in}
+use Rattle.lab_run.specs.Grammar.{command_in}
 use Rattle.lab_run.specs.Calls.{Facts}
 use Rattle.lab_run.specs.declared.status.Status.{Status}
 use Rattle.lab_run.specs.declared.status.Status.TheVariants as status

@@ -18,17 +18,17 @@ use Rattle.image_text.specs.Compared.{HaveBlocks, Places, diff_of, differ_of}
 use Rattle.image_text.specs.declared.fault.DiffFault.{DiffFault}
 use Rattle.image_text.specs.declared.fault.DiffFault.TheVariants as compare
 use Rattle.image_text.specs.Shown.{bad_of, text_of}
-use Rattle.lab_words.specs.declared.command.Command.{Command}
-use Rattle.lab_words.specs.declared.command.Command.TheVariants.{Help, Version, ShowUnits, ShowBlocks, Diff, Export, Import, Vectors, Judge, Explain, Sweep}
-use Rattle.lab_words.specs.declared.layout.Layout.{Layout}
-use Rattle.lab_words.specs.declared.place.PlaceWord.{PlaceWord}
+use Rattle.lab_run.specs.declared.command.Command.{Command}
+use Rattle.lab_run.specs.declared.command.Command.TheVariants.{Help, Version, ShowUnits, ShowBlocks, Diff, Export, Import, Vectors, Judge, Explain, Sweep}
+use Rattle.lab_run.specs.declared.layout.Layout.{Layout}
+use Rattle.lab_run.specs.declared.place.PlaceWord.{PlaceWord}
 use Rattle.rig_api.specs.Head.{Head, IsHeadOf, head_fault, units_of}
 use Rattle.rig_api.specs.Telling.{Opened}
 use Rattle.rig_api.specs.declared.rig.RigFault.{RigFault}
 use Rattle.target_answer.specs.Headers.{image_size}
 use Rattle.target_answer.specs.Image.{units_in}
 use Rattle.target_answer.specs.declared.units.UnitSpec.{UnitSpec}
-use Rattle.lab_words.specs.Grammar.{command_in}
+use Rattle.lab_run.specs.Grammar.{command_in}
 use Rattle.lab_run.specs.Calls.{Facts, OpenedOnce, laid_as, second_in, stretch_in, uses_second}
 use Rattle.fault_marks.specs.Texts.{marked_text, right_text}
 use Rattle.script_text.specs.declared.fault.ScriptFault.{ScriptFault}

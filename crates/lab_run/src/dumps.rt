@@ -12,7 +12,7 @@ use crate::refusal::Refusal;
 use crate::status::Status;
 use image_blocks::{Image, Stretch, WalkFault};
 use image_text::{ImportFault, fits};
-use lab_words::Layout;
+use crate::Layout;
 use report_text::{Line, add, add_number};
 
 /// The layout of the words, as that of a dump.

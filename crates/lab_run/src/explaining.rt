@@ -3,11 +3,11 @@
 ghost use Rattle.std.specs.Prelude.{◌≡◌, ◌≤◌, Some, drop, length};
 ghost use Rattle.unit_words.specs.Words.{word_bytes};
 ghost use Rattle.dix_base.specs.Stores.{StoreState};
-ghost use Rattle.lab_words.specs.declared.command.Command.{Command};
+ghost use Rattle.lab_run.specs.declared.command.Command.{Command};
 ghost use Rattle.run_words.specs.Sites.{Guides};
 ghost use Rattle.run_words.specs.Texts.{explained_by};
 ghost use Rattle.run_command.specs.Texts.{has_bad};
-ghost use Rattle.lab_words.specs.Grammar.{command_in};
+ghost use Rattle.lab_run.specs.Grammar.{command_in};
 ghost use Rattle.lab_run.specs.Calls.{on_rig};
 ghost use Rattle.lab_run.specs.Verdict.{Ended, Written, done_status};
 

@@ -3,8 +3,8 @@
 ghost use Rattle.std.specs.Prelude.{◌≡◌, Some};
 ghost use Rattle.unit_words.specs.Words.{word_bytes};
 ghost use Rattle.dix_base.specs.Stores.{StoreState};
-ghost use Rattle.lab_words.specs.declared.command.Command.{Command};
-ghost use Rattle.lab_words.specs.Grammar.{command_in};
+ghost use Rattle.lab_run.specs.declared.command.Command.{Command};
+ghost use Rattle.lab_run.specs.Grammar.{command_in};
 ghost use Rattle.lab_run.specs.Calls.{on_input};
 ghost use Rattle.lab_run.specs.Verdict.{Ended};
 ghost use Rattle.rig_api.specs.State.{RigState};
@@ -17,7 +17,7 @@ use crate::status::Status;
 use dix_base::{Sink, Source, Store};
 use image_blocks::open_image;
 use image_text::import_blocks;
-use lab_words::{Layout, PlaceWord};
+use crate::{Layout, PlaceWord};
 use std::alloc::Global;
 use unit_words::image_of;
 

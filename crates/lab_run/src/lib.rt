@@ -16,7 +16,16 @@ mod showing;
 mod status;
 mod stopping;
 mod sweeping;
+mod command;
+mod layout;
+mod place;
 
 pub use program::{refuse, run};
 pub use refusal::Refusal;
 pub use status::Status;
+pub use command::{Command, command_of};
+pub use layout::{Layout, layout_of};
+pub use place::{PlaceWord, place_of};
+
+/// The most blocks of a place.
+pub const MOST_COUNT: u64 = 65_536;

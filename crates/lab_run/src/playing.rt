@@ -3,10 +3,10 @@
 ghost use Rattle.std.specs.Prelude.{◌≡◌, Some, drop};
 ghost use Rattle.unit_words.specs.Words.{word_bytes};
 ghost use Rattle.dix_base.specs.Stores.{StoreState};
-ghost use Rattle.lab_words.specs.declared.command.Command.{Command};
+ghost use Rattle.lab_run.specs.declared.command.Command.{Command};
 ghost use Rattle.vector_runs.specs.ListText.{has_sense};
 ghost use Rattle.vector_runs.specs.Played.{AreLogged, first_of, played_text};
-ghost use Rattle.lab_words.specs.Grammar.{command_in};
+ghost use Rattle.lab_run.specs.Grammar.{command_in};
 ghost use Rattle.lab_run.specs.Calls.{on_rig};
 ghost use Rattle.lab_run.specs.Outcomes.{ending_status, found_ending};
 ghost use Rattle.lab_run.specs.Verdict.{Ended, Written};

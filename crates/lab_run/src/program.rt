@@ -18,7 +18,7 @@ use crate::showing::{show_blocks, show_units};
 use crate::status::Status;
 use crate::sweeping::sweep;
 use dix_base::{Failed, Sink, Source, Store};
-use lab_words::{Command, command_of};
+use crate::{Command, command_of};
 use report_text::write_out;
 use rig_api::Rig;
 use std::alloc::Global;

@@ -1,5 +1,5 @@
 use Rattle.std.proofs.Common.{Some, ap, sym, ◌∙◌}
-use Rattle.lab_words.specs.declared.command.Command.{Command}
+use Rattle.lab_run.specs.declared.command.Command.{Command}
 use Rattle.lab_run.specs.Verdict.{Helped, Versioned}
 use Rattle.lab_run.proofs.Carrying.{carried}
 use Rattle.lab_run.proofs.Endings.{no_command, without_image}

@@ -3,12 +3,12 @@ use Rattle.std.specs.Str.{bytes_eq}
 use Rattle.target_answer.specs.declared.units.UnitSpec.{UnitSpec}
 use Rattle.unit_words.specs.Words.{is_name, laid_out, units_in}
 use Rattle.script_words.specs.Hexes.{byte_in}
-use Rattle.lab_words.specs.Layouts.{layout_in}
-use Rattle.lab_words.specs.Places.{place_in}
-use Rattle.lab_words.specs.declared.command.Command.{Command}
-use Rattle.lab_words.specs.declared.command.Command.TheVariants.{Help, Version, ShowUnits, ShowBlocks, Diff, Export, Import, Vectors, Judge, Explain, Sweep}
-use Rattle.lab_words.specs.declared.layout.Layout.{Layout}
-use Rattle.lab_words.specs.declared.place.PlaceWord.{PlaceWord}
+use Rattle.lab_run.specs.Layouts.{layout_in}
+use Rattle.lab_run.specs.Places.{place_in}
+use Rattle.lab_run.specs.declared.command.Command.{Command}
+use Rattle.lab_run.specs.declared.command.Command.TheVariants.{Help, Version, ShowUnits, ShowBlocks, Diff, Export, Import, Vectors, Judge, Explain, Sweep}
+use Rattle.lab_run.specs.declared.layout.Layout.{Layout}
+use Rattle.lab_run.specs.declared.place.PlaceWord.{PlaceWord}
 
 -- The grammar of the program's words. Names of images, numbers and units are those of `dix`.
 

@@ -2,9 +2,9 @@ use Rattle.std.specs.Prelude.{ℕ, List, Option, Some, None}
 use Rattle.script_words.specs.Decimals.{number_in}
 use Rattle.script_words.specs.Cuts.{Cut, cut}
 use Rattle.script_words.specs.Numbers.{number_within}
-use Rattle.lab_words.specs.declared.place.PlaceWord.{PlaceWord}
-use Rattle.lab_words.specs.declared.place.PlaceWord.TheVariants.{Device, Blocks}
-use Rattle.lab_words.specs.declared.TheConstants.{MOST_COUNT}
+use Rattle.lab_run.specs.declared.place.PlaceWord.{PlaceWord}
+use Rattle.lab_run.specs.declared.place.PlaceWord.TheVariants.{Device, Blocks}
+use Rattle.lab_run.specs.declared.TheConstants.{MOST_COUNT}
 
 -- all blocks of a device
 abbrev pub all_of : Option ℕ → Option PlaceWord

@@ -1,7 +1,7 @@
 //! Layouts of a dump.
 
 ghost use Rattle.std.specs.Prelude.{◌≡◌};
-ghost use Rattle.lab_words.specs.Layouts.{layout_in};
+ghost use Rattle.lab_run.specs.Layouts.{layout_in};
 
 /// What a dump has of each block.
 #[derive(Clone, Copy, Debug, PartialEq, Eq)]

@@ -3,7 +3,7 @@
 ghost use Rattle.std.specs.Prelude.{◌≡◌, ◌≤◌, IfSome};
 ghost use Rattle.script_words.specs.Cuts.{cut};
 ghost use Rattle.script_words.specs.Numbers.{number_within};
-ghost use Rattle.lab_words.specs.Places.{behind_device, place_in};
+ghost use Rattle.lab_run.specs.Places.{behind_device, place_in};
 
 use crate::MOST_COUNT;
 use script_words::{number, number_within, split_once};
