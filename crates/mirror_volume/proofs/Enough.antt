@@ -23,8 +23,8 @@ use Rattle.mirror_walk.specs.Mirror.{Mirror as Walk, count_of, done, mirror_open
 use Rattle.mirror_walk.specs.OneGood.{AreBytes, HoldsProper, IsMirrorRun, IsRepaired, ReadsLast, last_of, on_leg}
 use Rattle.mirror_walk.specs.Repair.{WalkedRepair, mirror_repair}
 use Rattle.mirror_walk.specs.declared.marks.Marks.{Marks}
-use Rattle.leg_runs.specs.OnOps.{Sides}
-use Rattle.leg_runs.specs.Standing.{IsMirrorOver, IsRepairedAs, StandsAt, half_of, mirror_setting, walked}
+use Rattle.mirror_volume.specs.OnOps.{Sides}
+use Rattle.mirror_volume.specs.Standing.{IsMirrorOver, IsRepairedAs, StandsAt, half_of, mirror_setting, walked}
 use Rattle.mirror_volume.specs.Enough.{AllReadLast, HasReadLast, WasEnough, opening_over}
 use Rattle.mirror_volume.specs.Premises.{HoldsBytes, IsOneGoodRun}
 use Rattle.mirror_volume.proofs.Premises.{mirror-run}

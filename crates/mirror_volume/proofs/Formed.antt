@@ -26,8 +26,8 @@ use Rattle.mirror_premises.specs.Passed.{supplies_none}
 use Rattle.mirror_walk.specs.OneGood.{AreBytes, OneGood, script_asks}
 use Rattle.mirror_premises.specs.Forms.{is_good_on_legs, spares_other_leg}
 use Rattle.mirror_premises.specs.FormedMirror.{AllPutBytes, HasFormedLegs, HasStillLegs, PutsBytes, ServesLast}
-use Rattle.leg_runs.proofs.Ground.{fits, legs, made-over, sizes}
-use Rattle.leg_runs.specs.Standing.{IsMirrorOver, IsRepairedAs, half_of, mirror_setting}
+use Rattle.mirror_volume.proofs.Ground.{fits, legs, made-over, sizes}
+use Rattle.mirror_volume.specs.Standing.{IsMirrorOver, IsRepairedAs, half_of, mirror_setting}
 use Rattle.mirror_volume.specs.Enough.{AllReadLast, WasEnough, opening_over}
 use Rattle.mirror_volume.specs.Premises.{HoldsBytes, IsFormedMirror, IsOneGoodRun, IsStillMirror}
 use Rattle.mirror_volume.proofs.Enough.{enough-by}

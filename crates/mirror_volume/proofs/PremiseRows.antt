@@ -20,9 +20,9 @@ use Rattle.whole_run.specs.UnderMap.{IsClean, home}
 use Rattle.run_laws.specs.ShownRun.{DevicesAreClean}
 use Rattle.script_text.specs.declared.script.Script.{Script}
 use Rattle.script_stack.specs.Causes.{table_of}
-use Rattle.mirror_legs.specs.Passed.{mirror_fault}
+use Rattle.mirror_volume.specs.LegsPassed.{mirror_fault}
 use Rattle.mirror_walk.specs.OneGood.{HasGoodLeg, IsUnnamed}
-use Rattle.leg_runs.specs.Standing.{half_of, mirror_setting}
+use Rattle.mirror_volume.specs.Standing.{half_of, mirror_setting}
 use Rattle.mirror_volume.specs.Rows.{devices, script, still_script, us}
 use Rattle.mirror_volume.specs.Premises.{IsFormedMirror, IsOneGoodRun, IsStillMirror}
 

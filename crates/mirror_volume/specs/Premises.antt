@@ -15,7 +15,7 @@ use Rattle.script_text.specs.declared.script.Script.{Script}
 use Rattle.script_stack.specs.Causes.{table_of}
 use Rattle.mirror_walk.specs.OneGood.{OneGood, script_asks}
 use Rattle.mirror_premises.specs.Forms.{leaves_a_leg, shows_on_legs}
-use Rattle.leg_runs.specs.Standing.{half_of, mirror_setting}
+use Rattle.mirror_volume.specs.Standing.{half_of, mirror_setting}
 use Rattle.mirror_volume.specs.Enough.{opening_over}
 
 -- What is stored is bytes; so is all that a rig tells.
