@@ -3,6 +3,7 @@
 #![tactic(auto)]
 
 mod big;
+mod command;
 mod commands;
 mod mirroring;
 mod modes;
@@ -12,9 +13,8 @@ mod refusal;
 mod running;
 mod scrub_text;
 mod status;
-mod command;
 
+pub use command::{Command, command_of};
 pub use program::{refuse, run};
 pub use refusal::Refusal;
 pub use status::Status;
-pub use command::{Command, command_of};

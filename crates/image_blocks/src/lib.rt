@@ -2,21 +2,21 @@
 //! read and written, each by one call of the store.
 #![tactic(auto)]
 
+ghost use Rattle.std.specs.Prelude.{◌≡◌, ◌/◌, ◌<◌, min};
+
 mod blocks;
+mod fault;
 mod image;
 mod opening;
 mod places;
 mod stretch;
-mod fault;
 
 pub use blocks::{read_blocks, write_blocks};
+pub use fault::WalkFault;
 pub use image::Image;
 pub use opening::open_image;
 pub use places::{behind_of, block_bytes, front_of, part_of, whole_of};
 pub use stretch::{PlaceFault, Stretch};
-ghost use Rattle.std.specs.Prelude.{◌≡◌, ◌/◌, ◌<◌, min};
-
-pub use fault::WalkFault;
 
 /// By one call no more blocks are read or written.
 pub const MOST_AT_ONCE: usize = 65536;

@@ -4,21 +4,21 @@
 
 mod calls;
 mod formatting;
+mod head;
+mod held;
 mod image;
+mod image_head;
+mod kept;
+mod layout_place;
+mod log;
+mod looking;
 mod migrating;
+mod note;
 mod overwriting;
 mod place;
-mod head;
-mod image_head;
-mod looking;
-mod layout_place;
-mod held;
-mod kept;
-mod log;
-mod note;
 
 pub use image::ImageRig;
 pub use image_head::ImageHead;
-pub use looking::look;
 pub use layout_place::{block_place, has_address, place_of};
 pub use log::Log;
+pub use looking::look;

@@ -3,12 +3,15 @@
 //! their runs, and sweeps flips.
 #![tactic(auto)]
 
+mod command;
 mod comparing;
 mod dumps;
 mod explaining;
 mod exporting;
 mod importing;
 mod judging;
+mod layout;
+mod place;
 mod playing;
 mod program;
 mod refusal;
@@ -16,16 +19,13 @@ mod showing;
 mod status;
 mod stopping;
 mod sweeping;
-mod command;
-mod layout;
-mod place;
 
-pub use program::{refuse, run};
-pub use refusal::Refusal;
-pub use status::Status;
 pub use command::{Command, command_of};
 pub use layout::{Layout, layout_of};
 pub use place::{PlaceWord, place_of};
+pub use program::{refuse, run};
+pub use refusal::Refusal;
+pub use status::Status;
 
 /// The most blocks of a place.
 pub const MOST_COUNT: u64 = 65_536;
