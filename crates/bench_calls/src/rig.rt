@@ -7,8 +7,8 @@ ghost use Rattle.test_answers.specs.Answering.{is_count, ready_of, size_of, stan
 
 use dix_base::Failed;
 use fault_schedule::{FaultList, Label, Tamper};
-use rig_api::{Change, Outcome, Record, Rig, RigFault, UnitSpec};
 use image_rig::Log;
+use rig_api::{Change, Outcome, Record, Rig, RigFault, UnitSpec};
 use std::alloc::{AllocError, Global};
 
 /// Eight devices: 0 to 3 have blocks of 512 bytes and the types 0 to 3, 4 to 7 the same with blocks of 4,096 bytes.

@@ -6,11 +6,11 @@ ghost use Rattle.image_rig.specs.Logs.{logged, room_in};
 ghost use Rattle.image_rig.specs.Heads.{called, head_in};
 ghost use Rattle.image_rig.specs.Told.{laid_of, ready_of, standing_of, units_of_image};
 
-use crate::{ImageHead, ImageRig, Log, look};
 use crate::formatting::append_formatted;
 use crate::migrating::migrate_head;
 use crate::overwriting::change_block;
 use crate::place::{greatest_size, logical};
+use crate::{ImageHead, ImageRig, Log, look};
 use arrayvec::ArrayVec;
 use dix_base::{Failed, Store, StoreFault};
 use fault_schedule::{FaultList, Label, Tamper};

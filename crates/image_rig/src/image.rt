@@ -4,10 +4,10 @@ ghost use Rattle.std.specs.Prelude.{◌≡◌, ◌<◌, List, ℕ, length, Some,
 ghost use Rattle.rig_api.specs.Head.{head_fault, head_of, units_of};
 ghost use Rattle.image_rig.specs.Heads.{head_in};
 
+use crate::{ImageHead, Log};
 use arrayvec::ArrayVec;
 use dix_base::Store;
 use fault_schedule::Tamper;
-use crate::{ImageHead, Log};
 use target_answer::UnitSpec;
 
 /// A rig over an image in a store. Once an image is opened, each of its units is a device.

@@ -8,8 +8,8 @@ ghost use Rattle.rig_api.specs.Telling.{IsMigrated, KeepsBlocks, KeepsUnits, mig
 ghost use Rattle.image_rig.specs.Heads.{head_in};
 ghost use Rattle.target_answer.specs.Image.{migrated};
 
-use dix_base::{Failed, Store};
 use crate::ImageHead;
+use dix_base::{Failed, Store};
 use target_answer::{UnitSpec, Version, header};
 
 /// Writes the header of version 2 that tells these units.

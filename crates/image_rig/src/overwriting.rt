@@ -9,10 +9,10 @@ ghost use Rattle.image_rig.specs.Places.{can_change_in};
 ghost use Rattle.rig_api.specs.Telling.{source_of};
 ghost use Rattle.target_answer.specs.Headers.{image_size, is_layout};
 
+use crate::block_place;
 use crate::place::{can_change, source_place};
 use dix_base::{Failed, Store};
 use fault_schedule::xor_into;
-use crate::block_place;
 use rig_api::{Change, UnitSpec};
 use target_answer::{MOST_FRAME, stored_size};
 

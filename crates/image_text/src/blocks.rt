@@ -11,7 +11,9 @@ ghost use Rattle.target_answer.specs.declared.TheConstants.{MOST_FRAME};
 
 use crate::{write_blocks, write_first, write_last};
 use dix_base::{Failed, Sink, Store};
-use image_blocks::{Image, Stretch, WalkFault, behind_of, block_bytes, blocks_in, front_of, read_blocks};
+use image_blocks::{
+    Image, Stretch, WalkFault, behind_of, block_bytes, blocks_in, front_of, read_blocks,
+};
 
 /// Reads the blocks of a stretch into `into`, which has just their length, and writes their lines.
 fn show_piece<S: Store, O: Sink>(

@@ -14,7 +14,9 @@ ghost use Rattle.target_answer.specs.declared.TheConstants.{MOST_FRAME};
 
 use crate::layout::{Layout, stored_len};
 use dix_base::{Failed, Sink, Store};
-use image_blocks::{Image, Stretch, WalkFault, behind_of, block_bytes, blocks_in, front_of, read_blocks};
+use image_blocks::{
+    Image, Stretch, WalkFault, behind_of, block_bytes, blocks_in, front_of, read_blocks,
+};
 use report_text::write_all;
 use target_answer::UnitSpec;
 

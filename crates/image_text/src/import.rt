@@ -15,7 +15,9 @@ use crate::fault::ImportFault;
 use crate::layout::{Layout, piece_len};
 use crate::pieces::{fill, put_pieces};
 use dix_base::{Failed, Source, Store};
-use image_blocks::{Image, Stretch, behind_of, block_bytes, blocks_in, front_of, read_blocks, write_blocks};
+use image_blocks::{
+    Image, Stretch, behind_of, block_bytes, blocks_in, front_of, read_blocks, write_blocks,
+};
 
 /// Reads the blocks of a stretch into `frames`, which has just their length, where the pieces are tuples.
 fn read_own<S: Store>(

@@ -10,6 +10,7 @@ ghost use Rattle.lab_run.specs.Calls.{on_both, second_in};
 ghost use Rattle.lab_run.specs.Verdict.{Ended, compared_status};
 ghost use Rattle.rig_api.specs.State.{RigState};
 
+use crate::PlaceWord;
 use crate::program::{refuse, status_for};
 use crate::refusal::Refusal;
 use crate::showing::stretch_of;
@@ -17,7 +18,6 @@ use crate::status::Status;
 use dix_base::{Sink, Store};
 use image_blocks::{Image, Stretch, open_image};
 use image_text::{DiffFault, diff_blocks};
-use crate::PlaceWord;
 use std::alloc::Global;
 use unit_words::image_of;
 

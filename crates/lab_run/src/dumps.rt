@@ -8,11 +8,11 @@ ghost use Rattle.lab_run.specs.Calls.{laid_as};
 ghost use Rattle.lab_run.specs.Texts.{imported_text};
 ghost use Rattle.lab_run.specs.Verdict.{dumped_status, halted};
 
+use crate::Layout;
 use crate::refusal::Refusal;
 use crate::status::Status;
 use image_blocks::{Image, Stretch, WalkFault};
 use image_text::{ImportFault, fits};
-use crate::Layout;
 use report_text::{Line, add, add_number};
 
 /// The layout of the words, as that of a dump.

@@ -14,10 +14,10 @@ use crate::program::refuse;
 use crate::refusal::Refusal;
 use crate::showing::{ROOM, stretch_of};
 use crate::status::Status;
+use crate::{Layout, PlaceWord};
 use dix_base::{Sink, Store};
 use image_blocks::open_image;
 use image_text::export_blocks;
-use crate::{Layout, PlaceWord};
 use std::alloc::Global;
 use unit_words::image_of;
 

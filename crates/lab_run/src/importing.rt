@@ -14,10 +14,10 @@ use crate::program::{finish, refuse};
 use crate::refusal::Refusal;
 use crate::showing::stretch_of;
 use crate::status::Status;
+use crate::{Layout, PlaceWord};
 use dix_base::{Sink, Source, Store};
 use image_blocks::open_image;
 use image_text::import_blocks;
-use crate::{Layout, PlaceWord};
 use std::alloc::Global;
 use unit_words::image_of;
 

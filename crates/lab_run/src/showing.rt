@@ -12,12 +12,12 @@ ghost use Rattle.lab_run.specs.Calls.{on_first, stretch_in};
 ghost use Rattle.lab_run.specs.Verdict.{Ended, Written, shown_status};
 ghost use Rattle.rig_api.specs.State.{RigState};
 
+use crate::PlaceWord;
 use crate::program::{refuse, status_for};
 use crate::refusal::Refusal;
 use crate::status::Status;
 use dix_base::{Failed, Sink, Store};
 use image_blocks::{Image, PlaceFault, Stretch, WalkFault, open_image, part_of, whole_of};
-use crate::PlaceWord;
 use std::alloc::Global;
 use unit_words::image_of;
 

@@ -18,12 +18,12 @@ ghost use Rattle.pi_tuple.specs.declared.TheConstants.{TUPLE};
 ghost use Rattle.page_pool.specs.declared.TheConstants.{PAGE};
 
 use crate::replies::found_last;
-use bio_core::Why;
 use crate::{
     Piece, a_mirror_has_what_its_legs_ask, a_stack_takes_a_read_with_tuples_on_a_leg,
     a_stack_takes_a_request_on_a_leg, page_segs, pages_for, read_pi_script, read_script,
     write_script,
 };
+use bio_core::Why;
 use page_pool::PagePool;
 use rig_api::Rig;
 use script_stack::run_bound;

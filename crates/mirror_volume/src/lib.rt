@@ -32,4 +32,6 @@ pub use legs_laws::{
 pub use mirror::{Mirror, Repair};
 pub use own::{page_segs, pages_for, read_pi_script, read_script, write_script};
 pub use piece::Piece;
-pub use runs_laws::{a_repair_of_a_mirror_is_that_of_its_walk, an_op_of_a_mirror_goes_on_in_its_walk};
+pub use runs_laws::{
+    a_repair_of_a_mirror_is_that_of_its_walk, an_op_of_a_mirror_goes_on_in_its_walk,
+};

@@ -14,7 +14,9 @@ use crate::marks::FRESH;
 use crate::ops::do_op;
 pub use crate::repair::Repair;
 use crate::repair::{STRETCH, repair_stretch};
-use crate::{Piece, a_repair_of_a_mirror_is_that_of_its_walk, an_op_of_a_mirror_goes_on_in_its_walk};
+use crate::{
+    Piece, a_repair_of_a_mirror_is_that_of_its_walk, an_op_of_a_mirror_goes_on_in_its_walk,
+};
 use mirror_walk::Marks;
 use page_pool::PagePool;
 use rig_api::Rig;

@@ -7,10 +7,10 @@ ghost use Rattle.mirror_volume.specs.Running.{CanRun, HasRunOnLegs};
 ghost use Rattle.mirror_volume.specs.Inner.{read_script};
 ghost use Rattle.mirror_volume.specs.Asked.{AreOf, IsInside, IsReadOf, ReadOnBoth, bytes_after, first_listed, found_after, fresh_on0, last_listed, rest_wanted, stretches};
 
+use crate::Piece;
 use crate::legs::{Plan, read_piece};
 use crate::stretches::stretches_of;
 use bio_core::Why;
-use crate::Piece;
 use mirror_walk::Marks;
 use rig_api::Rig;
 use std::alloc::{AllocError, Global};

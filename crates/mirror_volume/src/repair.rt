@@ -11,11 +11,11 @@ ghost use Rattle.mirror_volume.specs.Asked.{AreOf, IsInside, stretches};
 ghost use Rattle.mirror_volume.specs.Helds.{AreHeld, IsAfter, IsHeldByLeg, IsSeen, goods_in, so_far};
 ghost use Rattle.mirror_volume.specs.Mending.{IsRepairOf, MendsBy, StretchBy, delivered, fresh_on1, looked, need_by, needs_by};
 
+use crate::Piece;
 use crate::legs::{Plan, read_pi_piece, write_piece};
 use crate::reading::fresh;
 use crate::stretches::stretches_of;
 use bio_core::Why;
-use crate::Piece;
 use mirror_walk::Marks;
 use pi_tuple::TUPLE;
 use rig_api::Rig;

@@ -5,10 +5,10 @@ ghost use Rattle.mirror_volume.specs.Plans.{IsPieceOf};
 ghost use Rattle.mirror_volume.specs.Running.{CanRun, HasRunOnLegs};
 ghost use Rattle.mirror_volume.specs.OnOps.{IsWriteOf, WroteBy, whole_request};
 
+use crate::Piece;
 use crate::legs::{Plan, write_piece};
 use crate::marks::mark;
 use crate::replies::{list_by_both, request_reply};
-use crate::Piece;
 use mirror_walk::Marks;
 use rig_api::Rig;
 use stack_ops::Reply;

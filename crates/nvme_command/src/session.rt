@@ -8,8 +8,8 @@ ghost use Rattle.nvme_command.specs.Fits.{command_of};
 ghost use Rattle.nvme_command.specs.Replies.{reply_of};
 
 use crate::text::{add_reply, is_success};
-use nvme_front::{Completion, NvmCommand, NvmFront};
 use crate::{NvmLine, NvmReply, do_command};
+use nvme_front::{Completion, NvmCommand, NvmFront};
 use rig_api::Rig;
 use std::alloc::{AllocError, Global};
 

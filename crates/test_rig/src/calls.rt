@@ -12,8 +12,8 @@ use crate::answers::{Answer, kept_outcome, send};
 use crate::scripted::ScriptedRig;
 use dix_base::Failed;
 use fault_schedule::{FaultList, Label};
-use rig_api::{Change, Outcome, Record, Rig, RigFault, UnitSpec};
 use image_rig::Log;
+use rig_api::{Change, Outcome, Record, Rig, RigFault, UnitSpec};
 use std::alloc::{AllocError, Global};
 
 /// The greatest block size of a device.
