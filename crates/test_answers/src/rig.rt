@@ -6,9 +6,10 @@ ghost use Rattle.rig_api.specs.Log.{HasRoom, has_key};
 ghost use Rattle.rig_api.specs.Telling.{greatest_size};
 ghost use Rattle.test_answers.specs.Answering.{IsFilled, entries, few_of, is_count, is_keyed, keyed_of, ready_of, room_of, size_of, spare, standing_of};
 
+use cdb_codec::Cdb;
 use dix_base::Failed;
 use fault_schedule::{FaultList, Label, Tamper};
-use rig_api::{Change, Outcome, Record, Rig, RigFault, UnitSpec, kept_labels, moved_frames};
+use rig_api::{Change, Exchanged, Outcome, Record, Rig, RigFault, UnitSpec};
 use std::alloc::{AllocError, Global};
 
 /// The most blocks of its command.
@@ -215,9 +216,18 @@ impl Rig for AnswerRig {
         into: &mut [u8],
     ) -> Outcome {
         copy_front(into, &self.frames);
-        let kept = kept_labels(cdb, self.outcome, labels);
-        let moved = moved_frames(self.size_of(dev), cdb, self.outcome, out, into);
-        self.note(dev, cdb, kept, moved);
+        let exchanged = Exchanged {
+            dev,
+            size: self.size_of(dev),
+            cdb,
+            command: Cdb::decode(cdb),
+            labels,
+            outcome: self.outcome,
+            out,
+            into,
+        };
+        let kept = exchanged.kept();
+        self.note(dev, cdb, kept.labels, kept.moved);
         self.outcome
     }
 }
