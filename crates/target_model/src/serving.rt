@@ -197,7 +197,8 @@ pub fn serve_command<S: Store>(
 ) -> Outcome
     requires some { 1 ≤ unit.now.blocks }
     requires unit { IsUnit unit.now (S.state store.old).length }
-    ensures told { (cdb : List ℕ) → command ≡ decoded cdb → ServedOn unit.now (λ found. target_answer found tamper.now cdb labels.now out.now (length into.old)) (S.state store.old) (S.state store.new) result into.old into.new }
+    ensures told { (cdb : List ℕ) → command ≡ decoded cdb → ServedOn unit.now (λ found. target_answer found tamper.now cdb labels.now out.now (length into.old))
+        (S.state store.old) (S.state store.new) result into.old into.new }
     ensures medium { IsMedium result → Rose (S.state store.old).faults (S.state store.new).faults }
     ensures key { has_key result.sense ≡ true }
     ensures stays { WasWritten (S.state store.old) (S.state store.new) }
