@@ -163,6 +163,7 @@ pub fn export_blocks<S: Store, O: Sink>(
         (S.state store.old).faults (S.state store.new).faults (O.faults out.old) (O.faults out.new) (O.taken out.old) (O.taken out.new) }
     ensures store { WasRead (S.state store.old) (S.state store.new) }
     ensures sinks { O.faults out.old ≤ O.faults out.new }
+    ensures handed { OnOk result (O.passed out.new ≡ O.taken out.new) }
 {
     let ended = export_all(store, image, place, layout, room, out);
     match out.flush() {

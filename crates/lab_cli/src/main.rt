@@ -2,12 +2,11 @@
 //! judges scripts.
 #![tactic(auto)]
 
-use dix_base::{FileStore, StdinSource, StdoutSink};
+use dix_base::{FileStore, HeldStreams, StdinSource, StdoutSink};
 use image_rig::ImageRig;
 use lab_run::{Refusal, refuse, run};
 use std::process::ExitCode;
 use std::{env, fs, io};
-use wide_stdout::WideStdout;
 
 /// The words that the program was called with, without its own name.
 fn words_of(rt: &HostRuntime) -> io::Result<Vec<String>> {
@@ -34,7 +33,7 @@ fn main(rt: HostRuntime) -> io::Result<ExitCode> {
     let mut rig = ImageRig::new(rt.alloc(), FileStore::new(rt.clone()?));
     let mut first = FileStore::new(rt.clone()?);
     let mut second = FileStore::new(rt.clone()?);
-    let mut out = WideStdout::new(StdoutSink::new(rt.clone()?), rt.stdout());
+    let mut out = StdoutSink::new(rt.clone()?);
     let status = match words_of(&rt) {
         Ok(words) => run(
             rt.alloc(),
