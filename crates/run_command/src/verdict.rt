@@ -12,9 +12,6 @@ use call_refusal::Refusal;
 use dix_base::Source;
 use image_commands::told_devices;
 use rig_api::Rig;
-use stack_walk_laws::{
-    a_stack_reads_the_last_write_or_fails_at_the_medium, a_stack_writes_or_fails_at_the_medium,
-};
 use run_laws::a_read_is_the_last_write_or_names_the_first_layer;
 use script_form_laws::{a_script_is_shown_by_its_form, a_script_supplies_no_escape_by_its_form};
 use script_stack::{
@@ -24,6 +21,9 @@ use script_stack::{
 use script_text::Script;
 use stack_core::{Stack, a_finished_stack_has_sent, a_finished_stack_names_the_medium_seldom};
 use stack_ops::Reply;
+use stack_walk_laws::{
+    a_stack_reads_the_last_write_or_fails_at_the_medium, a_stack_writes_or_fails_at_the_medium,
+};
 use std::alloc::Global;
 use volume_table::{DeviceInfo, VolumeTable};
 use walk_laws::a_calm_walk_is_a_plain_map;
