@@ -17,7 +17,7 @@ pub gather_bio-at-requires-clause-can : goal.gather_bio-at-requires-clause-can
 gather_bio-at-requires-clause-can c =
     let k = (All-get_or (IsBio c.args.self.now c.args.pool.now c.requires.group.0 c.args.ios.now (first_of c.args.req.now).dev (first_of c.args.req.now).dir) c.args.req.now c.loop-bio.bio-index no_bio (omega arith) c.requires.group.1.bios) in
     let q : c.index-ios-bio.result ≡ request_of c.args.ios.now (get_or c.args.req.now c.loop-bio.bio-index no_bio).op = c.index-ios-bio.is ∙ get_or_default c.args.ios.now ((get_or c.args.req.now c.loop-bio.bio-index no_bio).op - 1) c.index-ios-bio.result no_request (let x = k.op in let y = k.there in omega arith) in
-    can-go c.args.self.now c.args.pool.now c.args.pool.now c.requires.group.0 c.args.ios.now (first_of c.args.req.now).dev (first_of c.args.req.now).dir c.index-ios-bio.result (get_or c.args.req.now c.loop-bio.bio-index no_bio) k q refl
+    can-go c.args.self.now c.args.pool.now c.args.pool.now c.requires.group.0 c.args.ios.now (first_of c.args.req.now).dev (first_of c.args.req.now).dir c.index-ios-bio.result (get_or c.args.req.now c.loop-bio.bio-index no_bio) k q refl c.requires.whole
 
 pub gather_bio-at-requires-clause-room : goal.gather_bio-at-requires-clause-room
 gather_bio-at-requires-clause-room c =
