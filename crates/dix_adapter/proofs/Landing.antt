@@ -3,7 +3,7 @@ use Rattle.std.proofs.Common.{append_assoc, ◌≡◌, ◌<◌, ◌≤◌, ℕ, 
 use Rattle.std.specs.Prelude.{if◌then◌else◌, ◌&&◌, not}
 use Rattle.pi_tuple.specs.Finds.{is_zero}
 use Rattle.block_path.specs.Routes.{wire_size}
-use Rattle.std.proofs.lemmas.List.{append-nil, drop_at, length-drop, length-map, length-take, map-append, take-append-drop}
+use Rattle.std.proofs.lemmas.List.{append-nil, drop_at, get_or_default, length-drop, length-map, length-take, map-append, take-append-drop}
 use Rattle.std.proofs.Math.Nat.{mul-le-mul_left, mul-le-mul_right}
 use Rattle.std.proofs.lemmas.List.Elements.{All-get_or}
 use Rattle.page_pool.specs.Cells.{scatter}
@@ -15,7 +15,7 @@ use Rattle.bio_core.specs.declared.bio.Bio.{Bio}
 use Rattle.bio_core.specs.declared.fate.Fate.{Fate}
 use Rattle.bio_core.specs.Bios.{Block, blocks_from, blocks_of}
 use Rattle.dix_adapter.specs.declared.adapter.Adapter.{Adapter}
-use Rattle.dix_adapter.specs.Groups.{IsBio, IsCarriedGroup, block_len, blocks_in, data_cells, first_of, frame_cells, no_bio, request_of, route_by, size, tuple_cells}
+use Rattle.dix_adapter.specs.Groups.{IsBio, IsCarriedGroup, block_len, blocks_in, data_cells, first_of, frame_cells, no_bio, no_request, request_of, route_by, size, tuple_cells}
 use Rattle.dix_adapter.specs.Carried.{arrives, carried, comes_by, comes_first, fates_in, frame_len, land, landed, lands_first}
 use Rattle.dix_adapter.proofs.Blocks.{bios-more, blocks-more, length-blocks, length-in}
 
@@ -232,6 +232,22 @@ group-width a pool bytes ios req g =
     let k = All-get_or (IsBio a pool bytes ios (first_of req).dev (first_of req).dir) req 0 no_bio (let x = g.some in omega arith) g.bios in
     ap (λ n. if a.dif && not (is_zero a.ty) then n + 8 else n) k.request.size
 
+-- a bio of a group, its request, and the bytes of its frames
+pub bio-at : (a : Adapter) (pool : List (List ℕ)) (bytes : ℕ) (ios : List Io) (req : List Bio) (i : ℕ) → IsCarriedGroup a pool bytes ios req → i < length req → IsBio a pool bytes ios (first_of req).dev (first_of req).dir (get_or req i no_bio)
+bio-at a pool bytes ios req i g h = All-get_or (IsBio a pool bytes ios (first_of req).dev (first_of req).dir) req i no_bio h g.bios
+
+pub request-at : (a : Adapter) (pool : List (List ℕ)) (bytes : ℕ) (ios : List Io) (req : List Bio) (i : ℕ) (io : Io) → IsCarriedGroup a pool bytes ios req → i < length req → io ≡ get_or ios ((get_or req i no_bio).op - 1) io → io ≡ request_of ios (get_or req i no_bio).op
+request-at a pool bytes ios req i io g h e =
+    let k = bio-at a pool bytes ios req i g h in
+    e ∙ get_or_default ios ((get_or req i no_bio).op - 1) io no_request (let x = k.op in let y = k.there in omega arith)
+
+pub size-at : (a : Adapter) (pool : List (List ℕ)) (bytes : ℕ) (ios : List Io) (req : List Bio) (i : ℕ) (io : Io) → IsCarriedGroup a pool bytes ios req → i < length req → io ≡ get_or ios ((get_or req i no_bio).op - 1) io → block_size io ≡ bytes
+size-at a pool bytes ios req i io g h e = ap block_size (request-at a pool bytes ios req i io g h e) ∙ (bio-at a pool bytes ios req i g h).request.size
+
+pub width-at : (a : Adapter) (pool : List (List ℕ)) (bytes : ℕ) (ios : List Io) (req : List Bio) (i : ℕ) (io : Io) → IsCarriedGroup a pool bytes ios req → i < length req → io ≡ get_or ios ((get_or req i no_bio).op - 1) io →
+    wire_size (route_by a io (get_or req i no_bio) 0) ≡ frame_len a ios req
+width-at a pool bytes ios req i io g h e = one-width a (get_or req i no_bio) io bytes (size-at a pool bytes ios req i io g h e) ∙ sym (group-width a pool bytes ios req g)
+
 pub place-more : (done left n w at end : ℕ) → n ≤ left → left ≤ done → at ≡ (done - left) * w → end ≡ at + n * w → end ≡ (done - (left - n)) * w
 place-more done left n w at end h l p e =
     let z : (done - left) + n ≡ done - (left - n) = omega arith in
@@ -242,6 +258,15 @@ place-more done left n w at end h l p e =
 pub ahead-behind : (at n : ℕ) (X back frames first : List ℕ) → length X ≡ at → drop n back ≡ drop n (drop at frames) → drop at frames ≡ drop at first → drop (at + n) (X ++ back) ≡ drop (at + n) first
 ahead-behind at n X back frames first l b d = drop-sum at n (X ++ back) ∙ ap (drop n) (drop_at X back at l) ∙ b ∙ ap (drop n) d ∙ sym (drop-sum at n first)
 
+take-front : (w : ℕ) (X Y : List ℕ) → w ≤ length X → take w (X ++ Y) ≡ take w X
+take-front zero X Y h = refl
+take-front (suc w) [] Y h = absurd (omega arith)
+take-front (suc w) (x ∷ X) Y h = ap (λ z. x ∷ z) (take-front w X Y (omega arith))
+
+-- the frame in the middle
+pub frame-front : (at w : ℕ) (X F Y : List ℕ) → length X ≡ at → w ≤ length F → take w (drop at (X ++ (F ++ Y))) ≡ take w F
+frame-front at w X F Y l h = ap (take w) (drop_at X (F ++ Y) at l) ∙ take-front w F Y h
+
 -- only the frames themselves count
 pub frames-front : (w n : ℕ) (X Y : List ℕ) → n * w ≤ length X → frames_of w n (X ++ Y) ≡ frames_of w n X
 frames-front w zero X Y h = refl
@@ -249,12 +274,7 @@ frames-front w (suc n) X Y h =
     let l : w ≤ length X = omega arith in
     let d = length-drop w X in
     let r = frames-front w n (drop w X) Y (omega arith) in
-    ap (λ z. z ∷ frames_of w n (drop w (X ++ Y))) (take-front w X l) ∙ ap (λ z. take w X ∷ frames_of w n z) (drop-front w X Y l) ∙ ap (λ z. take w X ∷ z) r
-  where
-    take-front : (w : ℕ) (X : List ℕ) → w ≤ length X → take w (X ++ Y) ≡ take w X
-    take-front zero X h = refl
-    take-front (suc w) [] h = absurd (omega arith)
-    take-front (suc w) (x ∷ X) h = ap (λ z. x ∷ z) (take-front w X (omega arith))
+    ap (λ z. z ∷ frames_of w n (drop w (X ++ Y))) (take-front w X Y l) ∙ ap (λ z. take w X ∷ frames_of w n z) (drop-front w X Y l) ∙ ap (λ z. take w X ∷ z) r
 
 pub frames-taken : (w n len : ℕ) (X : List ℕ) → n * w ≤ len → len ≤ length X → frames_of w n X ≡ frames_of w n (take len X)
 frames-taken w n len X h l = ap (frames_of w n) (sym (take-append-drop len X)) ∙ frames-front w n (take len X) (drop len X) (let e = length-take len X in omega arith)

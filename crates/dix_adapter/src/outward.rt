@@ -129,7 +129,7 @@ impl Adapter {
         at
     }
 
-    /// Gathers the next block into the frames, from a place on, and answers what was found in it.
+    /// Gathers the next block into the frames, from a place on, and judges it.
     fn gather_next(
         &self,
         pool: &PagePool,
@@ -144,25 +144,9 @@ impl Adapter {
         ensures long { length frames.new ≡ length frames.old }
         ensures past { WentPast walks.old walks.new }
     {
-        let (_, rest) = frames.split_at_mut(at);
-        let (frame, _) = rest.split_at_mut(walks.route.size as usize + TUPLE);
-        self.gather_block(pool, walks, frame)
-    }
-
-    /// Gathers the next block, and judges it.
-    fn gather_block(
-        &self,
-        pool: &PagePool,
-        walks: &mut Walks<'_>,
-        frame: &mut [u8],
-    ) -> Option<Check>
-        requires block { HasBlock pool.now walks.old }
-        requires long { length frame.old ≡ walks.old.route.size + TUPLE }
-        ensures judged { unless result (take (wire_size walks.old.route) frame.new) ≡ to_wire self.now.tamper walks.old.route (gather 0 (cells_ahead walks.old) (flat pool.now)) }
-        ensures long { length frame.new ≡ length frame.old }
-        ensures past { WentPast walks.old walks.new }
-    {
         let route = walks.route;
+        let (_, rest) = frames.split_at_mut(at);
+        let (frame, _) = rest.split_at_mut(route.size as usize + TUPLE);
         walks.read(pool, frame);
         route.to_wire(&self.tamper, frame)
     }
