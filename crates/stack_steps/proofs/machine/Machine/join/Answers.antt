@@ -1,7 +1,7 @@
 -- What is asked of the groups that are joined.
 use Rattle.std.proofs.Common.{ℕ, refl, ◌+◌, arith}
 use Rattle.merge_queue.specs.Groups.{joined}
-use Rattle.stack_view.specs.Plan.{Plan}
+use Rattle.stack_laws.specs.Plan.{Plan}
 use Rattle.stack_steps.specs.declared.choice.Choice.TheVariants.{Join}
 use Rattle.stack_steps.specs.declared.machine.Machine.{Machine}
 use Rattle.stack_steps.specs.Does.{Ready}
