@@ -13,6 +13,7 @@ use Rattle.stack_laws.specs.Sound.{Settles}
 use Rattle.stack_steps.specs.declared.choice.Choice.{Choice}
 use Rattle.stack_steps.specs.declared.choice.Choice.TheVariants.{Complete, Cut, Send}
 use Rattle.stack_steps.specs.declared.machine.Machine.{Machine}
+use Rattle.stack_steps.specs.Fine.{Fine}
 use Rattle.stack_steps.specs.Shows.{Shows, Means, op_of}
 
 -- the machine shows this view, but that its queues hold these groups, and has room for what goes back
@@ -44,6 +45,14 @@ pub record Ready (p : Plan) (s : Machine) (c : Choice) : Type 0 where
   pub holds : Holds p s view
   pub can : can p view step ≡ true
   pub means : Means p view c step
+
+-- so by some plan
+abbrev pub IsReady : Machine → Choice → Type 0
+IsReady s c = (p : Plan) × (Fine p × Ready p s c)
+
+-- by some plan whose requests have at most so many blocks
+abbrev pub IsReadyFor : ℕ → Machine → Choice → Type 0
+IsReadyFor room s c = (p : Plan) × ((blocks_of_requests p.requests ≤ room) × Ready p s c)
 
 -- the step that the choice means is done, whichever view the machine shows
 abbrev pub Does : Plan → Machine → Choice → ℕ → Machine → Type 0
@@ -77,6 +86,10 @@ pub record Sending (p : Plan) (s : Machine) (d : ℕ) (group : List Bio) (fates 
   pub taken : TakenFrom p view d place s
   pub group_is : group ≡ group_at view d place
   pub settles : Settles group fates
+
+-- by some plan
+abbrev pub IsSending : Machine → ℕ → List Bio → List Fate → Type 0
+IsSending s d group fates = (p : Plan) × (Fine p × Sending p s d group fates)
 
 -- the group is in flight, whichever view it was taken from
 abbrev pub Flies : Plan → Machine → ℕ → List Bio → List Fate → Machine → Type 0

@@ -146,7 +146,6 @@ impl InFlight {
         ensures commands { self.new.commands ≡ self.old.commands ++ record { dev = dev; bios = bios.now; fates = fates.now; completed = false } ∷ [] }
         ensures room { self.new.room ≡ self.old.room }
     {
-        let _room = self.room;
         let first_bio = self.bios.len();
         let first_fate = self.fates.len();
         append(&mut self.bios, bios);

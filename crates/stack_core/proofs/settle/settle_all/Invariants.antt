@@ -11,5 +11,5 @@ invariant-loop-bio l = record {
   starts : l.kept.starts.items ≡ l.initial.kept.starts.items;
   at : l.at ≡ size (take l.bio-index l.bios);
   rest : l.at + size (drop l.bio-index l.bios) ≡ length l.fates;
-  settled : AllSettled l.mode l.ty l.ios l.initial.kept.starts.items l.bios l.fates l.bio-index (record { pages = l.initial.pool; held = l.initial.kept.held.items }) (record { pages = l.pool; held = l.kept.held.items });
+  settled : AllSettled l.how.mode l.how.ty l.ios l.initial.kept.starts.items l.bios l.fates l.bio-index (record { pages = l.initial.pool; held = l.initial.kept.held.items }) (record { pages = l.pool; held = l.kept.held.items });
 }
