@@ -1,5 +1,4 @@
-//! Reads a table of calls on blocks and their tuples from standard input. Prints each row of which something else comes,
-//! with what came, and how many rows there were.
+//! The table of calls on blocks and their tuples.
 #![tactic(auto)]
 
 mod apart;
@@ -12,16 +11,30 @@ mod words;
 
 use pi_blocks::Layout;
 use std::alloc::{AllocError, Global};
-use std::io;
-use test_table::{Judge, Words, read_table};
+use test_table::{Judge, Words};
 
 /// The layout of the rows from here on, as the table tells it.
 #[derive(Drop)]
-struct Rows {
+pub struct Table {
     layout: Layout,
 }
 
-impl Judge for Rows {
+impl Table {
+    /// Of blocks of 512 bytes with their tuples behind, of type 1, which a CRC guards.
+    pub fn new() -> Table {
+        Table {
+            layout: Layout {
+                data_size: 512,
+                meta_size: 8,
+                tuple_at: 0,
+                pi_type: 1,
+                guard: 0,
+            },
+        }
+    }
+}
+
+impl Judge for Table {
     fn set(&mut self, _alloc: Global, line: &str) -> Result<bool, AllocError> {
         let mut words = Words::of(line);
         if words.word() != "layout" {
@@ -60,17 +73,4 @@ impl Judge for Rows {
             _ => String::from_str(alloc, "no call"),
         }
     }
-}
-
-fn main(rt: HostRuntime) -> io::Result<()> {
-    let mut rows = Rows {
-        layout: Layout {
-            data_size: 512,
-            meta_size: 8,
-            tuple_at: 0,
-            pi_type: 1,
-            guard: 0,
-        },
-    };
-    read_table(&rt, &mut rows)
 }

@@ -1,5 +1,4 @@
-//! Reads a table of volumes from standard input: linear and striped extents, tables of both, and stripes over inner
-//! volumes. Prints each row of which something else comes, with what came, and how many rows there were.
+//! The table of volumes: linear and striped extents, tables of both, and stripes over inner volumes.
 #![tactic(auto)]
 
 mod entries;
@@ -9,18 +8,28 @@ mod tables;
 mod trees;
 
 use std::alloc::{AllocError, Global};
-use std::io;
-use test_table::{Judge, cut, read_table};
+use test_table::{Judge, cut};
 
 /// The stripe, the devices and the entries of the rows from here on, as the table tells them.
 #[derive(Drop)]
-struct Rows {
+pub struct Table {
     stripe: String,
     devices: String,
     entries: String,
 }
 
-impl Judge for Rows {
+impl Table {
+    /// Of nothing.
+    pub fn new(alloc: Global) -> Table {
+        Table {
+            stripe: String::new(alloc),
+            devices: String::new(alloc),
+            entries: String::new(alloc),
+        }
+    }
+}
+
+impl Judge for Table {
     fn set(&mut self, alloc: Global, line: &str) -> Result<bool, AllocError> {
         let (word, rest) = cut(line);
         let text = String::from_str(alloc, rest)?;
@@ -48,14 +57,4 @@ impl Judge for Rows {
             _ => String::from_str(alloc, "no call"),
         }
     }
-}
-
-fn main(rt: HostRuntime) -> io::Result<()> {
-    let alloc = rt.alloc();
-    let mut rows = Rows {
-        stripe: String::new(alloc),
-        devices: String::new(alloc),
-        entries: String::new(alloc),
-    };
-    read_table(&rt, &mut rows)
 }

@@ -1,6 +1,5 @@
-//! Reads a table of calls of the lowest crates from standard input: guards, tuples, faults, sense data, command blocks,
-//! blocks on their way through a target, headers of images, and sources, sinks and stores. Prints each row of which
-//! something else comes, with what came, and how many rows there were.
+//! The table of the lowest crates: guards, tuples, faults, sense data, command blocks, blocks on their way through a
+//! target, headers of images, and sources, sinks and stores.
 #![tactic(auto)]
 
 mod commands;
@@ -17,17 +16,26 @@ mod tuples;
 mod walk;
 
 use std::alloc::{AllocError, Global};
-use std::io;
-use test_table::{Judge, cut, read_table};
+use test_table::{Judge, cut};
 
 /// The schedule of faults of the rows from here on, as the table tells it.
 #[derive(Drop)]
-struct Rows {
+pub struct Table {
     rt: HostRuntime,
     schedule: String,
 }
 
-impl Judge for Rows {
+impl Table {
+    /// With no fault.
+    pub fn new(rt: HostRuntime) -> Table {
+        Table {
+            rt,
+            schedule: String::new(rt.alloc()),
+        }
+    }
+}
+
+impl Judge for Table {
     fn set(&mut self, alloc: Global, line: &str) -> Result<bool, AllocError> {
         let (word, rest) = cut(line);
         if word != "schedule" {
@@ -54,12 +62,4 @@ impl Judge for Rows {
             _ => names::none(alloc),
         }
     }
-}
-
-fn main(rt: HostRuntime) -> io::Result<()> {
-    let mut rows = Rows {
-        rt,
-        schedule: String::new(rt.alloc()),
-    };
-    read_table(&rt, &mut rows)
 }
