@@ -1,26 +1,27 @@
-//! What a call of the program comes to.
+//! How a call of a program ends.
 
 ghost use Rattle.std.specs.Prelude.{◌≡◌};
-ghost use Rattle.dix_run.specs.Statuses.{number_of};
+ghost use Rattle.call_verdict.specs.Statuses.{number_of};
 
-/// What a call comes to.
+/// How a call of a program ends.
 #[derive(Clone, Copy, Debug, PartialEq, Eq)]
 pub enum Status {
-    /// The script was run, and every block is good.
+    /// The command was done, and nothing was found: every block is good, or no two differ.
     Whole,
-    /// The script was run, and some block failed.
+    /// The command was done, and some block failed, or something was found.
     SomeBad,
     /// The words are not in the grammar.
     Words,
-    /// The script is not in the language, or may not run over its volume; or a line of NVM commands is at fault.
-    Script,
-    /// The image's head, the answer of one of its devices, or the volume over them is at fault.
+    /// What standard input gives is at fault: a script, in its text or over its volume, a line of commands, or a dump.
+    Input,
+    /// An image is at fault: its head, the answer of one of its devices, or the volume over them; or it hasn't the
+    /// place of the words, or two places can't be compared.
     Image,
-    /// The rig failed as the image was opened.
+    /// The rig failed, or the store of an image.
     RigFault,
     /// Want of memory.
     Memory,
-    /// The source of the script failed.
+    /// The source failed.
     ReadFault,
     /// The sink failed.
     WriteFault,
@@ -35,7 +36,7 @@ impl Status {
             Status::Whole => 0,
             Status::SomeBad => 1,
             Status::Words => 2,
-            Status::Script => 3,
+            Status::Input => 3,
             Status::Image => 4,
             Status::RigFault => 5,
             Status::Memory => 6,
