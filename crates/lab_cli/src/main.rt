@@ -54,6 +54,6 @@ fn main(rt: HostRuntime) -> io::Result<ExitCode> {
 fn refusal_of(error: &io::Error) -> Refusal {
     match error.kind() {
         io::ErrorKind::InvalidData => Refusal::Words,
-        _ => Refusal::Memory,
+        _ => Refusal::MEMORY,
     }
 }
