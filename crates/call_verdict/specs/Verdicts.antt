@@ -63,10 +63,12 @@ pub data Verdict (R Y : Type 0) : Type 0 where
   Refused : R → Verdict R Y
   Done : Y → Verdict R Y
 
+-- the status of a verdict
 abbrev pub verdict_status : (P : Program) → (w : Work P) → Verdict P.Refusal w.Yield → Status
 verdict_status P w (Refused r) = P.status_of r
 verdict_status P w (Done x) = w.status x
 
+-- the text of a verdict
 abbrev pub verdict_text : (P : Program) → (w : Work P) → Verdict P.Refusal w.Yield → List ℕ
 verdict_text P w (Refused r) = P.text_of r
 verdict_text P w (Done x) = w.text x

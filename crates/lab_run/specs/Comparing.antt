@@ -124,6 +124,7 @@ pub record AnswersBoth (one other : PlaceWord) (f : Facts) (s : Status) : Type 0
   pub first : AnswersImage (AreComparable one other) (λ f image. IsBadHead image ⊎ (IsNoPlace one image ⊎ AreOtherPlaces one other f image)) AreCalmBoth f s
   pub second : (image : List ℕ) → f.second.bytes ≡ Some image → IsBadHead image ⊎ IsNoPlace other image → AreCalmBoth f → RefusesImage s
 
+-- its record
 abbrev pub diff_work : (one other : PlaceWord) → Work lab
 diff_work one other = record {
   Yield = Compared;

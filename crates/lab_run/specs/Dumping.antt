@@ -69,12 +69,14 @@ dumped_status (Ok x) = status.Whole
 dumped_status (Err walk.Store) = status.RigFault
 dumped_status (Err walk.Sink) = status.WriteFault
 
+-- Why no block of a place is exported.
 abbrev pub CauseNotExported : PlaceWord → Layout → Refusal → Facts → Type 0
 CauseNotExported place layout (refusal.Stopped s) f = CauseNotOpened s f
 CauseNotExported place layout (refusal.Place fault) f = HasNoFirst place fault f
 CauseNotExported place layout refusal.NoTuples f = HasNoTuples place layout f
 CauseNotExported place layout _ f = ⊥
 
+-- its record
 abbrev pub export_work : PlaceWord → Layout → Work lab
 export_work place layout = record {
   Yield = Blocks;
@@ -156,6 +158,7 @@ pub record AnswersDump (place : PlaceWord) (layout : Layout) (f : Facts) (s : St
   pub image : AnswersImage (IsRightDump place layout) (λ f image. IsNoDump place layout image) IsCalmFirst f s
   pub dump : (image : List ℕ) → f.first.bytes ≡ Some image → IsWrongDump place layout f image → IsCalmFirst f → RefusesInput s
 
+-- its record
 abbrev pub import_work : PlaceWord → Layout → Work lab
 import_work place layout = record {
   Yield = Imported;

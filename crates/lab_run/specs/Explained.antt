@@ -31,6 +31,7 @@ pub data Told : Type 0 where
   Ran : Script → Finished → List LogEntry → Told
   Marked : (said : List ℕ) → Told
 
+-- the status of what is told
 abbrev pub told_status : Told → Status
 told_status (Ran script run log) = done_status (has_bad run.stack.replies.items)
 told_status (Marked said) = status.Input
@@ -62,6 +63,7 @@ ExplainsRun f s =
     (text image : List ℕ) (script : Script) → f.left ≡ Some text → script_in text ≡ Ok script → f.rig.image ≡ Some image → head_fault (head_of image) ≡ None → table_fault script.entries (devices_of image) script.block ≡ None →
     binding_fault script (table_over script.entries (devices_of image)) (devices_of image) ≡ None → Calm f.reads f.reads_after → Calm f.rig.faults f.rig_after.faults → RunsOrWants s
 
+-- its record
 abbrev pub explain_work : Work lab
 explain_work = record {
   Yield = Told;

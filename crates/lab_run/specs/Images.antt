@@ -74,15 +74,19 @@ pub record Finds (result : Result Found Unfound) (place : PlaceWord) (name : Lis
 
 -- ---- of the first image of a call
 
+-- The image of the words was opened, its head is right, and these are its units.
 abbrev pub HasOpened : List UnitSpec → Facts → Type 0
 HasOpened us f = OpenedAs us (image_in f.words) f.first f.first_after
 
+-- It was opened, and has the place.
 abbrev pub HasFirst : List UnitSpec → Stretch → PlaceWord → Facts → Type 0
 HasFirst us at place f = HasPlace us at place (image_in f.words) f.first f.first_after
 
+-- Why it isn't opened.
 abbrev pub CauseNotOpened : Stop → Facts → Type 0
 CauseNotOpened s f = CauseUnopened s (image_in f.words) f.first f.first_after
 
+-- It was opened, and hasn't the place, for this reason.
 abbrev pub HasNoFirst : PlaceWord → PlaceFault → Facts → Type 0
 HasNoFirst place fault f = HasNoPlace place fault (image_in f.words) f.first f.first_after
 

@@ -24,10 +24,12 @@ pub record Judged : Type 0 where
   pub text : List ℕ
   pub reads : Result Script ScriptFault
 
+-- the status of a text that reads so
 abbrev pub judged_status : Result Script ScriptFault → Status
 judged_status (Ok script) = status.Whole
 judged_status (Err bad) = status.Input
 
+-- what is written of it: the counts of a right script, or the text with its first fault marked
 abbrev pub judged_text : (text : List ℕ) → Result Script ScriptFault → List ℕ
 judged_text text (Ok script) = right_text script
 judged_text text (Err bad) = marked_text text bad
@@ -53,6 +55,7 @@ pub record JudgesText (f : Facts) (s : Status) : Type 0 where
   pub wrong : (text : List ℕ) (bad : ScriptFault) → f.left ≡ Some text → script_in text ≡ Err bad → Calm f.reads f.reads_after → RefusesInput s
   pub right : (text : List ℕ) (script : Script) → f.left ≡ Some text → script_in text ≡ Ok script → Calm f.reads f.reads_after → WholeOrWants s
 
+-- its record
 abbrev pub judge_work : Work lab
 judge_work = record {
   Yield = Judged;

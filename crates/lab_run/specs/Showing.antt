@@ -21,10 +21,12 @@ use Rattle.lab_run.specs.declared.refusal.Refusal.TheVariants as refusal
 
 -- ---- show IMAGE: the units of the image were listed, each by the word that makes it
 
+-- Why the units of an image aren't listed.
 abbrev pub CauseNotListed : Refusal → Facts → Type 0
 CauseNotListed (refusal.Stopped s) f = CauseNotOpened s f
 CauseNotListed _ f = ⊥
 
+-- its record
 abbrev pub list_work : Work lab
 list_work = record {
   Yield = List UnitSpec;
@@ -56,11 +58,13 @@ shown_status (Ok bad) = done_status (ltb 0 bad)
 shown_status (Err walk.Store) = status.RigFault
 shown_status (Err walk.Sink) = status.WriteFault
 
+-- Why the blocks of a place aren't told.
 abbrev pub CauseNotShown : PlaceWord → Refusal → Facts → Type 0
 CauseNotShown place (refusal.Stopped s) f = CauseNotOpened s f
 CauseNotShown place (refusal.Place fault) f = HasNoFirst place fault f
 CauseNotShown place _ f = ⊥
 
+-- its record
 abbrev pub show_work : PlaceWord → Work lab
 show_work place = record {
   Yield = Blocks;

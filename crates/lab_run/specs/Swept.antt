@@ -58,6 +58,7 @@ pub record SweepsTexts (units : List UnitSpec) (f : Facts) (s : Status) : Type 0
   pub right : (text : List ℕ) (script : Script) → f.left ≡ Some text → script_in text ≡ Ok script → own_fault script ≡ None → table_fault script.entries (devices_of (formatted units)) script.block ≡ None →
       binding_fault script (table_over script.entries (devices_of (formatted units))) (devices_of (formatted units)) ≡ None → Calm f.reads f.reads_after → RunsOrWants s
 
+-- its record
 abbrev pub sweep_work : (byte : ℕ) → List UnitSpec → Work lab
 sweep_work byte units = record {
   Yield = Sweeping;

@@ -22,6 +22,7 @@ use Rattle.lab_run.specs.declared.usage.TheConstants.{HELP, USAGE}
 abbrev pub help_text : List ℕ
 help_text = HELP.now
 
+-- the text of `--version`
 abbrev pub version_text : List ℕ
 version_text = codes "dixlab 1\n"
 
@@ -57,6 +58,7 @@ of_import halt.Long = refusal.Long
 of_import halt.Store = refusal.Stopped stop.RigFault
 of_import halt.Source = refusal.Stopped stop.ReadFault
 
+-- the status of a refusal
 abbrev pub status_of : Refusal → Status
 status_of refusal.Words = status.Words
 status_of (refusal.Stopped s) = stop_status s

@@ -62,6 +62,7 @@ pub record PlaysTexts (f : Facts) (s : Status) : Type 0 where
   pub script : (text image : List ℕ) (script : Script) → f.left ≡ Some text → is_list (lines_of text) ≡ false → script_in text ≡ Ok script → unplayed script ≡ None → f.rig.image ≡ Some image → head_fault (head_of image) ≡ None →
       table_fault script.entries (devices_of image) script.block ≡ None → binding_fault script (table_over script.entries (devices_of image)) (devices_of image) ≡ None → AreCalmAll f → RunsOrWants s
 
+-- its record
 abbrev pub vectors_work : Work lab
 vectors_work = record {
   Yield = Played × List LogEntry;
