@@ -1,10 +1,13 @@
-//! What a call of a program comes to: its verdict, by the command, with its status, and the text that it writes.
+//! How a program is called, and what a call comes to: its verdict, by the command, with its status, and the text that
+//! it writes.
 #![tactic(auto)]
 
+mod calling;
 mod ending;
 mod reason;
 mod status;
 
+pub use calling::{hold_closed_streams, words_of};
 pub use ending::{finish, refuse, status_for};
 pub use reason::Reason;
 pub use status::Status;
