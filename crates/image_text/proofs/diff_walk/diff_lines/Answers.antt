@@ -3,7 +3,7 @@ use Rattle.image_blocks.specs.Images.{units_open}
 use Rattle.image_text.specs.Compared.{HasCompared, counts, lines_of, places}
 use Rattle.image_text.proofs.Comparing.{at_first, at_last, breaks_off, few_counted, goes_on, passed_on, pieces_compare, room_for}
 use Rattle.dix_base.proofs.Stores.{not_read, read_on}
-use Rattle.image_text.proofs.diff_blocks.diff_lines.Goals as goal
+use Rattle.image_text.proofs.diff_walk.diff_lines.Goals as goal
 
 pub diff_piece-requires-clause-places : goal.diff_piece-requires-clause-places
 diff_piece-requires-clause-places g c =

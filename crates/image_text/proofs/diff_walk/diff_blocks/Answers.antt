@@ -2,7 +2,7 @@ use Rattle.image_blocks.specs.Images.{units_open}
 use Rattle.image_text.specs.Compared.{places, diff_of}
 use Rattle.image_text.proofs.Comparing.{some_ended}
 use Rattle.target_model.proofs.Bytes.{rise}
-use Rattle.image_text.proofs.diff_blocks.diff_blocks.Goals as goal
+use Rattle.image_text.proofs.diff_walk.diff_blocks.Goals as goal
 
 pub returns-in-Err-clause-compared : goal.returns-in-Err-clause-compared
 returns-in-Err-clause-compared g c =

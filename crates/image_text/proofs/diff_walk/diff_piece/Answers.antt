@@ -2,7 +2,7 @@ use Rattle.std.proofs.Common.{refl}
 use Rattle.image_blocks.specs.Images.{units_open}
 use Rattle.image_text.specs.Compared.{lines_of, places}
 use Rattle.image_text.proofs.Comparing.{none_compared}
-use Rattle.image_text.proofs.diff_blocks.diff_piece.Goals as goal
+use Rattle.image_text.proofs.diff_walk.diff_piece.Goals as goal
 
 pub returns-in-Err-clause-compared : goal.returns-in-Err-clause-compared
 returns-in-Err-clause-compared g c =

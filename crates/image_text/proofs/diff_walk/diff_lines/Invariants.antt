@@ -4,7 +4,7 @@ use Rattle.image_blocks.specs.Places.{IsStretch}
 use Rattle.dix_base.specs.Stores.{WasRead}
 use Rattle.image_text.specs.Compared.{places}
 use Rattle.image_text.proofs.Comparing.{SoFar}
-use Rattle.image_text.proofs.diff_blocks.diff_lines.Given as goal
+use Rattle.image_text.proofs.diff_walk.diff_lines.Given as goal
 
 abbrev pub invariant-loop-left : goal.invariant-loop-left
 invariant-loop-left g l = record {

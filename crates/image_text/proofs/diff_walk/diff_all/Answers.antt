@@ -3,7 +3,7 @@ use Rattle.image_blocks.specs.Images.{units_open}
 use Rattle.image_text.specs.Compared.{counts, lines_of, places, diff_of}
 use Rattle.image_text.proofs.Comparing.{first_some, last_some, lines_some, passed_on}
 use Rattle.target_model.proofs.Bytes.{rise}
-use Rattle.image_text.proofs.diff_blocks.diff_all.Goals as goal
+use Rattle.image_text.proofs.diff_walk.diff_all.Goals as goal
 
 pub returns-in-Err-clause-compared : goal.returns-in-Err-clause-compared
 returns-in-Err-clause-compared g c =
