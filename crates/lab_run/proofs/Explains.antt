@@ -77,7 +77,7 @@ goes_on_from name old told new g e k = let a = g.1 in (subst (λ (s : Standing).
 
 goes_run : (run : Finished) (script : Script) (name : List ℕ) (old new : RigState) → HasRun run script name old new → Goes name old new
 goes_run run script name old new h =
-    goes_on_from name old h.told new (goes_open name old h.asked.told.between h.told h.asked.told.since) h.followed.goes.standing h.followed.goes.faults
+    goes_on_from name old h.told new (goes_open name old h.asked.told.between h.told h.asked.told.since) h.followed.any_rig.goes.standing h.followed.any_rig.goes.faults
 
 goes_marked : (said : List ℕ) (f : Call) → HasMarked said f → Goes f.name f.rig f.rig_after
 goes_marked said f m = by_fault m.fault

@@ -34,7 +34,7 @@ pub diff_blocks-ended-requires-clause-places : goal.diff_blocks-ended-requires-c
 diff_blocks-ended-requires-clause-places g c = record {
   place = c.in_ok-here.ensures.came.inside;
   other_place = c.in-Ok.ensures.came.inside;
-  many = c.if-count-ne-count.false;
+  many = c.if-here-there.false;
   held = c.in_ok-here.ensures.came.held;
   other_held = c.in-Ok.ensures.came.held;
 }
@@ -45,8 +45,8 @@ returns-then-not-are_one_size g c = λ left reads rig.
     let k = finds_named _ c.args.other _ _ _ _ c.second_of.ensures c.in-Ok.ensures in
     other_size _ c.args.one c.args.other _ _ _ _ left reads rig c.in_ok-here.here c.in-Ok.there c.are_one_size.result _ _ (record { first = h.came; kept = h.kept; second = k.came; second_kept = k.kept }) c.are_one_size.ensures c.if-not-are_one_size.true
 
-pub returns-then-at-to : goal.returns-then-here-there
-returns-then-at-to g c = λ left reads rig.
+pub returns-then-here-there : goal.returns-then-here-there
+returns-then-here-there g c = λ left reads rig.
     let h = finds_named _ c.args.one _ _ _ _ c.image_of.ensures c.in_ok-here.ensures in
     let k = finds_named _ c.args.other _ _ _ _ c.second_of.ensures c.in-Ok.ensures in
     other_count _ c.args.one c.args.other _ _ _ _ left reads rig c.in_ok-here.here c.in-Ok.there c.are_one_size.result _ _ (record { first = h.came; kept = h.kept; second = k.came; second_kept = k.kept }) c.are_one_size.ensures c.if-not-are_one_size.false

@@ -29,8 +29,8 @@ returns-in-Err-Stopped g c = λ h rig second.
     (ends_over (Err (unswept.Stopped c.in-Err-Stopped.refusal)) c.args.byte c.as_slice.result.now c.args.units.now c.in_ok-script.script (g.O.Sink.faults c.args.out.now) (g.O.Sink.faults c.sweep_script.new.out) (g.O.Sink.taken c.args.out.now) (g.O.Sink.taken c.sweep_script.new.out) c.as_slice.ensures
     (as_ends c.in-Err-Stopped.field-0 (unswept.Stopped c.in-Err-Stopped.refusal) (swept c.args.byte c.as_slice.result.now c.in_ok-script.script) (g.O.Sink.faults c.args.out.now) (g.O.Sink.faults c.sweep_script.new.out) (g.O.Sink.taken c.args.out.now) (g.O.Sink.taken c.sweep_script.new.out) c.in-Err-Stopped.field-0-is c.in-Err-Stopped.ensures.swept))
 
-pub returns-in-Err-Halted : goal.returns-in-Err-Halted
-returns-in-Err-Halted g c = λ h rig second.
+pub returns : goal.returns
+returns g c = λ h rig second.
     halted _ h _ _ _ _ rig second c.args.byte c.args.units.now c.in_ok-script.script c.in-Err-Halted.halt _ _ _ _ c.halt_status.result c.in_ok-script.ensures.count c.in_ok-script.ensures.reads
     (ends_over (Err (unswept.Halted c.in-Err-Halted.halt)) c.args.byte c.as_slice.result.now c.args.units.now c.in_ok-script.script (g.O.Sink.faults c.args.out.now) (g.O.Sink.faults c.sweep_script.new.out) (g.O.Sink.taken c.args.out.now) (g.O.Sink.taken c.sweep_script.new.out) c.as_slice.ensures
     (as_ends c.in-Err-Halted.field-0 (unswept.Halted c.in-Err-Halted.halt) (swept c.args.byte c.as_slice.result.now c.in_ok-script.script) (g.O.Sink.faults c.args.out.now) (g.O.Sink.faults c.sweep_script.new.out) (g.O.Sink.taken c.args.out.now) (g.O.Sink.taken c.sweep_script.new.out) c.in-Err-Halted.field-0-is c.in-Err-Halted.ensures.swept)) c.halt_status.ensures
