@@ -7,7 +7,7 @@ mod ending;
 mod reason;
 mod status;
 
-pub use calling::{hold_closed_streams, words_of};
+pub use calling::words_of;
 pub use ending::{finish, refuse, status_for};
 pub use reason::Reason;
 pub use status::Status;

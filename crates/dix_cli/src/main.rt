@@ -2,12 +2,22 @@
 //! report.
 #![tactic(auto)]
 
-use call_verdict::{hold_closed_streams, words_of};
+use call_verdict::words_of;
 use dix_base::{FileStore, StdinSource, StdoutSink};
 use dix_run::{Refusal, refuse, run};
 use image_rig::ImageRig;
-use std::io;
 use std::process::ExitCode;
+use std::{fs, io};
+
+/// Takes the places of standard streams that are closed, so that no image is opened in one and
+/// overwritten by the report. A directory can be neither read nor written as a stream.
+fn hold_closed_streams(rt: &HostRuntime) -> [Option<fs::File>; 3] {
+    [
+        fs::open(rt, "/").ok(),
+        fs::open(rt, "/").ok(),
+        fs::open(rt, "/").ok(),
+    ]
+}
 
 fn main(rt: HostRuntime) -> io::Result<ExitCode> {
     let _held = hold_closed_streams(&rt);

@@ -2,13 +2,23 @@
 //! judges scripts.
 #![tactic(auto)]
 
-use call_verdict::{hold_closed_streams, words_of};
+use call_verdict::words_of;
 use dix_base::{FileStore, StdinSource, StdoutSink};
 use image_rig::ImageRig;
 use lab_run::{Refusal, refuse, run};
-use std::io;
 use std::process::ExitCode;
+use std::{fs, io};
 use wide_stdout::WideStdout;
+
+/// Takes the places of standard streams that are closed, so that no image is opened in one and
+/// overwritten. A directory can be neither read nor written as a stream.
+fn hold_closed_streams(rt: &HostRuntime) -> [Option<fs::File>; 3] {
+    [
+        fs::open(rt, "/").ok(),
+        fs::open(rt, "/").ok(),
+        fs::open(rt, "/").ok(),
+    ]
+}
 
 fn main(rt: HostRuntime) -> io::Result<ExitCode> {
     let _held = hold_closed_streams(&rt);
