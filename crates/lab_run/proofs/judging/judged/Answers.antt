@@ -5,23 +5,23 @@ use Rattle.lab_run.specs.Texts.{no_memory}
 use Rattle.lab_run.proofs.Judges.{said_over, said_whole, spared, spared_over, spared_whole, unread}
 use Rattle.lab_run.proofs.judging.judged.Goals as goal
 
-pub returns-in-Ok : goal.returns-in-Ok
-returns-in-Ok g c =
+pub returns-in_ok-said_of-in-Ok : goal.returns-in_ok-said_of-in-Ok
+returns-in_ok-said_of-in-Ok g c =
     let whole = subst (λ (x : List ℕ). IsWhole x (g.S.Source.left c.args.input.now) (g.S.Source.left c.read_all.new.source)) (sym c.deref.ensures.value) c.in-Ok.ensures.whole in
-    said_whole _ c.deref.result.now _ _ _ _ c.in-Ok.ensures.count whole c.in_ok-said_of.ensures
+    said_whole _ c.deref.result.now _ _ _ _ c.in-Ok.ensures.count whole c.in_ok-said_of-in-Ok.ensures
 
-pub returns-in_err-said_of : goal.returns-in_err-said_of
-returns-in_err-said_of g c =
+pub returns-in_err-said_of-in-Ok : goal.returns-in_err-said_of-in-Ok
+returns-in_err-said_of-in-Ok g c =
     let whole = subst (λ (x : List ℕ). IsWhole x (g.S.Source.left c.args.input.now) (g.S.Source.left c.read_all.new.source)) (sym c.deref.ensures.value) c.in-Ok.ensures.whole in
     let p = err_from_is_err_and c.from_residual.result c.from_residual.ensures.1 in
     rw (p.1, p.2) (spared_whole no_memory c.deref.result.now _ _ _ _ c.in-Ok.ensures.count refl whole)
 
-pub returns-in-Err-TooMany : goal.returns-in-Err-TooMany
-returns-in-Err-TooMany g c = said_over _ _ _ _ _ c.in-Err-TooMany.ensures.count (c.in-Err-TooMany.ensures.over (ap Err c.in-Err-TooMany.field-0-is)) c.in_ok-said_of_long.ensures
+pub returns-in_ok-said_of_long-in-Err-TooMany : goal.returns-in_ok-said_of_long-in-Err-TooMany
+returns-in_ok-said_of_long-in-Err-TooMany g c = said_over _ _ _ _ _ c.in-Err-TooMany.ensures.count (c.in-Err-TooMany.ensures.over (ap Err c.in-Err-TooMany.field-0-is)) c.in_ok-said_of_long-in-Err-TooMany.ensures
 
-pub returns-in_err-said_of_long : goal.returns-in_err-said_of_long
-returns-in_err-said_of_long g c =
-    let p = err_from_is_err_and c.from_residual-in_err-said_of_long.result c.from_residual-in_err-said_of_long.ensures.1 in
+pub returns-in_err-said_of_long-in-Err-TooMany : goal.returns-in_err-said_of_long-in-Err-TooMany
+returns-in_err-said_of_long-in-Err-TooMany g c =
+    let p = err_from_is_err_and c.from_residual-in_err-said_of_long-in-Err-TooMany.result c.from_residual-in_err-said_of_long-in-Err-TooMany.ensures.1 in
     rw (p.1, p.2) (spared_over no_memory _ _ _ _ c.in-Err-TooMany.ensures.count refl (c.in-Err-TooMany.ensures.over (ap Err c.in-Err-TooMany.field-0-is)))
 
 pub returns-in-Err-Failed : goal.returns-in-Err-Failed
