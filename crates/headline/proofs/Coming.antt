@@ -11,8 +11,8 @@ use Rattle.dix_run.specs.declared.command.Command.{Command}
 use Rattle.dix_run.specs.declared.command.Command.TheVariants as command
 use Rattle.report_text.specs.Report.{report}
 use Rattle.script_text.specs.declared.script.Script.{Script}
-use Rattle.image_scripts.proofs.Passed.{complete, same_script}
-use Rattle.image_scripts.specs.Passed.{has_bad, CauseRefused, HasRun, Finished}
+use Rattle.image_laws.proofs.Passed.{complete, same_script}
+use Rattle.image_laws.specs.Passed.{has_bad, CauseRefused, HasRun, Finished}
 use Rattle.call_refusal.specs.declared.refusal.Refusal.{Refusal as Stop}
 use Rattle.call_refusal.specs.declared.refusal.Refusal.TheVariants as stop
 use Rattle.dix_run.proofs.Passed.{complete as mirror_complete}

@@ -137,7 +137,6 @@ not_stopped byte units f i found bad same (inr c) = no_bad_line units f i found 
 abbrev source_of : Facts → Call
 source_of f = record { name = []; left = f.left; left_after = f.left_after; reads = f.reads; reads_after = f.reads_after; rig = f.rig; rig_after = f.rig_after }
 
-
 -- ---- its answers
 
 source_failed : (byte : ℕ) (units : List UnitSpec) (f : Facts) → Calm f.reads f.reads_after → CauseNotSwept byte units (refusal.Stopped stop.ReadFault) f → ⊥

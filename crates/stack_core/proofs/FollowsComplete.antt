@@ -13,32 +13,32 @@ use Rattle.bio_core.specs.declared.request.Dir.{Dir}
 use Rattle.bio_core.specs.declared.request.Dir.TheVariants.{Read, Write as WriteDir}
 use Rattle.bio_core.specs.declared.request.Io.{Io}
 use Rattle.stack_ops.specs.declared.op.Op.{Op}
-use Rattle.stack_view.specs.Blocks.{is_settled, place_of}
-use Rattle.stack_view.specs.Plan.{Plan}
+use Rattle.stack_laws.specs.Blocks.{is_settled, place_of}
+use Rattle.stack_laws.specs.Plan.{Plan}
 use Rattle.block_path.specs.Acts.{State}
 use Rattle.block_path.specs.Blocks.{Sent}
 use Rattle.block_path.specs.Routes.{host_type}
-use Rattle.run_follows.specs.Passed.{fates, OpsConflict, Setting, block_of, route, Alters, Reads, Seals, Sets, Shows, Step, Writes, WritesPi}
-use Rattle.run_follows.specs.Gate.{AreOver, is_over}
-use Rattle.run_follows.specs.Sending.{Carriage, IsElsewhere, carriage_of, with_status}
-use Rattle.run_follows.specs.Slots.{Carried, Settled as NowSettled, Status}
-use Rattle.run_follows.proofs.Sends.{over_stays, with_other}
-use Rattle.run_follows.specs.Spots.{IsRead, op_in, step_in, steps_in}
-use Rattle.run_follows.specs.Statuses.{with_settled}
-use Rattle.run_follows.proofs.Spots.{Lets, may_move}
+use Rattle.stack_walk_laws.specs.Passed.{fates, OpsConflict, Setting, block_of, route, Alters, Reads, Seals, Sets, Shows, Step, Writes, WritesPi}
+use Rattle.stack_walk_laws.specs.Gate.{AreOver, is_over}
+use Rattle.stack_walk_laws.specs.Sending.{Carriage, IsElsewhere, carriage_of, with_status}
+use Rattle.stack_walk_laws.specs.Slots.{Carried, Settled as NowSettled, Status}
+use Rattle.stack_walk_laws.proofs.Sends.{over_stays, with_other}
+use Rattle.stack_walk_laws.specs.Spots.{IsRead, op_in, step_in, steps_in}
+use Rattle.stack_walk_laws.specs.Statuses.{with_settled}
+use Rattle.stack_walk_laws.proofs.Spots.{Lets, may_move}
 use Rattle.dix_adapter.specs.Groups.{data_cells, tuple_cells}
 use Rattle.stack_core.specs.Courses.{Course, FollowsBy}
-use Rattle.run_follows.specs.Moved.{why_of}
-use Rattle.run_follows.specs.Settled.{IsSettled, KeptFates, OneSettled}
-use Rattle.run_follows.specs.Settling.{AreFates}
-use Rattle.run_follows.specs.Sheets.{io_at}
+use Rattle.stack_walk_laws.specs.Moved.{why_of}
+use Rattle.stack_walk_laws.specs.Settled.{IsSettled, KeptFates, OneSettled}
+use Rattle.stack_walk_laws.specs.Settling.{AreFates}
+use Rattle.stack_walk_laws.specs.Sheets.{io_at}
 use Rattle.stack_core.specs.Walking.{why_in}
-use Rattle.run_follows.proofs.Chained.{Each, keeps_settled}
+use Rattle.stack_walk_laws.proofs.Chained.{Each, keeps_settled}
 use Rattle.stack_core.proofs.Courses.{found_by}
-use Rattle.run_follows.proofs.Facts.{place-is}
+use Rattle.stack_walk_laws.proofs.Facts.{place-is}
 use Rattle.stack_core.proofs.FollowsBlock.{IsOn, block_settled}
 use Rattle.stack_core.proofs.Spotted.{Stands, block_is, count_is}
-use Rattle.run_follows.proofs.Wholes.{all_stay}
+use Rattle.stack_walk_laws.proofs.Wholes.{all_stay}
 
 -- ---- a read's block is a read of the script
 

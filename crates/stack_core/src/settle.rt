@@ -9,8 +9,8 @@ ghost use Rattle.ref_remap.specs.Remapped.{AreRemapped};
 ghost use Rattle.bio_core.specs.Bios.{block_size};
 ghost use Rattle.bio_core.specs.declared.request.Dir.TheVariants.{Read};
 ghost use Rattle.merge_queue.specs.Groups.{size};
-ghost use Rattle.run_follows.specs.Settling.{AreAllWhole, AreFates, HasTuples, IsOf, IsWhole};
-ghost use Rattle.run_follows.specs.Settled.{AllSettled, BioSettled, Blanked, Judged, LeftBy, MappedBack, OneSettled, ReadSettled, Settled, TupleBlanked, said_by};
+ghost use Rattle.stack_walk_laws.specs.Settling.{AreAllWhole, AreFates, HasTuples, IsOf, IsWhole};
+ghost use Rattle.stack_walk_laws.specs.Settled.{AllSettled, BioSettled, Blanked, Judged, LeftBy, MappedBack, OneSettled, ReadSettled, Settled, TupleBlanked, said_by};
 ghost use Rattle.stack_core.specs.Places.{HoldsFates, KeepsPlaces};
 
 use crate::kept::Fates;

@@ -1,13 +1,13 @@
 //! The stack and its steps.
 
 ghost use Rattle.std.specs.Prelude.{◌≡◌, ◌<◌, ◌≤◌, ◌+◌, ◌*◌, ◌↔◌, ◌^◌, ◌⊎◌, ℕ, IsTrue, true, false, List, [], Some, is_some, length, slice_index_or, slice_set};
-ghost use Rattle.stack_view.specs.Runs.{blocks_of_requests};
-ghost use Rattle.stack_view.specs.Steps.{enabled};
-ghost use Rattle.stack_view.specs.View.{View};
+ghost use Rattle.stack_laws.specs.Runs.{blocks_of_requests};
+ghost use Rattle.stack_laws.specs.Steps.{enabled};
+ghost use Rattle.stack_laws.specs.View.{View};
 ghost use Rattle.stack_steps.specs.declared.choice.Choice.TheVariants.{End, Complete, Admit, Cut, Join, Send};
 ghost use Rattle.stack_steps.specs.Does.{Does, Holds, Ready};
 ghost use Rattle.stack_core.specs.declared.kept.Room.TheVariants.{Nothing};
-ghost use Rattle.run_follows.specs.Settling.{HasTuples, IsWhole};
+ghost use Rattle.stack_walk_laws.specs.Settling.{HasTuples, IsWhole};
 ghost use Rattle.stack_core.specs.Replies.{HoldsSeal};
 ghost use Rattle.stack_ops.specs.declared.reply.Reply.TheVariants.{Medium, Silent};
 ghost use Rattle.stack_core.specs.Done.{MadeBy, OpDone, Sealed, WriteMade, WriteMapped};

@@ -4,12 +4,12 @@ use Rattle.std.specs.Vec.{vec_capacity}
 use Rattle.bio_core.specs.declared.bio.Bio.{Bio}
 use Rattle.bio_core.specs.declared.fate.Fate.{Fate}
 use Rattle.merge_queue.specs.Groups.{Group, without}
-use Rattle.stack_view.specs.Plan.{Plan}
-use Rattle.stack_view.specs.Pieces.{greatest_piece, cut_to, bio_of}
-use Rattle.stack_view.specs.View.{View, op_at, queue_at, group_at, command_at}
-use Rattle.stack_view.specs.Steps.{Step, Complete as StepComplete, Send as StepSend, can, step, enabled, chosen}
-use Rattle.stack_view.specs.Runs.{blocks_of_requests}
-use Rattle.stack_view.specs.Sound.{Settles}
+use Rattle.stack_laws.specs.Plan.{Plan}
+use Rattle.stack_laws.specs.Pieces.{greatest_piece, cut_to, bio_of}
+use Rattle.stack_laws.specs.View.{View, op_at, queue_at, group_at, command_at}
+use Rattle.stack_laws.specs.Steps.{Step, Complete as StepComplete, Send as StepSend, can, step, enabled, chosen}
+use Rattle.stack_laws.specs.Runs.{blocks_of_requests}
+use Rattle.stack_laws.specs.Sound.{Settles}
 use Rattle.stack_steps.specs.declared.choice.Choice.{Choice}
 use Rattle.stack_steps.specs.declared.choice.Choice.TheVariants.{Complete, Cut, Send}
 use Rattle.stack_steps.specs.declared.machine.Machine.{Machine}

@@ -5,7 +5,7 @@ use Rattle.merge_queue.specs.Groups.{Group, lba_of, size}
 use Rattle.merge_queue.specs.Index.{Queued}
 use Rattle.range_gate.specs.declared.phase.Phase.{Phase}
 use Rattle.range_gate.specs.declared.phase.Phase.TheVariants.{Admitted, Ended}
-use Rattle.stack_view.specs.Plan.{Plan, request_at}
+use Rattle.stack_laws.specs.Plan.{Plan, request_at}
 use Rattle.stack_steps.specs.declared.state.OpState.{OpState}
 
 abbrev pub more_cut : ℕ → OpState → OpState

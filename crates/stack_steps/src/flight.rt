@@ -3,7 +3,7 @@
 ghost use Rattle.std.specs.Prelude.{◌≡◌, ◌<◌, ◌≤◌, ◌+◌, IfOk, false, List, [], ◌∷◌, ◌++◌, length, take, drop, slice_index_or};
 ghost use Rattle.std.specs.List.{remove};
 ghost use Rattle.std.specs.Vec.{vec_capacity};
-ghost use Rattle.stack_view.specs.View.{no_command};
+ghost use Rattle.stack_laws.specs.View.{no_command};
 ghost use Rattle.merge_queue.specs.Groups.{without};
 ghost use Rattle.stack_steps.specs.Flights.{bios_in_flight, fates_in_flight, cut_out, earlier};
 

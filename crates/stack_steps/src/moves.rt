@@ -7,7 +7,7 @@ ghost use Rattle.merge_queue.specs.Groups.{size, lba_of, put, put_all, joined, w
 ghost use Rattle.merge_queue.specs.Index.{bios_in};
 ghost use Rattle.range_gate.specs.Gates.{may_admit, phase_at};
 ghost use Rattle.range_gate.specs.declared.phase.Phase.TheVariants.{Admitted, Ended};
-ghost use Rattle.stack_view.specs.Rests.{rests};
+ghost use Rattle.stack_laws.specs.Rests.{rests};
 ghost use Rattle.stack_steps.specs.State.{no_state};
 ghost use Rattle.stack_steps.specs.Parts.{Divides, Ends};
 ghost use Rattle.stack_steps.specs.Shows.{groups_of};

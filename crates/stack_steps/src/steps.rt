@@ -2,9 +2,9 @@
 
 ghost use Rattle.std.specs.Prelude.{◌≡◌, ◌<◌, ◌≤◌, ◌+◌, ◌%◌, ◌↔◌, ℕ, IsTrue, [], length};
 ghost use Rattle.std.specs.Vec.{vec_capacity};
-ghost use Rattle.stack_view.specs.Runs.{blocks_of_requests};
-ghost use Rattle.stack_view.specs.Steps.{enabled, chosen};
-ghost use Rattle.stack_view.specs.View.{View};
+ghost use Rattle.stack_laws.specs.Runs.{blocks_of_requests};
+ghost use Rattle.stack_laws.specs.Steps.{enabled, chosen};
+ghost use Rattle.stack_laws.specs.View.{View};
 ghost use Rattle.stack_steps.specs.declared.choice.Choice.TheVariants.{End, Complete, Admit, Cut, Join, Send};
 ghost use Rattle.stack_steps.specs.Does.{Holds, Works, CanStep, Chooses, Ready, Does, OfOp, Cuts, Lands, Takes, Sending, Flies};
 

@@ -3,9 +3,9 @@ use Rattle.std.proofs.lemmas.List.{at_drop_more}
 use Rattle.std.proofs.lemmas.List.Elements.{All-get_or}
 use Rattle.merge_queue.specs.Chains.{no_bio}
 use Rattle.merge_queue.specs.Groups.{size}
-use Rattle.run_follows.specs.Settling.{IsOf}
-use Rattle.run_follows.proofs.InTurn.{bio-more, size-more}
-use Rattle.run_follows.proofs.Wholes.{fates_stay, whole-of, whole_stays}
+use Rattle.stack_walk_laws.specs.Settling.{IsOf}
+use Rattle.stack_walk_laws.proofs.InTurn.{bio-more, size-more}
+use Rattle.stack_walk_laws.proofs.Wholes.{fates_stay, whole-of, whole_stays}
 use Rattle.stack_core.proofs.settle.settle_all.Goals as goal
 
 pub settle_bio-requires-clause-whole : goal.settle_bio-requires-clause-whole

@@ -1,7 +1,7 @@
 use Rattle.std.proofs.Common.{◌≡◌, ◌+◌, length, drop, take}
 use Rattle.merge_queue.specs.Groups.{size}
-use Rattle.run_follows.specs.Settled.{AllSettled}
-use Rattle.run_follows.specs.Settling.{AreFates}
+use Rattle.stack_walk_laws.specs.Settled.{AllSettled}
+use Rattle.stack_walk_laws.specs.Settling.{AreFates}
 use Rattle.stack_core.proofs.settle.settle_all.Given as goal
 
 abbrev pub invariant-loop-bio : goal.invariant-loop-bio

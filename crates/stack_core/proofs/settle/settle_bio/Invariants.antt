@@ -1,5 +1,5 @@
 use Rattle.std.proofs.Common.{◌≡◌, ◌-◌, get_or, length}
-use Rattle.run_follows.specs.Settled.{BioSettled}
+use Rattle.stack_walk_laws.specs.Settled.{BioSettled}
 use Rattle.stack_core.proofs.settle.settle_bio.Given as goal
 
 abbrev pub invariant-loop-i : goal.invariant-loop-i

@@ -1,5 +1,5 @@
 use Rattle.merge_queue.specs.Groups.{put_all}
-use Rattle.stack_view.specs.Rests.{rests}
+use Rattle.stack_laws.specs.Rests.{rests}
 use Rattle.stack_steps.proofs.Moved.{queue-set, room-set}
 use Rattle.stack_steps.proofs.moves.put_back.Goals as goal
 

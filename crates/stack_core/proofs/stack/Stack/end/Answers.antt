@@ -2,14 +2,14 @@ use Rattle.std.proofs.Common.{length, ap, refl, ◌∙◌, arith, drop, get_or, 
 use Rattle.std.proofs.lemmas.List.{length-set}
 use Rattle.stack_steps.specs.declared.choice.Choice.TheVariants.{End}
 use Rattle.stack_core.specs.Stacks.{plan_in}
-use Rattle.run_follows.proofs.Facts.{op-ends}
+use Rattle.stack_walk_laws.proofs.Facts.{op-ends}
 use Rattle.stack_core.proofs.Keeps.{is-stack}
 use Rattle.stack_core.proofs.Rooms.{taken}
 use Rattle.stack_core.proofs.Steps.{works}
 use Rattle.bio_core.specs.declared.request.Io.{Io}
 use Rattle.stack_core.specs.declared.kept.Room.TheVariants.{Nothing}
 use Rattle.stack_core.specs.Replies.{reply_of}
-use Rattle.run_follows.specs.Sheets.{io_at}
+use Rattle.stack_walk_laws.specs.Sheets.{io_at}
 use Rattle.stack_core.specs.Walking.{NoneFailed, data_of, is_medium}
 use Rattle.stack_core.proofs.Failing.{one-more, request-silent}
 use Rattle.stack_core.proofs.Walked.{walk_ends}

@@ -1,12 +1,12 @@
 use Rattle.std.proofs.Common.{◌≡◌, ap, map, refl, subst, sym, ◌∙◌, arith}
 use Rattle.std.specs.Prelude.{is_some}
-use Rattle.answered_record.proofs.Going.{puts_nothing}
+use Rattle.record_laws.proofs.Going.{puts_nothing}
 use Rattle.dix_adapter.proofs.Landing.{group-bytes}
 use Rattle.dix_adapter.proofs.Units.{unit-stands}
 use Rattle.page_pool.specs.Cells.{flat}
 use Rattle.dix_adapter.specs.Carried.{any_bad, sends}
 use Rattle.dix_adapter.specs.Groups.{blocks_in, first_of, size}
-use Rattle.answered_record.specs.Answered.{Answers}
+use Rattle.record_laws.specs.Answered.{Answers}
 use Rattle.stack_core.specs.Stacks.{StackStays, plan_in}
 use Rattle.stack_core.proofs.Answering.{fetched_puts, sent_puts}
 use Rattle.stack_core.proofs.Goes.{either-way, goes-as-before}

@@ -2,8 +2,8 @@
 use Rattle.std.proofs.Common.{◌≡◌, ℕ, List, [], ◌++◌, length, arith, refl, ap, sym, ◌∙◌, get_or}
 use Rattle.bio_core.specs.declared.bio.Bio.{Bio}
 use Rattle.bio_core.specs.declared.fate.Fate.{Fate}
-use Rattle.stack_view.specs.Plan.{Plan}
-use Rattle.stack_view.specs.View.{Command, no_command}
+use Rattle.stack_laws.specs.Plan.{Plan}
+use Rattle.stack_laws.specs.View.{Command, no_command}
 use Rattle.stack_steps.specs.declared.choice.Choice.TheVariants.{Complete}
 use Rattle.stack_steps.specs.declared.machine.Machine.{Machine}
 use Rattle.stack_steps.specs.Does.{Ready}

@@ -1,8 +1,8 @@
 -- What is asked of the piece that is cut.
 use Rattle.std.proofs.Common.{◌≡◌, ℕ, List, ◌∷◌, [], ◌++◌, arith, refl, ap, ◌∙◌, get_or}
 use Rattle.bio_core.specs.declared.bio.Bio.{Bio}
-use Rattle.stack_view.specs.Pieces.{bio_of, cut_to, greatest_piece}
-use Rattle.stack_view.specs.Plan.{Plan}
+use Rattle.stack_laws.specs.Pieces.{bio_of, cut_to, greatest_piece}
+use Rattle.stack_laws.specs.Plan.{Plan}
 use Rattle.stack_steps.specs.declared.choice.Choice.TheVariants.{Cut}
 use Rattle.stack_steps.specs.declared.machine.Machine.{Machine}
 use Rattle.stack_steps.specs.declared.state.OpState.{OpState}

@@ -3,8 +3,8 @@ use Rattle.std.proofs.Common.{ℕ, List, refl, set, ◌+◌}
 use Rattle.bio_core.specs.declared.bio.Bio.{Bio}
 use Rattle.bio_core.specs.declared.fate.Fate.{Fate}
 use Rattle.merge_queue.specs.Groups.{without}
-use Rattle.stack_view.specs.Plan.{Plan}
-use Rattle.stack_view.specs.View.{queue_at}
+use Rattle.stack_laws.specs.Plan.{Plan}
+use Rattle.stack_laws.specs.View.{queue_at}
 use Rattle.stack_steps.specs.declared.machine.Machine.{Machine}
 use Rattle.stack_steps.specs.Does.{Sending}
 use Rattle.stack_steps.proofs.Keep.{Room, flight-room, shows-send}

@@ -1,7 +1,7 @@
 -- What is asked of the queue from which a group is taken.
 use Rattle.std.proofs.Common.{ℕ, ap, sym, ◌∙◌, arith, get_or, []}
-use Rattle.stack_view.specs.Plan.{Plan}
-use Rattle.stack_view.specs.Steps.{can}
+use Rattle.stack_laws.specs.Plan.{Plan}
+use Rattle.stack_laws.specs.Steps.{can}
 use Rattle.stack_steps.specs.declared.choice.Choice.TheVariants.{Send}
 use Rattle.stack_steps.specs.declared.machine.Machine.{Machine}
 use Rattle.stack_steps.specs.Does.{Ready}
