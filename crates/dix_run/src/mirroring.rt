@@ -3,11 +3,11 @@
 ghost use Rattle.unit_words.specs.Words.{word_bytes};
 ghost use Rattle.mirror_command.specs.Texts.{is_any_lost, mirror_text};
 ghost use Rattle.dix_run.specs.Commands.{mirror_work};
-ghost use Rattle.dix_run.specs.Verdict.{EndedAs, Facts, Written, done_status};
+ghost use Rattle.call_verdict.specs.Verdicts.{EndedAs, Written, done_status};
+ghost use Rattle.dix_run.specs.Verdict.{Facts, dix};
 
-use crate::program::{refuse, status_for};
 use crate::refusal::Refusal;
-use crate::status::Status;
+use call_verdict::{Status, refuse, status_for};
 use dix_base::{Failed, Sink, Source};
 use mirror_command::{Mirrored, mirror_source, print_mirrored};
 use rig_api::Rig;
@@ -42,7 +42,7 @@ pub(crate) fn mirror_image<S: Source, R: Rig, O: Sink>(
       rig = R.state rig.old;
       rig_after = R.state rig.new;
     } in
-        EndedAs mirror_work f (O.taken out.old) (O.taken out.new) (O.faults out.old) (O.faults out.new) result }
+        EndedAs dix mirror_work f (O.taken out.old) (O.taken out.new) (O.faults out.old) (O.faults out.new) result }
 {
     match mirror_source(alloc, image_of(words), source, rig) {
         Ok(run) => report_mirrored(out, &run),

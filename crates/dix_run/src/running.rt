@@ -6,11 +6,11 @@ ghost use Rattle.report_text.specs.Report.{report};
 ghost use Rattle.report_text.specs.Trace.{trace};
 ghost use Rattle.run_command.specs.Texts.{has_bad};
 ghost use Rattle.dix_run.specs.Commands.{run_work, trace_work};
-ghost use Rattle.dix_run.specs.Verdict.{EndedAs, Facts, Written, done_status};
+ghost use Rattle.call_verdict.specs.Verdicts.{EndedAs, Written, done_status};
+ghost use Rattle.dix_run.specs.Verdict.{Facts, dix};
 
-use crate::program::{refuse, status_for};
 use crate::refusal::Refusal;
-use crate::status::Status;
+use call_verdict::{Status, refuse, status_for};
 use dix_base::{Failed, Sink, Source};
 use rig_api::Rig;
 use run_command::{Finished, print_run, print_traced_run, run_source};
@@ -56,7 +56,7 @@ pub(crate) fn run_image<S: Source, R: Rig, O: Sink>(
       rig = R.state rig.old;
       rig_after = R.state rig.new;
     } in
-        EndedAs run_work f (O.taken out.old) (O.taken out.new) (O.faults out.old) (O.faults out.new) result }
+        EndedAs dix run_work f (O.taken out.old) (O.taken out.new) (O.faults out.old) (O.faults out.new) result }
 {
     match run_source(alloc, image_of(words), source, rig) {
         Ok(run) => report_run(out, &run),
@@ -81,7 +81,7 @@ pub(crate) fn trace_image<S: Source, R: Rig, O: Sink>(
       rig = R.state rig.old;
       rig_after = R.state rig.new;
     } in
-        EndedAs trace_work f (O.taken out.old) (O.taken out.new) (O.faults out.old) (O.faults out.new) result }
+        EndedAs dix trace_work f (O.taken out.old) (O.taken out.new) (O.faults out.old) (O.faults out.new) result }
 {
     match run_source(alloc, image_of(words), source, rig) {
         Ok(run) => trace_run(out, &run, rig),

@@ -28,9 +28,10 @@ use Rattle.image_laws.proofs.Passed.{table_is, image_devices}
 use Rattle.dix_run.specs.Passed.{HasServedMirror, is_any_lost, mirror_text, HasMirrored, Mirrored, BothHoldLast, WasEnough, IsOneGoodRun}
 use Rattle.report_text.specs.Report.{report}
 use Rattle.dix_run.specs.Headline.{Carries}
-use Rattle.dix_run.specs.Verdict.{Facts, done_status}
-use Rattle.dix_run.specs.declared.status.Status.{Status}
-use Rattle.dix_run.specs.declared.status.Status.TheVariants as status
+use Rattle.call_verdict.specs.Verdicts.{done_status}
+use Rattle.dix_run.specs.Verdict.{Facts}
+use Rattle.call_verdict.specs.declared.status.Status.{Status}
+use Rattle.call_verdict.specs.declared.status.Status.TheVariants as status
 use Rattle.headline.specs.Headline.{AreEqualLegs, FitsImage, FitsMirror, HasGoodLegs, Headline, IsClean, IsFaultless, IsFormedText, IsFound, IsFresh, IsMended, IsMirrored, IsPlain, IsStill, IsWalked, blocks_in, mended_over, mirror_over, opening_over, replied_on_mirror, setting_over, volume_over}
 use Rattle.headline.specs.Words.{IsTold, wants_memory, words_for}
 use Rattle.headline.specs.declared.way.Way.{Way}

@@ -27,8 +27,8 @@ use Rattle.mirror_laws.specs.OneGood.{OneGood, script_asks}
 use Rattle.mirror_laws.specs.Repair.{WalkedRepair}
 use Rattle.dix_run.specs.Passed.{repair_over, is_any_lost, mirror_text, AllReadLast, BothHoldLast, half_of, mirror_setting}
 use Rattle.report_text.specs.Report.{report}
-use Rattle.dix_run.specs.Verdict.{done_status}
-use Rattle.dix_run.specs.declared.status.Status.{Status}
+use Rattle.call_verdict.specs.Verdicts.{done_status}
+use Rattle.call_verdict.specs.declared.status.Status.{Status}
 pub use Rattle.image_laws.specs.Over.{FitsImage, IsClean, blocks_in, image_with, left_by, opening_over, replied, setting_over, volume_over}
 use Rattle.headline.specs.declared.way.Way.{Way}
 use Rattle.headline.specs.declared.way.Way.TheVariants.{Mirror, Run}
