@@ -1,4 +1,4 @@
-use Rattle.std.specs.Prelude.{ℕ, ◌≡◌, ◌⊎◌, Bool, if◌then◌else◌, List, Option, Result, Ok, Err}
+use Rattle.std.specs.Prelude.{ℕ, ⊥, ◌≡◌, ◌⊎◌, Bool, if◌then◌else◌, List, Option, Result, Ok, Err}
 use Rattle.dix_base.specs.Told.{Appended, AppendedSome, Calm, Rose}
 use Rattle.call_refusal.specs.declared.refusal.Refusal.{Refusal as Stop}
 use Rattle.call_refusal.specs.declared.refusal.Refusal.TheVariants as stop
@@ -82,6 +82,10 @@ Cause P w (Done x) f = w.WasDone x f
 abbrev pub Written : Status → List ℕ → Option (List ℕ) → Option (List ℕ) → ℕ → ℕ → Status → Type 0
 Written verdict text old new o n result =
     ((result ≡ verdict) × Appended text old new) ⊎ ((result ≡ status.WriteFault) × Rose o n × AppendedSome text old new)
+
+-- Unless the sink failed, it has passed on all that it took.
+abbrev pub IsPassedOn : Status → (passed taken : Option (List ℕ)) → Type 0
+IsPassedOn result passed taken = (result ≡ status.WriteFault → ⊥) → passed ≡ taken
 
 -- The command came to a verdict, whose cause holds, and then its text was written. Where the sink failed all that holds of the verdict holds still.
 pub record EndedAs (P : Program) (w : Work P) (f : P.Facts) (old new : Option (List ℕ)) (o n : ℕ) (result : Status) : Type 0 where

@@ -2,7 +2,7 @@
 
 ghost use Rattle.std.specs.Prelude.{◌≡◌, ◌≤◌};
 ghost use Rattle.dix_run.specs.Commands.{big_work};
-ghost use Rattle.call_verdict.specs.Verdicts.{EndedAs};
+ghost use Rattle.call_verdict.specs.Verdicts.{EndedAs, IsPassedOn};
 ghost use Rattle.dix_run.specs.Verdict.{Facts, LeavesSource, dix};
 
 use crate::refusal::Refusal;
@@ -17,6 +17,7 @@ pub(crate) fn big<O: Sink>(alloc: Global, n: u32, seed: u32, out: &mut O) -> Sta
     requires { n ≤ 1024 }
     ensures { (f : Facts) → f.rig_after ≡ f.rig → LeavesSource f
         → EndedAs dix (big_work n seed) f (O.taken out.old) (O.taken out.new) (O.faults out.old) (O.faults out.new) result }
+    ensures handed { IsPassedOn result (O.passed out.new) (O.taken out.new) }
 {
     match run_big(alloc, n, seed) {
         Ok(run) => finish(

@@ -4,7 +4,7 @@ ghost use Rattle.std.specs.Prelude.{◌≡◌, ◌≤◌, ◌++◌, ℕ, List, O
 ghost use Rattle.target_answer.specs.Headers.{is_layout};
 ghost use Rattle.unit_words.specs.Words.{word_bytes};
 ghost use Rattle.dix_run.specs.Commands.{format_work, migrate_work, scrub_work};
-ghost use Rattle.call_verdict.specs.Verdicts.{EndedAs};
+ghost use Rattle.call_verdict.specs.Verdicts.{EndedAs, IsPassedOn};
 ghost use Rattle.dix_run.specs.Verdict.{dix};
 
 use crate::refusal::Refusal;
@@ -47,6 +47,7 @@ pub(crate) fn format<R: Rig, O: Sink>(
       rig = R.state rig.old;
       rig_after = R.state rig.new;
     }) (O.taken out.old) (O.taken out.new) (O.faults out.old) (O.faults out.new) result }
+    ensures handed { IsPassedOn result (O.passed out.new) (O.taken out.new) }
 {
     let units = units.as_slice();
     match format_image(alloc, image_of(words), units, rig) {
@@ -75,6 +76,7 @@ pub(crate) fn migrate<R: Rig, O: Sink>(
       rig = R.state rig.old;
       rig_after = R.state rig.new;
     }) (O.taken out.old) (O.taken out.new) (O.faults out.old) (O.faults out.new) result }
+    ensures handed { IsPassedOn result (O.passed out.new) (O.taken out.new) }
 {
     match migrate_image(alloc, image_of(words), rig) {
         Ok(count) => finish(
@@ -102,6 +104,7 @@ pub(crate) fn scrub<R: Rig, O: Sink>(
       rig = R.state rig.old;
       rig_after = R.state rig.new;
     }) (O.taken out.old) (O.taken out.new) (O.faults out.old) (O.faults out.new) result }
+    ensures handed { IsPassedOn result (O.passed out.new) (O.taken out.new) }
 {
     let mut found = Vec::new(alloc);
     let devices = match scrub_image(alloc, image_of(words), rig, &mut found) {

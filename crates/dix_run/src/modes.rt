@@ -2,7 +2,7 @@
 
 ghost use Rattle.std.specs.Prelude.{◌≡◌};
 ghost use Rattle.dix_run.specs.Commands.{modes_work};
-ghost use Rattle.call_verdict.specs.Verdicts.{EndedAs};
+ghost use Rattle.call_verdict.specs.Verdicts.{EndedAs, IsPassedOn};
 ghost use Rattle.dix_run.specs.Verdict.{Facts, LeavesSource, dix};
 
 use crate::refusal::Refusal;
@@ -17,6 +17,7 @@ use std::alloc::Global;
 pub(crate) fn modes<O: Sink>(alloc: Global, ty: PiType, out: &mut O) -> Status
     ensures { (f : Facts) → f.rig_after ≡ f.rig → LeavesSource f
         → EndedAs dix (modes_work ty) f (O.taken out.old) (O.taken out.new) (O.faults out.old) (O.faults out.new) result }
+    ensures handed { IsPassedOn result (O.passed out.new) (O.taken out.new) }
 {
     match modes_text(alloc, ty) {
         Ok(text) => finish(out, &text, Status::Whole),

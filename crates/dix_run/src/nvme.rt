@@ -2,7 +2,7 @@
 
 ghost use Rattle.unit_words.specs.Words.{word_bytes};
 ghost use Rattle.dix_run.specs.Commands.{nvme_work};
-ghost use Rattle.call_verdict.specs.Verdicts.{EndedAs};
+ghost use Rattle.call_verdict.specs.Verdicts.{EndedAs, IsPassedOn};
 ghost use Rattle.dix_run.specs.Verdict.{Facts, dix};
 
 use crate::refusal::Refusal;
@@ -31,6 +31,7 @@ pub(crate) fn nvme<S: Source, R: Rig, O: Sink>(
       rig_after = R.state rig.new;
     } in
         EndedAs dix nvme_work f (O.taken out.old) (O.taken out.new) (O.faults out.old) (O.faults out.new) result }
+    ensures handed { IsPassedOn result (O.passed out.new) (O.taken out.new) }
 {
     match do_commands(alloc, image_of(words), source, rig) {
         Ok(done) => finish(out, &done.text, status_for(done.bad)),

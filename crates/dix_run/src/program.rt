@@ -1,5 +1,6 @@
 //! The top call.
 
+ghost use Rattle.call_verdict.specs.Verdicts.{IsPassedOn};
 ghost use Rattle.unit_words.specs.Words.{word_bytes};
 ghost use Rattle.dix_run.specs.Headline.{Carries};
 ghost use Rattle.dix_run.specs.Verdict.{Facts};
@@ -36,6 +37,7 @@ pub fn run<S: Source, R: Rig, O: Sink>(
       rig_after = R.state rig.new;
     } in
         Carries f (O.taken out.old) (O.taken out.new) (O.faults out.old) (O.faults out.new) result }
+    ensures handed { IsPassedOn result (O.passed out.new) (O.taken out.new) }
 {
     let Some(command) = command_of(words) else {
         return refuse(out, Refusal::Words);

@@ -1,6 +1,6 @@
 //! The stored blocks of two places, compared.
 
-ghost use Rattle.std.specs.Prelude.{◌≡◌, ◌*◌, ◌≤◌, length, OnOk};
+ghost use Rattle.std.specs.Prelude.{◌≡◌, ◌*◌, ◌≤◌, length, OnOk, Err, ⊥};
 ghost use Rattle.image_rig.specs.LayoutPlaces.{block_len};
 ghost use Rattle.image_blocks.specs.Images.{units_open};
 ghost use Rattle.image_blocks.specs.Places.{IsStretch};
@@ -196,7 +196,7 @@ pub fn diff_blocks<S: Store, T: Store, O: Sink>(
     ensures first { WasRead (S.state store.old) (S.state store.new) }
     ensures second { WasRead (T.state other.old) (T.state other.new) }
     ensures sinks { O.faults out.old ≤ O.faults out.new }
-    ensures handed { OnOk result (O.passed out.new ≡ O.taken out.new) }
+    ensures handed { (result ≡ Err DiffFault.Sink → ⊥) → O.passed out.new ≡ O.taken out.new }
 {
     let half = room.len() / 2;
     let (front, back) = room.split_at_mut(half);

@@ -1,6 +1,7 @@
 //! Comparing places of two images.
 
-ghost use Rattle.std.specs.Prelude.{◌≡◌, ℕ, List, Option, Some, eqb};
+ghost use Rattle.call_verdict.specs.Verdicts.{IsPassedOn};
+ghost use Rattle.std.specs.Prelude.{◌≡◌, ℕ, List, Option, Some, eqb, IfOk};
 ghost use Rattle.image_blocks.specs.Images.{units_open};
 ghost use Rattle.image_blocks.specs.Places.{IsStretch, spec_of};
 ghost use Rattle.lab_run.specs.declared.command.Command.{Command};
@@ -65,6 +66,7 @@ pub(crate) fn diff<A: Store, B: Store, O: Sink>(
     ensures { (left : Option (List ℕ)) (reads : ℕ) (rig : RigState) → Came (Some (Command.Diff one other)) result
         (on_both (word_bytes words.now) (A.state first.old) (A.state first.new) (B.state second.old) (B.state second.new) left reads rig)
         (O.taken out.old) (O.taken out.new) (O.faults out.old) (O.faults out.new) }
+    ensures handed { IfOk result (λ status. IsPassedOn status (O.passed out.new) (O.taken out.new)) }
 {
     let mut room = vec![in alloc; 0u8; 2 * SIDE]?;
     let here = find(alloc, first, image_of(words), one)?;

@@ -1,8 +1,8 @@
 //! Explaining the run of a script.
 
-ghost use Rattle.std.specs.Prelude.{◌≡◌, ◌≤◌, Some, drop, length};
+ghost use Rattle.std.specs.Prelude.{◌≡◌, ◌≤◌, Some, drop, length, IfOk};
 ghost use Rattle.unit_words.specs.Words.{word_bytes};
-ghost use Rattle.call_verdict.specs.Verdicts.{Written, done_status};
+ghost use Rattle.call_verdict.specs.Verdicts.{IsPassedOn, Written, done_status};
 ghost use Rattle.dix_base.specs.Stores.{StoreState};
 ghost use Rattle.lab_run.specs.declared.command.Command.{Command};
 ghost use Rattle.run_words.specs.Sites.{Guides};
@@ -26,6 +26,7 @@ fn tell_run<R: Rig, O: Sink>(out: &mut O, told: &Explained, rig: &R) -> Status
     ensures { Written (done_status (has_bad told.now.run.stack.replies.items))
         (explained_by told.now.guide.sites.items told.now.guide.entries (drop told.now.run.first (R.state rig.now).log) told.now.run.stack.replies.items)
         (O.taken out.old) (O.taken out.new) (O.faults out.old) (O.faults out.new) result }
+    ensures handed { IsPassedOn result (O.passed out.new) (O.taken out.new) }
 {
     match print_explained(out, told, rig) {
         Ok(()) => status_for(told.run.has_bad()),
@@ -44,6 +45,7 @@ pub(crate) fn explain<S: Source, R: Rig, O: Sink>(
     ensures { (first second : StoreState) → Came (Some Command.Explain) result
         (on_rig (word_bytes words.now) (S.left input.old) (S.left input.new) (S.faults input.old) (S.faults input.new) (R.state rig.old) (R.state rig.new) first second)
         (O.taken out.old) (O.taken out.new) (O.faults out.old) (O.faults out.new) }
+    ensures handed { IfOk result (λ status. IsPassedOn status (O.passed out.new) (O.taken out.new)) }
 {
     match explain_source(alloc, image_of(words), input, rig) {
         Ok(told) => Ok(tell_run(out, &told, rig)),

@@ -1,6 +1,7 @@
 //! Exporting blocks of an image.
 
-ghost use Rattle.std.specs.Prelude.{◌≡◌, ℕ, List, Option, Some};
+ghost use Rattle.call_verdict.specs.Verdicts.{IsPassedOn};
+ghost use Rattle.std.specs.Prelude.{◌≡◌, ℕ, List, Option, Some, IfOk};
 ghost use Rattle.dix_base.specs.Stores.{StoreState};
 ghost use Rattle.lab_run.specs.declared.command.Command.{Command};
 ghost use Rattle.rig_api.specs.State.{RigState};
@@ -30,6 +31,7 @@ pub(crate) fn export<A: Store, O: Sink>(
 ) -> Result<Status, Refusal>
     ensures { (left : Option (List ℕ)) (reads : ℕ) (rig : RigState) (second : StoreState) → Came (Some (Command.Export place layout)) result
         (on_first (word_bytes words.now) (A.state store.old) (A.state store.new) left reads rig second) (O.taken out.old) (O.taken out.new) (O.faults out.old) (O.faults out.new) }
+    ensures handed { IfOk result (λ status. IsPassedOn status (O.passed out.new) (O.taken out.new)) }
 {
     let mut room = vec![in alloc; 0u8; ROOM]?;
     let found = find(alloc, store, image_of(words), place)?;

@@ -1,6 +1,7 @@
 //! Importing blocks into an image.
 
-ghost use Rattle.std.specs.Prelude.{◌≡◌, Some};
+ghost use Rattle.call_verdict.specs.Verdicts.{IsPassedOn};
+ghost use Rattle.std.specs.Prelude.{◌≡◌, Some, IfOk};
 ghost use Rattle.dix_base.specs.Stores.{StoreState};
 ghost use Rattle.lab_run.specs.declared.command.Command.{Command};
 ghost use Rattle.rig_api.specs.State.{RigState};
@@ -31,6 +32,7 @@ pub(crate) fn import<S: Source, A: Store, O: Sink>(
     ensures { (rig : RigState) (second : StoreState) → Came (Some (Command.Import place layout)) result
         (on_input (word_bytes words.now) (A.state store.old) (A.state store.new) (S.left input.old) (S.left input.new) (S.faults input.old) (S.faults input.new) rig second)
         (O.taken out.old) (O.taken out.new) (O.faults out.old) (O.faults out.new) }
+    ensures handed { IfOk result (λ status. IsPassedOn status (O.passed out.new) (O.taken out.new)) }
 {
     let mut room = vec![in alloc; 0u8; STRETCH]?;
     let found = find(alloc, store, image_of(words), place)?;

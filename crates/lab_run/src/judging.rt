@@ -1,6 +1,7 @@
 //! Judging a script.
 
-ghost use Rattle.std.specs.Prelude.{◌≡◌, ℕ, Err, List, Ok, Some};
+ghost use Rattle.call_verdict.specs.Verdicts.{IsPassedOn};
+ghost use Rattle.std.specs.Prelude.{◌≡◌, ℕ, Err, List, Ok, Some, IfOk};
 ghost use Rattle.dix_base.specs.Stores.{StoreState};
 ghost use Rattle.lab_run.specs.declared.command.Command.{Command};
 ghost use Rattle.rig_api.specs.State.{RigState};
@@ -99,6 +100,7 @@ pub(crate) fn judge<S: Source, O: Sink>(
     ensures { (h : StoreState) (rig : RigState) (second : StoreState) → Came (Some Command.Judge) result
         (on_input (word_bytes words.now) h h (S.left input.old) (S.left input.new) (S.faults input.old) (S.faults input.new) rig second)
         (O.taken out.old) (O.taken out.new) (O.faults out.old) (O.faults out.new) }
+    ensures handed { IfOk result (λ status. IsPassedOn status (O.passed out.new) (O.taken out.new)) }
 {
     let _words = words;
     let said = judged(alloc, input)?;

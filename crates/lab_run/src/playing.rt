@@ -1,8 +1,8 @@
 //! The vectors of a text.
 
-ghost use Rattle.std.specs.Prelude.{◌≡◌, Some, drop};
+ghost use Rattle.std.specs.Prelude.{◌≡◌, Some, drop, IfOk};
 ghost use Rattle.unit_words.specs.Words.{word_bytes};
-ghost use Rattle.call_verdict.specs.Verdicts.{Written, done_status};
+ghost use Rattle.call_verdict.specs.Verdicts.{IsPassedOn, Written, done_status};
 ghost use Rattle.dix_base.specs.Stores.{StoreState};
 ghost use Rattle.lab_run.specs.declared.command.Command.{Command};
 ghost use Rattle.vector_runs.specs.ListText.{has_sense};
@@ -23,6 +23,7 @@ fn print<R: Rig, O: Sink>(out: &mut O, rig: &R, played: &Played) -> Status
     requires { AreLogged played.now (R.state rig.now).log }
     ensures { let entries = drop (first_of played.now) (R.state rig.now).log in
         Written (done_status (has_sense entries)) (played_text played.now entries) (O.taken out.old) (O.taken out.new) (O.faults out.old) (O.faults out.new) result }
+    ensures handed { IsPassedOn result (O.passed out.new) (O.taken out.new) }
 {
     let status = status_for(played.has_sense(rig));
     match print_played(out, rig, played) {
@@ -42,6 +43,7 @@ pub(crate) fn vectors<S: Source, R: Rig, O: Sink>(
     ensures { (first second : StoreState) → Came (Some Command.Vectors) result
         (on_rig (word_bytes words.now) (S.left input.old) (S.left input.new) (S.faults input.old) (S.faults input.new) (R.state rig.old) (R.state rig.new) first second)
         (O.taken out.old) (O.taken out.new) (O.faults out.old) (O.faults out.new) }
+    ensures handed { IfOk result (λ status. IsPassedOn status (O.passed out.new) (O.taken out.new)) }
 {
     let played = play_source(alloc, image_of(words), input, rig)?;
     Ok(print(out, rig, &played))

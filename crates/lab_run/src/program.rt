@@ -1,5 +1,7 @@
 //! The top call.
 
+ghost use Rattle.std.specs.Prelude.{IfOk};
+ghost use Rattle.call_verdict.specs.Verdicts.{IsPassedOn};
 ghost use Rattle.lab_run.specs.Grammar.{command_in};
 ghost use Rattle.unit_words.specs.Words.{word_bytes};
 ghost use Rattle.lab_run.specs.Calls.{Facts};
@@ -46,6 +48,7 @@ fn answer<S: Source, R: Rig, A: Store, B: Store, O: Sink>(
       second_after = B.state second.new;
     } in
         Came (command_in f.words) result f (O.taken out.old) (O.taken out.new) (O.faults out.old) (O.faults out.new) }
+    ensures handed { IfOk result (λ status. IsPassedOn status (O.passed out.new) (O.taken out.new)) }
 {
     let Some(command) = command_of(words) else {
         return Err(Refusal::Words);
@@ -94,6 +97,7 @@ pub fn run<S: Source, R: Rig, A: Store, B: Store, O: Sink>(
       second_after = B.state second.new;
     } in
         Carries f (O.taken out.old) (O.taken out.new) (O.faults out.old) (O.faults out.new) result }
+    ensures handed { IsPassedOn result (O.passed out.new) (O.taken out.new) }
 {
     match answer(alloc, words, input, rig, first, second, out) {
         Ok(status) => status,

@@ -1,8 +1,8 @@
 //! Showing an image.
 
-ghost use Rattle.std.specs.Prelude.{◌≡◌, ℕ, List, Option, Some};
+ghost use Rattle.std.specs.Prelude.{◌≡◌, ℕ, List, Option, Some, IfOk};
 ghost use Rattle.image_text.specs.UnitText.{units_text};
-ghost use Rattle.call_verdict.specs.Verdicts.{Written};
+ghost use Rattle.call_verdict.specs.Verdicts.{IsPassedOn, Written};
 ghost use Rattle.dix_base.specs.Stores.{StoreState};
 ghost use Rattle.image_blocks.specs.Images.{units_open};
 ghost use Rattle.lab_run.specs.declared.command.Command.{Command};
@@ -24,6 +24,7 @@ use unit_words::image_of;
 /// Writes the units of an image.
 fn list_units<O: Sink>(image: &Image, out: &mut O) -> Status
     ensures { Written Status.Whole (units_text (units_open image.now)) (O.taken out.old) (O.taken out.new) (O.faults out.old) (O.faults out.new) result }
+    ensures handed { IsPassedOn result (O.passed out.new) (O.taken out.new) }
 {
     match image_text::show_units(image, out) {
         Ok(()) => Status::Whole,
@@ -51,6 +52,7 @@ pub(crate) fn show_units<A: Store, O: Sink>(
 ) -> Result<Status, Refusal>
     ensures { (left : Option (List ℕ)) (reads : ℕ) (rig : RigState) (second : StoreState) → Came (Some Command.ShowUnits) result
         (on_first (word_bytes words.now) (A.state store.old) (A.state store.new) left reads rig second) (O.taken out.old) (O.taken out.new) (O.faults out.old) (O.faults out.new) }
+    ensures handed { IfOk result (λ status. IsPassedOn status (O.passed out.new) (O.taken out.new)) }
 {
     let image = open_image(alloc, store, image_of(words))?;
     Ok(list_units(&image, out))
@@ -66,6 +68,7 @@ pub(crate) fn show_blocks<A: Store, O: Sink>(
 ) -> Result<Status, Refusal>
     ensures { (left : Option (List ℕ)) (reads : ℕ) (rig : RigState) (second : StoreState) → Came (Some (Command.ShowBlocks place)) result
         (on_first (word_bytes words.now) (A.state store.old) (A.state store.new) left reads rig second) (O.taken out.old) (O.taken out.new) (O.faults out.old) (O.faults out.new) }
+    ensures handed { IfOk result (λ status. IsPassedOn status (O.passed out.new) (O.taken out.new)) }
 {
     let mut room = vec![in alloc; 0u8; ROOM]?;
     let found = find(alloc, store, image_of(words), place)?;

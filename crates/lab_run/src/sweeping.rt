@@ -1,6 +1,7 @@
 //! Sweeping a script.
 
-ghost use Rattle.std.specs.Prelude.{◌≡◌, Some};
+ghost use Rattle.call_verdict.specs.Verdicts.{IsPassedOn};
+ghost use Rattle.std.specs.Prelude.{◌≡◌, Some, IfOk};
 ghost use Rattle.unit_words.specs.Words.{word_bytes};
 ghost use Rattle.dix_base.specs.Stores.{StoreState};
 ghost use Rattle.rig_api.specs.State.{RigState};
@@ -42,6 +43,7 @@ pub(crate) fn sweep<S: Source, O: Sink>(
     ensures { (h : StoreState) (rig : RigState) (second : StoreState) → Came (Some (Command.Sweep byte units.now)) result
         (on_input (word_bytes words.now) h h (S.left input.old) (S.left input.new) (S.faults input.old) (S.faults input.new) rig second)
         (O.taken out.old) (O.taken out.new) (O.faults out.old) (O.faults out.new) }
+    ensures handed { IfOk result (λ status. IsPassedOn status (O.passed out.new) (O.taken out.new)) }
 {
     let _words = words;
     let script = take_script(alloc, input)?;

@@ -80,6 +80,7 @@ pub fn print_explained<O: Sink, R: Rig>(
         (O.taken out.old) (O.taken out.new)) }
     ensures cause { OnErr result (Rose (O.faults out.old) (O.faults out.new)) }
     ensures count { O.faults out.old ≤ O.faults out.new }
+    ensures handed { OnOk result (O.passed out.new ≡ O.taken out.new) }
 {
     print_run(out, &told.run)?;
     print_words(
