@@ -3,7 +3,7 @@
 ghost use Rattle.std.specs.Prelude.{◌≡◌, ◌≤◌, ◌^◌, ◌-◌, None, true, refl};
 ghost use Rattle.image_rig.specs.Entries.{few_of, keyed_of};
 ghost use Rattle.image_rig.specs.Logs.{logged, room_in};
-ghost use Rattle.test_answers.specs.Answering.{is_count, ready_of, size_of, standing_of};
+ghost use Rattle.test_rig.specs.Answering.{is_count, ready_of, size_of, standing_of};
 
 use cdb_codec::Cdb;
 use dix_base::Failed;

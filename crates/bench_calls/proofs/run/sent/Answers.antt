@@ -5,7 +5,7 @@ use Rattle.rig_api.specs.State.{RigState}
 use Rattle.image_rig.specs.Logs.{room_in}
 use Rattle.stack_laws.specs.Runs.{blocks_of_requests}
 use Rattle.stack_core.specs.Stacks.{plan_in}
-use Rattle.test_answers.specs.Answering.{standing_of}
+use Rattle.test_rig.specs.Answering.{standing_of}
 use Rattle.bench_calls.proofs.run.sent.Goals as goal
 
 -- room for as many exchanges as blocks

@@ -4,7 +4,7 @@ ghost use Rattle.std.specs.Prelude.{◌≡◌, ◌+◌, ◌*◌, ◌-◌, ◌≤
 ghost use Rattle.std.specs.Vec.{vec_capacity};
 ghost use Rattle.rig_api.specs.Log.{HasRoom, has_key};
 ghost use Rattle.rig_api.specs.Telling.{greatest_size};
-ghost use Rattle.test_answers.specs.Answering.{IsFilled, entries, few_of, is_count, is_keyed, keyed_of, ready_of, room_of, size_of, spare, standing_of};
+ghost use Rattle.test_rig.specs.Answering.{IsFilled, entries, few_of, is_count, is_keyed, keyed_of, ready_of, room_of, size_of, spare, standing_of};
 
 use cdb_codec::Cdb;
 use dix_base::Failed;

@@ -1,6 +1,6 @@
 use Rattle.std.proofs.Common.{sym, ◌∙◌, arith}
-use Rattle.test_answers.proofs.Rooms.{has-room}
-use Rattle.test_answers.proofs.rig.AnswerRigRig.reserve.Goals as goal
+use Rattle.test_rig.proofs.Rooms.{has-room}
+use Rattle.test_rig.proofs.rig.AnswerRigRig.reserve.Goals as goal
 
 pub returns-clause-room : goal.returns-clause-room
 returns-clause-room c =

@@ -1,6 +1,6 @@
 use Rattle.std.proofs.Common.{refl, None, arith}
-use Rattle.test_answers.proofs.Rooms.{has-room}
-use Rattle.test_answers.proofs.rig.AnswerRig.forget.Goals as goal
+use Rattle.test_rig.proofs.Rooms.{has-room}
+use Rattle.test_rig.proofs.rig.AnswerRig.forget.Goals as goal
 
 pub returns-clause-room : goal.returns-clause-room
 returns-clause-room c =

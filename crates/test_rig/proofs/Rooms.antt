@@ -13,7 +13,7 @@ use Rattle.target_answer.specs.declared.request.Request.TheVariants.{Read, Write
 use Rattle.rig_api.specs.Log.{HasRoom, capacity_by, capacity_len, capacity_under}
 use Rattle.rig_api.specs.Telling.{greatest_size}
 use Rattle.rig_api.specs.declared.rig.Record.{Record}
-use Rattle.test_answers.specs.Answering.{device_count, greatest_is, greatest_most, is_count, records_left, room_of, spare, standing_of}
+use Rattle.test_rig.specs.Answering.{device_count, greatest_is, greatest_most, is_count, records_left, room_of, spare, standing_of}
 
 -- A command transfers blocks, or the data of READ CAPACITY.
 of-request : (r : Request) (w room most : ℕ) → w * transferred r ≤ most → capacity_by r room ≤ most → w * transferred r + capacity_by r room ≤ most

@@ -2,9 +2,9 @@ use Rattle.std.proofs.Common.{◌≡◌, ◌++◌, ◌∷◌, [], length, ap, sy
 use Rattle.target_answer.specs.Requests.{blocks_of}
 use Rattle.rig_api.specs.Log.{entry_of, labels_of, moved_of}
 use Rattle.rig_api.specs.Telling.{spec_at}
-use Rattle.test_answers.specs.Answering.{device_is, entries, standing_of}
-use Rattle.test_answers.proofs.Rooms.{one-or-other, rooms}
-use Rattle.test_answers.proofs.rig.AnswerRigRig.exchange.Goals as goal
+use Rattle.test_rig.specs.Answering.{device_is, entries, standing_of}
+use Rattle.test_rig.proofs.Rooms.{one-or-other, rooms}
+use Rattle.test_rig.proofs.rig.AnswerRigRig.exchange.Goals as goal
 
 pub note-requires-clause-moved : goal.note-requires-clause-moved
 note-requires-clause-moved c =
