@@ -64,13 +64,19 @@ returns-clause-lands g c = λ v t h m.
     (f.j, (f.step, (landed _ _ _ _ refl c.take-d.ensures.bios c.clear.ensures.items ∙ ap (λ (z : Command). z.bios) e, landed _ _ _ _ refl c.take-d.ensures.fates c.clear-2.ensures.items ∙ ap (λ (z : Command). z.fates) e)))
 
 pub returns-clause-step : goal.returns-clause-step
-returns-clause-step g c = λ cut v t h can m. let k = (settled-at _ _ _ _ _ _ (g.met.P.Requests.fine c.args.plan.now) c.requires.ready c.take-d.ensures.dev (landed _ _ _ _ c.deref-3.ensures.value c.take-d.ensures.bios c.clear.ensures.items) (landed _ _ _ _ c.deref-4.ensures.value c.take-d.ensures.fates c.clear-2.ensures.items)) in record {
-  shows = complete-whole _ _ _ _ _ _ _ _ _ _ _ v c.args.i t cut _ _ _ _ _ (g.met.P.Requests.fine c.args.plan.now) h.shows can m c.take-d.ensures.dev
-      (landed _ _ _ _ c.deref.ensures.value c.take-d.ensures.bios c.clear.ensures.items) (landed _ _ _ _ c.deref-2.ensures.value c.take-d.ensures.fates c.clear-2.ensures.items)
-      (landed _ _ _ _ c.deref-3.ensures.value c.take-d.ensures.bios c.clear.ensures.items) (landed _ _ _ _ c.deref-4.ensures.value c.take-d.ensures.fates c.clear-2.ensures.items)
-      c.settle.ensures (queue-set c.args.self.now.queues.items c.take-d.result c.put_rests.new.queue c.index_mut.result.now (put_all (rests (g.P.Requests.plan c.args.plan.now) c.deref-3.result.now c.deref-4.result.now)) k.device c.index_mut.ensures.value c.put_rests.ensures.groups) (room-set c.args.self.now.queues.items c.take-d.result c.put_rests.new.queue c.index_mut.result.now c.index_mut.ensures.value c.put_rests.ensures.room) c.take-d.ensures.commands c.take-d.ensures.room refl;
-  room = omega (arith, h.room, c.put_rests.ensures.capacity);
-}
+returns-clause-step g c = λ cut v t h can m.
+    let bios = landed _ _ _ _ c.deref-3.ensures.value c.take-d.ensures.bios c.clear.ensures.items in
+    let fates = landed _ _ _ _ c.deref-4.ensures.value c.take-d.ensures.fates c.clear-2.ensures.items in
+    let k = settled-at _ _ _ _ _ _ (g.met.P.Requests.fine c.args.plan.now) c.requires.ready c.take-d.ensures.dev bios fates in
+    let back = put_all (rests (g.P.Requests.plan c.args.plan.now) c.deref-3.result.now c.deref-4.result.now) in
+    record {
+      shows = complete-whole _ _ _ _ _ _ _ _ _ _ _ v c.args.i t cut _ _ _ _ _ (g.met.P.Requests.fine c.args.plan.now) h.shows can m c.take-d.ensures.dev
+          (landed _ _ _ _ c.deref.ensures.value c.take-d.ensures.bios c.clear.ensures.items) (landed _ _ _ _ c.deref-2.ensures.value c.take-d.ensures.fates c.clear-2.ensures.items) bios fates c.settle.ensures
+          (queue-set c.args.self.now.queues.items c.take-d.result c.put_rests.new.queue c.index_mut.result.now back k.device c.index_mut.ensures.value c.put_rests.ensures.groups)
+          (room-set c.args.self.now.queues.items c.take-d.result c.put_rests.new.queue c.index_mut.result.now c.index_mut.ensures.value c.put_rests.ensures.room)
+          c.take-d.ensures.commands c.take-d.ensures.room refl;
+      room = omega (arith, h.room, c.put_rests.ensures.capacity);
+    }
 
 pub returns-clause-bios : goal.returns-clause-bios
 returns-clause-bios g c = omega (arith, c.take-d.ensures.bios_capacity, c.clear.ensures.capacity)

@@ -1,5 +1,5 @@
 -- What is asked of the piece that is cut.
-use Rattle.std.proofs.Common.{◌≡◌, ◌<◌, ℕ, length, List, ◌∷◌, [], ◌++◌, arith, refl, ap, ◌∙◌, get_or, set}
+use Rattle.std.proofs.Common.{◌≡◌, ℕ, List, ◌∷◌, [], ◌++◌, arith, refl, ap, ◌∙◌, get_or, set}
 use Rattle.std.proofs.lemmas.List.{get_or_default}
 use Rattle.bio_core.specs.declared.bio.Bio.{Bio}
 use Rattle.stack_laws.specs.Pieces.{bio_of, cut_to, greatest_piece}
@@ -21,13 +21,13 @@ cut-at : (p : Plan) (s : Machine) (q size op : ℕ) (o : OpState) (b : Bio) → 
     b ≡ bio_of p op o.cut (cut_to size (greatest_piece p op o.cut)) → Piece p s.ops.items s.queues.items op b
 cut-at p s q size op o b f r x y e = piece-at p s.gate s.ops.items s.live.items s.queues.items s.flight s.steps r.view q r.step size op o b f r.holds.shows r.can r.means x y e
 
--- the op is there
-op-there : (p : Plan) (s : Machine) (q op : ℕ) → Fine p → Ready p s (Cut q) → op ≡ get_or s.live.items q op → op < length s.ops.items
-op-there p s q op f r x =
+-- what is kept of the op
+kept-at : (p : Plan) (s : Machine) (q op : ℕ) (o : OpState) → Fine p → Ready p s (Cut q) → op ≡ get_or s.live.items q op → o ≡ get_or s.ops.items op o → o ≡ get_or s.ops.items op no_state
+kept-at p s q op o f r x e =
     let l = listed-there p s.gate s.ops.items s.live.items s.queues.items s.flight s.steps r.view q f r.holds.shows r.means.0 in
     let y : op ≡ get_or s.live.items q 0 = x ∙ get_or_default s.live.items q op 0 l.place in
     let z = l.op in
-    omega arith
+    e ∙ get_or_default s.ops.items op o no_state (omega arith)
 
 -- a list that was empty has the one bio that was put into it
 alone : (xs new old : List Bio) (b : Bio) → xs ≡ new → new ≡ old ++ b ∷ [] → old ≡ [] → xs ≡ b ∷ []
@@ -50,7 +50,7 @@ put-requires-clause-room g c =
 pub overflow_add-index_mut : goal.overflow_add-index_mut
 overflow_add-index_mut g c =
     let k = cut-at _ _ _ _ c.at-op.result c.index.result.now _ (g.met.P.Requests.fine c.args.plan.now) c.requires c.at-op.ensures c.index.ensures c.next_piece-bio.ensures in
-    let z = ap (λ (o : OpState). o.cut) (c.index_mut-2.ensures.value ∙ get_or_default c.args.self.now.ops.items c.at-op.result c.index_mut-2.result.now no_state (op-there _ _ _ _ (g.met.P.Requests.fine c.args.plan.now) c.requires c.at-op.ensures)) in
+    let z = ap (λ (o : OpState). o.cut) (kept-at _ _ _ c.at-op.result c.index_mut-2.result.now (g.met.P.Requests.fine c.args.plan.now) c.requires c.at-op.ensures c.index_mut-2.ensures.value) in
     omega (arith, k.fits, z)
 
 pub returns-clause-piece : goal.returns-clause-piece
@@ -59,7 +59,12 @@ returns-clause-piece g c = λ v t h can m. piece-of _ _ _ _ _ _ _ v c.args.q t c
 pub returns-clause-step : goal.returns-clause-step
 returns-clause-step g c = λ v t h can m.
     let k = cut-at _ _ _ _ c.at-op.result c.index.result.now _ (g.met.P.Requests.fine c.args.plan.now) c.requires c.at-op.ensures c.index.ensures c.next_piece-bio.ensures in
+    let o = kept-at _ _ _ c.at-op.result c.index_mut-2.result.now (g.met.P.Requests.fine c.args.plan.now) c.requires c.at-op.ensures c.index_mut-2.ensures.value in
     record {
-      shows = cut-whole _ _ _ _ _ _ _ _ _ _ v c.args.q t c.args.size c.at-op.result c.index.result.now _ _ (g.met.P.Requests.fine c.args.plan.now) h.shows can m c.at-op.ensures c.index.ensures c.next_piece-bio.ensures (alone _ _ _ _ c.deref.ensures.value c.push_reserved.ensures.items c.clear.ensures.items) (ap (λ (o : OpState). set c.args.self.now.ops.items c.at-op.result (more_cut c.next_piece-bio.result.count o)) (c.index_mut-2.ensures.value ∙ get_or_default c.args.self.now.ops.items c.at-op.result c.index_mut-2.result.now no_state (op-there _ _ _ _ (g.met.P.Requests.fine c.args.plan.now) c.requires c.at-op.ensures))) (queue-set c.args.self.now.queues.items c.next_piece-bio.result.dev c.put.new.self c.index_mut.result.now (put c.deref.result.now) k.there c.index_mut.ensures.value c.put.ensures.groups) (room-set c.args.self.now.queues.items c.next_piece-bio.result.dev c.put.new.self c.index_mut.result.now c.index_mut.ensures.value c.put.ensures.room) refl;
+      shows = cut-whole _ _ _ _ _ _ _ _ _ _ v c.args.q t c.args.size c.at-op.result c.index.result.now _ _ (g.met.P.Requests.fine c.args.plan.now) h.shows can m c.at-op.ensures c.index.ensures c.next_piece-bio.ensures
+          (alone _ _ _ _ c.deref.ensures.value c.push_reserved.ensures.items c.clear.ensures.items)
+          (ap (λ (o : OpState). set c.args.self.now.ops.items c.at-op.result (more_cut c.next_piece-bio.result.count o)) o)
+          (queue-set c.args.self.now.queues.items c.next_piece-bio.result.dev c.put.new.self c.index_mut.result.now (put c.deref.result.now) k.there c.index_mut.ensures.value c.put.ensures.groups)
+          (room-set c.args.self.now.queues.items c.next_piece-bio.result.dev c.put.new.self c.index_mut.result.now c.index_mut.ensures.value c.put.ensures.room) refl;
       room = omega (arith, h.room, c.push_reserved.ensures.capacity, c.clear.ensures.capacity);
     }
