@@ -1,6 +1,6 @@
 //! The words that the program is called with.
 
-use command_line::{Command, command_of};
+use dix_run::{Command, command_of};
 use pi_tuple::PiType;
 use std::alloc::{AllocError, Global};
 use unit_words::{UnitList, image_of};

@@ -7,11 +7,11 @@ use Rattle.pi_tuple.specs.declared.checks.PiType.{PiType}
 use Rattle.target_answer.specs.Headers.{is_layout}
 use Rattle.target_answer.specs.declared.units.UnitSpec.{UnitSpec}
 use Rattle.unit_words.specs.Words.{is_name, units_in}
-use Rattle.command_line.specs.Grammar.{big_of, big_with, command_in, format_of, format_with, is_one_name, modes_of, modes_with, on_image}
+use Rattle.dix_run.specs.Grammar.{big_of, big_with, command_in, format_of, format_with, is_one_name, modes_of, modes_with, on_image}
 use Rattle.script_words.specs.Decimals.{number_in}
 use Rattle.unit_words.specs.Units.{type_in}
-use Rattle.command_line.specs.declared.command.Command.{Command}
-use Rattle.command_line.specs.declared.command.Command.TheVariants.{Run, Trace, Format, Migrate, Mirror, Scrub, Nvme, Big}
+use Rattle.dix_run.specs.declared.command.Command.{Command}
+use Rattle.dix_run.specs.declared.command.Command.TheVariants.{Run, Trace, Format, Migrate, Mirror, Scrub, Nvme, Big}
 use Rattle.image_commands.proofs.Devices.{second_true}
 
 on_image_not : (c : Command) (words : List (List ℕ)) (us : List UnitSpec) → (c ≡ Format us → ⊥) → on_image c words ≡ Some (Format us) → ⊥

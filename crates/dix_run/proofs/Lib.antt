@@ -4,3 +4,4 @@ mod Layouts
 mod Opening
 pub mod Passed
 mod ScrubLines
+mod WordLemmas

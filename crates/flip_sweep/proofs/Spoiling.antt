@@ -9,7 +9,7 @@ use Rattle.target_answer.specs.Frames.{frames_of, stored_size}
 use Rattle.target_answer.specs.Headers.{all_bytes, bytes_of, is_spec}
 use Rattle.target_answer.specs.Image.{units_from}
 use Rattle.target_answer.specs.declared.units.UnitSpec.{UnitSpec}
-use Rattle.block_lines.proofs.Frames.{next_frame}
+use Rattle.image_text.proofs.Frames.{next_frame}
 use Rattle.flip_sweep.specs.Verdicts.{first_spoilt, first_spoilt_from, new_finding, or_else, spoilt_of}
 use Rattle.flip_sweep.specs.declared.verdict.Verdict.{Verdict}
 use Rattle.flip_sweep.specs.declared.verdict.Verdict.TheVariants.{Scrub}

@@ -7,7 +7,7 @@ use Rattle.bio_core.specs.declared.fate.Why.TheVariants as why
 use Rattle.pi_tuple.specs.declared.checks.Check.{Check}
 use Rattle.pi_tuple.specs.declared.checks.Check.TheVariants.{Guard, AppTag, RefTag}
 use Rattle.pi_tuple.specs.declared.checks.PiType.{PiType}
-use Rattle.block_lines.specs.Passed.{stored_finding}
+use Rattle.image_text.specs.Passed.{stored_finding}
 use Rattle.stack_ops.specs.declared.reply.BadBlock.{BadBlock}
 use Rattle.stack_ops.specs.declared.reply.Reply.{Reply}
 use Rattle.stack_ops.specs.declared.reply.Reply.TheVariants as reply

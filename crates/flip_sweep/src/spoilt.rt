@@ -1,7 +1,7 @@
 //! Stored blocks that are at fault, and wouldn't be otherwise.
 
 ghost use Rattle.std.specs.Prelude.{◌≡◌, ◌+◌, ◌*◌, ◌<◌, ◌^◌, Some, None, length, true};
-ghost use Rattle.block_lines.specs.Passed.{stored_finding};
+ghost use Rattle.image_text.specs.Passed.{stored_finding};
 ghost use Rattle.target_answer.specs.Frames.{frames_of, stored_size};
 ghost use Rattle.target_answer.specs.Headers.{all_bytes, bytes_of, is_layout, is_spec};
 ghost use Rattle.target_answer.specs.Image.{units_from};

@@ -1,2 +1,3 @@
 pub mod PlaceRows
 pub mod Stretches
+pub mod Walks

@@ -14,8 +14,8 @@ use Rattle.target_answer.proofs.FrameLaws.{frames_length}
 use Rattle.target_model.specs.Served.{AllLong}
 use Rattle.target_model.proofs.Bytes.{frames_back, frames_part, joined_frames, long_both, long_drop, long_frames, long_take, over_back, placed_length, unit_over}
 use Rattle.rig_api.specs.Telling.{holding, no_spec, unit_at}
-use Rattle.image_layout.specs.Places.{block_len, block_place}
-use Rattle.image_layout.proofs.Units.{behind_over, bytes_within, drop_over, frames_front, front_over, unit_found, units_change}
+use Rattle.image_rig.specs.LayoutPlaces.{block_len, block_place}
+use Rattle.image_rig.proofs.Units.{behind_over, bytes_within, drop_over, frames_front, front_over, unit_found, units_change}
 use Rattle.image_blocks.specs.declared.stretch.Stretch.{Stretch}
 use Rattle.image_blocks.specs.Blocks.{AreLeft, ArePut, AreStored, HasStretch, blocks_at, blocks_of, with_stretch}
 use Rattle.image_blocks.specs.Places.{IsStretch, behind_in, spec_of}

@@ -6,7 +6,7 @@ use Rattle.target_answer.specs.Target.{Stored}
 use Rattle.target_answer.specs.declared.units.UnitSpec.{UnitSpec}
 use Rattle.target_model.specs.Served.{AllLong}
 use Rattle.rig_api.specs.Telling.{unit_at, with_blocks}
-use Rattle.image_layout.specs.Places.{block_len}
+use Rattle.image_rig.specs.LayoutPlaces.{block_len}
 use Rattle.image_blocks.specs.declared.stretch.Stretch.{Stretch}
 
 -- the stored blocks of a stretch

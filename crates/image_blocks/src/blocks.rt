@@ -4,7 +4,7 @@ ghost use Rattle.std.specs.Prelude.{◌≡◌, ◌+◌, ◌*◌, ◌≤◌, OnOk
 ghost use Rattle.dix_base.specs.Stores.{IsCounted, WasRead, WasWritten};
 ghost use Rattle.dix_base.specs.Told.{Apart, Becomes};
 ghost use Rattle.target_answer.specs.Headers.{image_size};
-ghost use Rattle.image_layout.specs.Places.{block_len, block_place};
+ghost use Rattle.image_rig.specs.LayoutPlaces.{block_len, block_place};
 ghost use Rattle.image_blocks.specs.Blocks.{AreLeft, ArePut, HasStretch, blocks_of};
 ghost use Rattle.image_blocks.specs.Images.{units_open};
 ghost use Rattle.image_blocks.specs.Places.{IsStretch};
@@ -12,7 +12,7 @@ ghost use Rattle.image_blocks.specs.Places.{IsStretch};
 use crate::image::Image;
 use crate::stretch::Stretch;
 use dix_base::{Failed, Store};
-use image_layout::place_of;
+use image_rig::place_of;
 use target_answer::stored_size;
 
 /// The byte of the image at which a stretch begins.

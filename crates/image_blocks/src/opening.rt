@@ -1,11 +1,11 @@
 //! Opening an image.
 
-ghost use Rattle.image_layout.specs.Heads.{HasLooked};
+ghost use Rattle.image_rig.specs.Heads.{HasLooked};
 ghost use Rattle.image_blocks.specs.Images.{IsJudged};
 
 use crate::image::Image;
 use dix_base::Store;
-use image_layout::{ImageHead, look};
+use image_rig::{ImageHead, look};
 use rig_api::RigFault;
 use std::alloc::Global;
 

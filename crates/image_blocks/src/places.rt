@@ -2,7 +2,7 @@
 
 ghost use Rattle.std.specs.Prelude.{◌≡◌, ◌≤◌, ◌<◌, IfOk, List, length};
 ghost use Rattle.target_answer.specs.declared.units.UnitSpec.{UnitSpec};
-ghost use Rattle.image_layout.specs.Places.{block_len};
+ghost use Rattle.image_rig.specs.LayoutPlaces.{block_len};
 ghost use Rattle.image_blocks.specs.Images.{units_open};
 ghost use Rattle.image_blocks.specs.Places.{IsStretch, behind_in, front_in, has_blocks, part_in, whole_in};
 ghost use Rattle.target_answer.specs.declared.TheConstants.{MOST_FRAME};

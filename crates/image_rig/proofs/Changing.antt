@@ -16,11 +16,11 @@ use Rattle.rig_api.specs.Telling.{block_at, can_change, changed, frame_size, has
 use Rattle.rig_api.specs.declared.change.Change.{Change}
 use Rattle.rig_api.specs.declared.change.Change.TheVariants.{Flip, Copy}
 use Rattle.image_rig.specs.Changes.{IsChanged, altered_by, source_place}
-use Rattle.image_layout.specs.Places.{block_len, block_place}
+use Rattle.image_rig.specs.LayoutPlaces.{block_len, block_place}
 use Rattle.image_rig.specs.Places.{can_change_in}
 use Rattle.image_rig.specs.Told.{standing_of, units_of_image}
 use Rattle.image_rig.proofs.Devices.{Open, image_of, size_here, units_are}
-use Rattle.image_layout.proofs.Units.{Address, addressed, block_changed, block_found, block_held, unit_found}
+use Rattle.image_rig.proofs.Units.{Address, addressed, block_changed, block_found, block_held, unit_found}
 
 pub target_address : (us : List UnitSpec) (dev lba : ℕ) (change : Change) → dev < length us → can_change_in us dev lba change ≡ true → Address us dev lba
 target_address us dev lba (Flip off bytes) d c = addressed us dev lba d c

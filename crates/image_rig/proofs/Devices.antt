@@ -21,11 +21,11 @@ use Rattle.target_model.proofs.Bytes.{size_most as size_least}
 use Rattle.rig_api.specs.Telling.{HasCause, IsAnswer, answer_of, frame_size, greatest, holding, no_spec, unit_at, with_blocks}
 use Rattle.rig_api.specs.declared.rig.Outcome.{Outcome}
 use Rattle.rig_api.proofs.HeadLaws.{right_layout}
-use Rattle.image_layout.specs.Places.{place_of}
+use Rattle.image_rig.specs.LayoutPlaces.{place_of}
 use Rattle.image_rig.specs.Places.{logical_of}
 use Rattle.image_rig.specs.Told.{units_of_image}
-use Rattle.image_layout.proofs.Heads.{bytes_small, layout_parts, right_head, right_units, same_head, spec_here}
-use Rattle.image_layout.proofs.Units.{bytes_within, unit_found, units_change}
+use Rattle.image_rig.proofs.Heads.{bytes_small, layout_parts, right_head, right_units, same_head, spec_here}
+use Rattle.image_rig.proofs.Units.{bytes_within, unit_found, units_change}
 
 -- ---- what is known of an image that is open
 

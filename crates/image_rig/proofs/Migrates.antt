@@ -16,7 +16,7 @@ use Rattle.target_answer.specs.declared.units.UnitSpec.{UnitSpec}
 use Rattle.target_answer.specs.declared.units.Version.TheVariants.{Second}
 use Rattle.rig_api.specs.Head.{Head, IsHeadOf, head_of, specs_under, units_of, version_in}
 use Rattle.rig_api.specs.Telling.{KeepsBlocks, KeepsUnits, own_units}
-use Rattle.image_layout.proofs.Heads.{layout_parts}
+use Rattle.image_rig.proofs.Heads.{layout_parts}
 
 pub type_back : (ty : PiType) → type_of (number_of ty) ≡ ty
 type_back Zero = refl

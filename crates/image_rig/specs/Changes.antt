@@ -4,7 +4,7 @@ use Rattle.fault_schedule.specs.Altered.{byte_at, xored_from}
 use Rattle.target_answer.specs.declared.units.UnitSpec.{UnitSpec}
 use Rattle.rig_api.specs.declared.change.Change.{Change}
 use Rattle.rig_api.specs.declared.change.Change.TheVariants.{Flip, Copy}
-use Rattle.image_layout.specs.Places.{block_len, block_place}
+use Rattle.image_rig.specs.LayoutPlaces.{block_len, block_place}
 
 -- where the block begins that a change reads
 abbrev pub source_place : List UnitSpec → (dev lba : ℕ) → Change → ℕ

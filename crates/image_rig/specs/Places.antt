@@ -2,7 +2,7 @@ use Rattle.std.specs.Prelude.{ℕ, Bool, ◌&&◌, eqb, List, slice_index_or}
 use Rattle.target_answer.specs.Frames.{stored_size}
 use Rattle.target_answer.specs.declared.units.UnitSpec.{UnitSpec}
 use Rattle.target_model.specs.declared.unit.LogicalUnit.{LogicalUnit}
-use Rattle.image_layout.specs.Places.{place_of}
+use Rattle.image_rig.specs.LayoutPlaces.{place_of}
 use Rattle.rig_api.specs.Telling.{has_address, no_spec}
 use Rattle.rig_api.specs.declared.change.Change.{Change}
 use Rattle.rig_api.specs.declared.change.Change.TheVariants.{Flip, Copy}

@@ -1,24 +1,23 @@
 //! The calls of the rig.
 
 ghost use Rattle.std.specs.Prelude.{◌≡◌, [], length, refl};
-ghost use Rattle.rig_log.specs.Entries.{few_of, keyed_of};
-ghost use Rattle.rig_log.specs.Logs.{logged, room_in};
-ghost use Rattle.image_layout.specs.Heads.{called, head_in};
+ghost use Rattle.image_rig.specs.Entries.{few_of, keyed_of};
+ghost use Rattle.image_rig.specs.Logs.{logged, room_in};
+ghost use Rattle.image_rig.specs.Heads.{called, head_in};
 ghost use Rattle.image_rig.specs.Told.{laid_of, ready_of, standing_of, units_of_image};
 
-use crate::ImageRig;
 use crate::formatting::append_formatted;
 use crate::migrating::migrate_head;
 use crate::overwriting::change_block;
 use crate::place::{greatest_size, logical};
+use crate::{ImageHead, ImageRig, Log, look};
 use arrayvec::ArrayVec;
+use cdb_codec::Cdb;
 use dix_base::{Failed, Store, StoreFault};
 use fault_schedule::{FaultList, Label, Tamper};
-use image_layout::{ImageHead, look};
-use rig_api::{Change, Outcome, Record, Rig, RigFault, UnitSpec};
-use rig_log::Log;
+use rig_api::{Change, Exchanged, Outcome, Record, Rig, RigFault, UnitSpec};
 use std::alloc::{AllocError, Global};
-use target_model::serve;
+use target_model::serve_command;
 
 impl<S: Store> ImageRig<S> {
     /// A rig over this store, with no image opened, no fault armed and nothing in its log.
@@ -155,9 +154,19 @@ impl<S: Store> Rig for ImageRig<S> {
         into: &mut [u8],
     ) -> Outcome {
         let unit = logical(&self.units, dev as usize);
-        let outcome = serve(&mut self.store, &unit, cdb, labels, out, into, &self.tamper);
-        self.log
-            .note(unit.size, dev, cdb, labels, outcome, out, into);
+        let command = Cdb::decode(cdb);
+        let tamper = &self.tamper;
+        let outcome = serve_command(&mut self.store, &unit, command, labels, out, into, tamper);
+        self.log.note(&Exchanged {
+            dev,
+            size: unit.size,
+            cdb,
+            command,
+            labels,
+            outcome,
+            out,
+            into,
+        });
         outcome
     }
 }

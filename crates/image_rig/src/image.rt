@@ -2,13 +2,12 @@
 
 ghost use Rattle.std.specs.Prelude.{◌≡◌, ◌<◌, List, ℕ, length, Some, None};
 ghost use Rattle.rig_api.specs.Head.{head_fault, head_of, units_of};
-ghost use Rattle.image_layout.specs.Heads.{head_in};
+ghost use Rattle.image_rig.specs.Heads.{head_in};
 
+use crate::{ImageHead, Log};
 use arrayvec::ArrayVec;
 use dix_base::Store;
 use fault_schedule::Tamper;
-use image_layout::ImageHead;
-use rig_log::Log;
 use target_answer::UnitSpec;
 
 /// A rig over an image in a store. Once an image is opened, each of its units is a device.

@@ -4,9 +4,21 @@
 
 mod calls;
 mod formatting;
+mod head;
+mod held;
 mod image;
+mod image_head;
+mod kept;
+mod layout_place;
+mod log;
+mod looking;
 mod migrating;
+mod note;
 mod overwriting;
 mod place;
 
 pub use image::ImageRig;
+pub use image_head::ImageHead;
+pub use layout_place::{block_place, has_address, place_of};
+pub use log::Log;
+pub use looking::look;

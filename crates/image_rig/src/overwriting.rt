@@ -4,15 +4,15 @@ ghost use Rattle.std.specs.Prelude.{◌≡◌, ◌+◌, ◌<◌, ◌≤◌, IsOk
 ghost use Rattle.dix_base.specs.Stores.{WasWritten};
 ghost use Rattle.dix_base.specs.Told.{Apart, Becomes, Rose, over};
 ghost use Rattle.image_rig.specs.Changes.{IsChanged, altered_by};
-ghost use Rattle.image_layout.specs.Places.{block_len, block_place};
+ghost use Rattle.image_rig.specs.LayoutPlaces.{block_len, block_place};
 ghost use Rattle.image_rig.specs.Places.{can_change_in};
 ghost use Rattle.rig_api.specs.Telling.{source_of};
 ghost use Rattle.target_answer.specs.Headers.{image_size, is_layout};
 
+use crate::block_place;
 use crate::place::{can_change, source_place};
 use dix_base::{Failed, Store};
 use fault_schedule::xor_into;
-use image_layout::block_place;
 use rig_api::{Change, UnitSpec};
 use target_answer::{MOST_FRAME, stored_size};
 

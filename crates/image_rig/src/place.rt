@@ -7,7 +7,7 @@ ghost use Rattle.rig_api.specs.Telling.{greatest, has_address, no_spec, source_o
 ghost use Rattle.image_rig.specs.Changes.{source_place};
 ghost use Rattle.image_rig.specs.Places.{can_change_in, logical_of};
 
-use image_layout::{block_place, has_address, place_of};
+use crate::{block_place, has_address, place_of};
 use rig_api::{Change, UnitSpec};
 use target_answer::stored_size;
 use target_model::LogicalUnit;

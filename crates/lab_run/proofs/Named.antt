@@ -3,12 +3,12 @@ use Rattle.std.proofs.Common.{◌≡◌, ℕ, ◌≤◌, Bool, true, false, eqb,
 use Rattle.std.specs.Prelude.{codes, if◌then◌else◌}
 use Rattle.std.specs.Str.{bytes_eq}
 use Rattle.unit_words.specs.Words.{laid_out, units_in}
-use Rattle.lab_words.specs.Grammar.{PlaceAhead, alone, alone_behind, behind_image, command_by, command_in, diff_ahead, diff_of, diff_with, explain_of, export_of, exported, flip_in, image_and_place, import_of, imported, laid_in, show_of, shown, shown_at, shown_behind, sweep_of, sweep_with, unless_zero, vectors_of}
-use Rattle.lab_words.specs.Places.{place_in}
-use Rattle.lab_words.specs.declared.command.Command.{Command}
-use Rattle.lab_words.specs.declared.command.Command.TheVariants.{Help, Version, ShowUnits, ShowBlocks, Diff, Export, Import, Vectors, Judge, Explain, Sweep}
-use Rattle.lab_words.specs.declared.layout.Layout.{Layout}
-use Rattle.lab_words.specs.declared.place.PlaceWord.{PlaceWord}
+use Rattle.lab_run.specs.Grammar.{PlaceAhead, alone, alone_behind, behind_image, command_by, command_in, diff_ahead, diff_of, diff_with, explain_of, export_of, exported, flip_in, image_and_place, import_of, imported, laid_in, show_of, shown, shown_at, shown_behind, sweep_of, sweep_with, unless_zero, vectors_of}
+use Rattle.lab_run.specs.Places.{place_in}
+use Rattle.lab_run.specs.declared.command.Command.{Command}
+use Rattle.lab_run.specs.declared.command.Command.TheVariants.{Help, Version, ShowUnits, ShowBlocks, Diff, Export, Import, Vectors, Judge, Explain, Sweep}
+use Rattle.image_text.specs.declared.layout.Layout.{Layout}
+use Rattle.lab_run.specs.declared.place.PlaceWord.{PlaceWord}
 use Rattle.script_words.specs.Hexes.{byte_in}
 use Rattle.target_answer.specs.Headers.{is_layout}
 use Rattle.target_answer.specs.declared.units.UnitSpec.{UnitSpec}

@@ -3,20 +3,30 @@
 //! their runs, and sweeps flips.
 #![tactic(auto)]
 
+mod command;
 mod comparing;
 mod dumps;
 mod explaining;
 mod exporting;
+mod finding;
+mod from;
 mod importing;
 mod judging;
+mod layout;
+mod place;
 mod playing;
 mod program;
 mod refusal;
 mod showing;
-mod status;
-mod stopping;
 mod sweeping;
+mod usage;
 
-pub use program::{refuse, run};
+pub use call_verdict::{Status, refuse};
+pub use command::{Command, command_of};
+pub use layout::layout_of;
+pub use place::{PlaceWord, place_of};
+pub use program::run;
 pub use refusal::Refusal;
-pub use status::Status;
+
+/// The most blocks of a place.
+pub const MOST_COUNT: u64 = 65_536;

@@ -5,16 +5,16 @@ use Rattle.std.proofs.Math.Nat.{add-mul}
 use Rattle.bio_core.specs.declared.fate.Why.{Why}
 use Rattle.page_pool.specs.Cells.{flat}
 use Rattle.pi_tuple.specs.Tuples.{tuple_in}
-use Rattle.whole_run.specs.Past.{Brought}
+use Rattle.walk_laws.specs.Past.{Brought}
 use Rattle.script_text.specs.declared.script.Script.{Script}
-use Rattle.mirror_walk.specs.Stretches.{Need}
-use Rattle.mirror_legs.specs.declared.piece.Piece.{Piece}
-use Rattle.mirror_legs.specs.Inner.{pages_for}
+use Rattle.mirror_laws.specs.Stretches.{Need}
+use Rattle.mirror_volume.specs.declared.piece.Piece.{Piece}
+use Rattle.mirror_volume.specs.Inner.{pages_for}
 use Rattle.mirror_volume.specs.declared.repair.Seen.{Seen}
-use Rattle.leg_runs.specs.Asked.{AreOf, bytes_after, found_after, part_of, pasted}
+use Rattle.mirror_volume.specs.Asked.{AreOf, bytes_after, found_after, part_of, pasted}
 use Rattle.mirror_volume.specs.Helds.{IsAfter}
-use Rattle.leg_runs.specs.LegRuns.{LegRun, found_by, pool_of, replies_of}
-use Rattle.leg_runs.specs.Mending.{delivered, goods, need_by, needs_by, tuples_after}
+use Rattle.mirror_volume.specs.LegRuns.{LegRun, found_by, pool_of, replies_of}
+use Rattle.mirror_volume.specs.Mending.{delivered, goods, need_by, needs_by, tuples_after}
 use Rattle.mirror_volume.proofs.Stretched.{are-of-append, bytes-after-append, found-after-append}
 
 pub tuples-after-append : (script : Piece → Script) (p : Piece) (size : ℕ) (ss ts : List (ℕ × ℕ)) (runs more : List LegRun) (tuples : List ℕ) → AreOf script p ss runs

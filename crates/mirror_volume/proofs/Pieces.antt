@@ -13,11 +13,11 @@ use Rattle.script_text.specs.Ops.{data_fault}
 use Rattle.script_stack.specs.Passed.{IsStackOp}
 use Rattle.script_stack.proofs.Passed.{alone-of, if-none, all-lie, once-both}
 use Rattle.script_stack.specs.Causes.{table_of}
-use Rattle.mirror_legs.specs.Passed.{op_fault, range_fault}
+use Rattle.mirror_volume.specs.LegsPassed.{op_fault, range_fault}
 use Rattle.mirror_volume.specs.declared.legs.Plan.{Plan}
 use Rattle.mirror_volume.specs.Plans.{IsPlan, IsRequestOf}
-use Rattle.leg_runs.specs.Standing.{half_of, op_at}
-use Rattle.leg_runs.proofs.Requests.{op-fits, op-rules, request-fits}
+use Rattle.mirror_volume.specs.Standing.{half_of, op_at}
+use Rattle.mirror_volume.proofs.Requests.{op-fits, op-rules, request-fits}
 use Rattle.script_laws.proofs.OpForms.{no_fault}
 
 request-suits : (plan : Plan) (pool : List (List ℕ)) (op v n : ℕ) (body : List Seg) → IsPlan plan → length pool ≡ plan.script.pages → data_fault plan.script.pages plan.script.block n body ≡ None

@@ -9,10 +9,10 @@ use Rattle.volume_table.proofs.Sums.{few}
 use Rattle.script_text.specs.declared.script.Script.{Script}
 use Rattle.script_laws.specs.Keeping.{Keeps}
 use Rattle.script_stack.specs.Causes.{table_of}
-use Rattle.mirror_legs.specs.Passed.{mirror_fault}
-use Rattle.mirror_legs.specs.declared.piece.Piece.{Piece}
-use Rattle.mirror_legs.specs.MirrorScript.{IsMirrorScript, IsPiece, IsPieceWithTuples}
-use Rattle.mirror_legs.proofs.Suits.{block_sizes}
+use Rattle.mirror_volume.specs.LegsPassed.{mirror_fault}
+use Rattle.mirror_volume.specs.declared.piece.Piece.{Piece}
+use Rattle.mirror_volume.specs.MirrorScript.{IsMirrorScript, IsPiece, IsPieceWithTuples}
+use Rattle.mirror_volume.proofs.Suits.{block_sizes}
 use Rattle.mirror_volume.specs.declared.legs.Plan.{Plan}
 use Rattle.mirror_volume.specs.Plans.{IsPieceOf, IsPlan}
 

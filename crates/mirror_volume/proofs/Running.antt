@@ -3,10 +3,10 @@ use Rattle.std.proofs.Common.{ℕ, ◌≡◌, ◌≤◌, List, [], ◌++◌, is_
 use Rattle.rig_api.specs.State.{RigState}
 use Rattle.script_text.specs.declared.script.Script.{Script}
 use Rattle.script_stack.specs.Causes.{table_of}
-use Rattle.leg_runs.specs.LegRuns.{LegRun}
-use Rattle.leg_runs.specs.Standing.{HasLegDevices}
-use Rattle.leg_runs.proofs.OwnEach.{all_own-append, all_own-so}
-use Rattle.leg_runs.proofs.Runs.{go_on-append, ran-append, ran-nothing}
+use Rattle.mirror_volume.specs.LegRuns.{LegRun}
+use Rattle.mirror_volume.specs.Standing.{HasLegDevices}
+use Rattle.mirror_volume.proofs.OwnEach.{all_own-append, all_own-so}
+use Rattle.mirror_volume.proofs.Runs.{go_on-append, ran-append, ran-nothing}
 use Rattle.mirror_volume.specs.declared.legs.Plan.{Plan}
 use Rattle.mirror_volume.specs.Running.{CanRun, HasRunOnLegs}
 

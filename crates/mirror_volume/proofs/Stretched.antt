@@ -5,9 +5,9 @@ use Rattle.script_laws.proofs.Held.{each_both}
 use Rattle.bio_core.specs.declared.fate.Why.{Why}
 use Rattle.page_pool.specs.Cells.{flat}
 use Rattle.script_text.specs.declared.script.Script.{Script}
-use Rattle.mirror_legs.specs.declared.piece.Piece.{Piece}
-use Rattle.leg_runs.specs.Asked.{AreOf, IsInside, bytes_after, ended, found_after, pasted, stretches, stretches_from}
-use Rattle.leg_runs.specs.LegRuns.{LegRun, found_by, pool_of, replies_of}
+use Rattle.mirror_volume.specs.declared.piece.Piece.{Piece}
+use Rattle.mirror_volume.specs.Asked.{AreOf, IsInside, bytes_after, ended, found_after, pasted, stretches, stretches_from}
+use Rattle.mirror_volume.specs.LegRuns.{LegRun, found_by, pool_of, replies_of}
 
 pub are-of-append : (script : Piece → Script) (p : Piece) (ss ts : List (ℕ × ℕ)) (runs more : List LegRun) → AreOf script p ss runs → AreOf script p ts more → AreOf script p (ss ++ ts) (runs ++ more)
 are-of-append script p [] ts [] more h k = k

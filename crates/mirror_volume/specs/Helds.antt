@@ -1,13 +1,13 @@
 use Rattle.std.specs.Prelude.{ℕ, ◌≡◌, ◌*◌, List, length, Option}
 use Rattle.bio_core.specs.declared.fate.Why.{Why}
-use Rattle.whole_run.specs.Past.{Brought}
-use Rattle.mirror_walk.specs.declared.marks.Marks.{Marks}
+use Rattle.walk_laws.specs.Past.{Brought}
+use Rattle.mirror_laws.specs.declared.marks.Marks.{Marks}
 use Rattle.mirror_volume.specs.declared.repair.Held.{Held}
 use Rattle.mirror_volume.specs.declared.repair.Repair.{Repair}
 use Rattle.mirror_volume.specs.declared.repair.Seen.{Seen}
-use Rattle.leg_runs.specs.LegRuns.{LegRun}
-use Rattle.leg_runs.specs.Asked.{bytes_after, found_after}
-use Rattle.leg_runs.specs.Mending.{Mended, goods, tuples_after}
+use Rattle.mirror_volume.specs.LegRuns.{LegRun}
+use Rattle.mirror_volume.specs.Asked.{bytes_after, found_after}
+use Rattle.mirror_volume.specs.Mending.{Mended, goods, tuples_after}
 use Rattle.pi_tuple.specs.declared.TheConstants.{TUPLE}
 
 -- What a leg has of n blocks of this size.

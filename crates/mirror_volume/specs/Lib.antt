@@ -5,3 +5,12 @@ pub mod Plans
 pub mod Premises
 pub mod Rows
 pub mod Running
+pub mod Inner
+pub mod Legs
+pub mod MirrorScript
+pub mod LegsPassed
+pub mod LegRuns
+pub mod Asked
+pub mod OnOps
+pub mod Standing
+pub mod Mending

@@ -2,13 +2,13 @@ use Rattle.std.specs.Prelude.{ℕ, ◌≡◌, ◌+◌, ◌*◌, ◌≤◌, List,
 use Rattle.page_pool.specs.declared.segs.Seg.{Seg}
 use Rattle.page_pool.specs.Pages.{AllLieIn}
 use Rattle.page_pool.specs.Places.{NoneTwice, range_of, total}
-use Rattle.mirror_legs.specs.declared.piece.Piece.{Piece}
+use Rattle.mirror_volume.specs.declared.piece.Piece.{Piece}
 use Rattle.mirror_volume.specs.declared.legs.Plan.{Plan}
 use Rattle.mirror_volume.specs.declared.mirror.Mirror.{Mirror}
 use Rattle.mirror_volume.specs.declared.mirror.State.{State}
-use Rattle.leg_runs.specs.Mending.{whole_stretch}
-use Rattle.leg_runs.specs.OnOps.{Sides, whole_request}
-use Rattle.leg_runs.specs.Standing.{IsBoundMirror, half_of}
+use Rattle.mirror_volume.specs.Mending.{whole_stretch}
+use Rattle.mirror_volume.specs.OnOps.{Sides, whole_request}
+use Rattle.mirror_volume.specs.Standing.{IsBoundMirror, half_of}
 use Rattle.script_lines.specs.declared.TheConstants.{MOST_MEMORY}
 
 -- What a mirror goes by: a script that is bound to its devices, and the number of its blocks.

@@ -4,9 +4,9 @@ use Rattle.rig_api.specs.State.{RigState}
 use Rattle.stack_ops.specs.declared.reply.Reply.{Reply}
 use Rattle.script_text.specs.declared.script.Script.{Script}
 use Rattle.script_stack.specs.Causes.{table_of}
-use Rattle.leg_runs.specs.LegRuns.{AllOwn, GoOn, LegRun, RanLegs}
-use Rattle.leg_runs.specs.OnOps.{DidOp}
-use Rattle.leg_runs.specs.Standing.{HasLegDevices, KeepsToWalk, op_at}
+use Rattle.mirror_volume.specs.LegRuns.{AllOwn, GoOn, LegRun, RanLegs}
+use Rattle.mirror_volume.specs.OnOps.{DidOp}
+use Rattle.mirror_volume.specs.Standing.{HasLegDevices, KeepsToWalk, op_at}
 use Rattle.mirror_volume.specs.declared.legs.Plan.{Plan}
 use Rattle.mirror_volume.specs.declared.mirror.Mirror.{Mirror}
 use Rattle.mirror_volume.specs.Plans.{IsMirror, IsPlan, sides_of}

@@ -8,22 +8,22 @@ ghost use Rattle.script_text.specs.Bindings.{binding_fault};
 ghost use Rattle.script_stack.specs.Causes.{table_of};
 ghost use Rattle.stack_core.specs.Passed.{requests_from};
 ghost use Rattle.stack_core.specs.Stacks.{IsStack};
-ghost use Rattle.mirror_legs.specs.Inner.{page_segs, pages_for, read_pi_script, read_script, write_script};
-ghost use Rattle.leg_runs.specs.LegRuns.{OneRun, found_by, pool_of, replies_of};
+ghost use Rattle.mirror_volume.specs.Inner.{page_segs, pages_for, read_pi_script, read_script, write_script};
+ghost use Rattle.mirror_volume.specs.LegRuns.{OneRun, found_by, pool_of, replies_of};
 ghost use Rattle.mirror_volume.specs.Helds.{HasPieceRoom};
 ghost use Rattle.mirror_volume.specs.Plans.{IsPieceOf};
 ghost use Rattle.mirror_volume.specs.Running.{CanRun, HasRunOnLegs};
-ghost use Rattle.leg_runs.specs.Standing.{IsBoundMirror};
+ghost use Rattle.mirror_volume.specs.Standing.{IsBoundMirror};
 ghost use Rattle.pi_tuple.specs.declared.TheConstants.{TUPLE};
 ghost use Rattle.page_pool.specs.declared.TheConstants.{PAGE};
 
 use crate::replies::found_last;
-use bio_core::Why;
-use mirror_legs::{
+use crate::{
     Piece, a_mirror_has_what_its_legs_ask, a_stack_takes_a_read_with_tuples_on_a_leg,
     a_stack_takes_a_request_on_a_leg, page_segs, pages_for, read_pi_script, read_script,
     write_script,
 };
+use bio_core::Why;
 use page_pool::PagePool;
 use rig_api::Rig;
 use script_stack::run_bound;

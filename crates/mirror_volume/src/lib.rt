@@ -5,13 +5,17 @@
 
 mod laws;
 mod legs;
+mod legs_laws;
 mod marks;
 mod mirror;
 mod ops;
+mod own;
 mod pages;
+mod piece;
 mod reading;
 mod repair;
 mod replies;
+mod runs_laws;
 mod stretches;
 mod writing;
 
@@ -20,4 +24,14 @@ pub use laws::{
     no_fault_is_enough_under_any_protect_field, one_good_leg_is_enough,
     premises_of_a_mirror_can_be_met,
 };
+pub use legs_laws::{
+    a_mirror_has_what_its_legs_ask, a_read_on_a_leg_goes_its_ways,
+    a_read_with_tuples_on_a_leg_goes_its_ways, a_stack_takes_a_read_with_tuples_on_a_leg,
+    a_stack_takes_a_request_on_a_leg, a_write_on_a_leg_goes_its_ways,
+};
 pub use mirror::{Mirror, Repair};
+pub use own::{page_segs, pages_for, read_pi_script, read_script, write_script};
+pub use piece::Piece;
+pub use runs_laws::{
+    a_repair_of_a_mirror_is_that_of_its_walk, an_op_of_a_mirror_goes_on_in_its_walk,
+};

@@ -5,18 +5,19 @@ ghost use Rattle.mirror_volume.specs.Helds.{none_mended, so_far};
 ghost use Rattle.mirror_volume.specs.Plans.{IsMirror, sides_of};
 ghost use Rattle.mirror_volume.specs.Running.{CanGoOn, CanRun, DidNext, HasRunOnLegs};
 ghost use Rattle.target_answer.specs.Target.{Stored};
-ghost use Rattle.leg_runs.specs.OnOps.{RanOp, whole_request};
-ghost use Rattle.leg_runs.specs.Mending.{IsRepairOf, RepairBy, stretches_in};
-ghost use Rattle.leg_runs.specs.Standing.{IsBoundMirror, RepairsAsWalk, StandsAt, op_at};
+ghost use Rattle.mirror_volume.specs.OnOps.{RanOp, whole_request};
+ghost use Rattle.mirror_volume.specs.Mending.{IsRepairOf, RepairBy, stretches_in};
+ghost use Rattle.mirror_volume.specs.Standing.{IsBoundMirror, RepairsAsWalk, StandsAt, op_at};
 
 use crate::legs::{Plan, table_of};
 use crate::marks::FRESH;
 use crate::ops::do_op;
 pub use crate::repair::Repair;
 use crate::repair::{STRETCH, repair_stretch};
-use leg_runs::{a_repair_of_a_mirror_is_that_of_its_walk, an_op_of_a_mirror_goes_on_in_its_walk};
-use mirror_legs::Piece;
-use mirror_walk::Marks;
+use crate::{
+    Piece, a_repair_of_a_mirror_is_that_of_its_walk, an_op_of_a_mirror_goes_on_in_its_walk,
+};
+use mirror_laws::Marks;
 use page_pool::PagePool;
 use rig_api::Rig;
 use script_text::Script;

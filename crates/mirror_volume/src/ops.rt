@@ -4,10 +4,10 @@ ghost use Rattle.std.specs.Prelude.{◌≡◌, ◌<◌, ◌+◌, ◌⊎◌, [], 
 ghost use Rattle.stack_ops.specs.declared.op.Op.TheVariants.{Fetch, Write};
 ghost use Rattle.stack_ops.specs.declared.reply.Reply.TheVariants.{Medium, Silent};
 ghost use Rattle.stack_core.specs.Doing.{HasChangedBlocks};
-ghost use Rattle.leg_runs.specs.OnOps.{Altered, DidOp, OverwriteTells, RanOp};
+ghost use Rattle.mirror_volume.specs.OnOps.{Altered, DidOp, OverwriteTells, RanOp};
 ghost use Rattle.mirror_volume.specs.Plans.{IsRequestOf, both_of};
 ghost use Rattle.mirror_volume.specs.Running.{CanRun};
-ghost use Rattle.leg_runs.specs.Standing.{op_at};
+ghost use Rattle.mirror_volume.specs.Standing.{op_at};
 
 use crate::legs::Plan;
 use crate::mirror::{State, whole_request};

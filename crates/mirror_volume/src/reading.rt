@@ -4,14 +4,14 @@
 ghost use Rattle.std.specs.Prelude.{◌≡◌, ◌*◌, [], ◌∷◌, IfOk, None, not, ◌&&◌, ◌||◌, if◌then◌else◌, is_none, is_some, length};
 ghost use Rattle.mirror_volume.specs.Plans.{IsPieceOf};
 ghost use Rattle.mirror_volume.specs.Running.{CanRun, HasRunOnLegs};
-ghost use Rattle.mirror_legs.specs.Inner.{read_script};
-ghost use Rattle.leg_runs.specs.Asked.{AreOf, IsInside, IsReadOf, ReadOnBoth, bytes_after, first_listed, found_after, fresh_on0, last_listed, rest_wanted, stretches};
+ghost use Rattle.mirror_volume.specs.Inner.{read_script};
+ghost use Rattle.mirror_volume.specs.Asked.{AreOf, IsInside, IsReadOf, ReadOnBoth, bytes_after, first_listed, found_after, fresh_on0, last_listed, rest_wanted, stretches};
 
+use crate::Piece;
 use crate::legs::{Plan, read_piece};
 use crate::stretches::stretches_of;
 use bio_core::Why;
-use mirror_legs::Piece;
-use mirror_walk::Marks;
+use mirror_laws::Marks;
 use rig_api::Rig;
 use std::alloc::{AllocError, Global};
 

@@ -2,21 +2,21 @@
 //! are written to the other one.
 
 ghost use Rattle.std.specs.Prelude.{◌≡◌, ◌<◌, ◌≤◌, ◌+◌, ◌*◌, ◌^◌, ◌&&◌, [], ◌∷◌, IfOk, drop, get_or, None, is_none, length, take};
-ghost use Rattle.leg_runs.specs.LegRuns.{OneRun, found_by, replies_of};
+ghost use Rattle.mirror_volume.specs.LegRuns.{OneRun, found_by, replies_of};
 ghost use Rattle.mirror_volume.specs.Plans.{IsPieceOf, IsStretchOf};
 ghost use Rattle.mirror_volume.specs.Running.{CanRun, HasRunOnLegs};
 ghost use Rattle.pi_tuple.specs.Tuples.{tuple_in};
-ghost use Rattle.mirror_legs.specs.Inner.{read_pi_script, write_script};
-ghost use Rattle.leg_runs.specs.Asked.{AreOf, IsInside, stretches};
+ghost use Rattle.mirror_volume.specs.Inner.{read_pi_script, write_script};
+ghost use Rattle.mirror_volume.specs.Asked.{AreOf, IsInside, stretches};
 ghost use Rattle.mirror_volume.specs.Helds.{AreHeld, IsAfter, IsHeldByLeg, IsSeen, goods_in, so_far};
-ghost use Rattle.leg_runs.specs.Mending.{IsRepairOf, MendsBy, StretchBy, delivered, fresh_on1, looked, need_by, needs_by};
+ghost use Rattle.mirror_volume.specs.Mending.{IsRepairOf, MendsBy, StretchBy, delivered, fresh_on1, looked, need_by, needs_by};
 
+use crate::Piece;
 use crate::legs::{Plan, read_pi_piece, write_piece};
 use crate::reading::fresh;
 use crate::stretches::stretches_of;
 use bio_core::Why;
-use mirror_legs::Piece;
-use mirror_walk::Marks;
+use mirror_laws::Marks;
 use pi_tuple::TUPLE;
 use rig_api::Rig;
 use std::alloc::{AllocError, Global};

@@ -1,7 +1,7 @@
 //! Stretches of blocks.
 
 ghost use Rattle.std.specs.Prelude.{◌≡◌, IfOk};
-ghost use Rattle.leg_runs.specs.Asked.{stretches};
+ghost use Rattle.mirror_volume.specs.Asked.{stretches};
 
 use std::alloc::{AllocError, Global};
 

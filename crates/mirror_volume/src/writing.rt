@@ -3,13 +3,13 @@
 ghost use Rattle.std.specs.Prelude.{◌≡◌, ◌*◌, IfOk, length};
 ghost use Rattle.mirror_volume.specs.Plans.{IsPieceOf};
 ghost use Rattle.mirror_volume.specs.Running.{CanRun, HasRunOnLegs};
-ghost use Rattle.leg_runs.specs.OnOps.{IsWriteOf, WroteBy, whole_request};
+ghost use Rattle.mirror_volume.specs.OnOps.{IsWriteOf, WroteBy, whole_request};
 
+use crate::Piece;
 use crate::legs::{Plan, write_piece};
 use crate::marks::mark;
 use crate::replies::{list_by_both, request_reply};
-use mirror_legs::Piece;
-use mirror_walk::Marks;
+use mirror_laws::Marks;
 use rig_api::Rig;
 use stack_ops::Reply;
 use std::alloc::{AllocError, Global};

@@ -18,10 +18,10 @@ use Rattle.image_commands.specs.Views.{OpenedOnce}
 use Rattle.image_commands.proofs.Opened.{right_head, told_is_good}
 use Rattle.call_refusal.specs.declared.refusal.Refusal.{Refusal}
 use Rattle.call_refusal.specs.declared.refusal.Refusal.TheVariants as refusal
-use Rattle.nvme_session.proofs.Kept.{told-is}
-use Rattle.nvme_lines.specs.Texts.{lines_read, text_in}
+use Rattle.nvme_command.proofs.Kept.{told-is}
+use Rattle.nvme_command.specs.Texts.{lines_read, text_in}
 use Rattle.script_words.specs.Cuts.{lines_of}
-use Rattle.nvme_lines.specs.declared.line.NvmLine.{NvmLine}
+use Rattle.nvme_command.specs.declared.line.NvmLine.{NvmLine}
 use Rattle.script_text.specs.declared.fault.ScriptFault.{ScriptFault}
 use Rattle.nvme_command.specs.Causes.{CauseNotDone, CauseUndone, HasAsked, HasDoneInPart, HasLines, HasMisfit, HasNoLines, HasTold, WereDone}
 use Rattle.nvme_command.specs.Done.{AllDone}

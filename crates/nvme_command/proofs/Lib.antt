@@ -1,3 +1,5 @@
 pub mod Completes
 mod Opening
 mod Steps
+pub mod Sizes
+pub mod Kept

@@ -6,7 +6,7 @@ use Rattle.rig_api.specs.State.{RigState}
 use Rattle.image_commands.specs.Causes.{HasOpened}
 use Rattle.call_refusal.specs.declared.refusal.Refusal.{Refusal}
 use Rattle.call_refusal.specs.declared.refusal.Refusal.TheVariants as refusal
-use Rattle.nvme_session.specs.Sessions.{CauseNoFront}
+use Rattle.nvme_command.specs.Sessions.{CauseNoFront}
 use Rattle.nvme_command.specs.Causes.{CauseClosed}
 
 -- why an opened image has no front is why it is closed

@@ -13,8 +13,8 @@ use Rattle.nvme_front.specs.Completions.{is_success}
 use Rattle.nvme_front.specs.Refusals.{refusal}
 use Rattle.nvme_front.specs.declared.command.NvmCommand.{NvmCommand}
 use Rattle.nvme_front.specs.declared.completion.Completion.{Completion}
-use Rattle.nvme_lines.specs.declared.line.NvmLine.{NvmLine}
-use Rattle.nvme_session.specs.declared.doing.NvmReply.{NvmReply}
+use Rattle.nvme_command.specs.declared.line.NvmLine.{NvmLine}
+use Rattle.nvme_command.specs.declared.session_doing.NvmReply.{NvmReply}
 use Rattle.nvme_command.specs.Done.{Adds, AllDone, Came, CameInPart, Lacks, UnitsStay, WasDone, body_given, dev_of, meta_given, replies_over, step_by, step_of, units_over}
 use Rattle.nvme_command.specs.Fits.{command_of, device_of_line}
 use Rattle.nvme_command.specs.Replies.{LineReply, has_failed, replies_text, reply_line, reply_of}

@@ -12,8 +12,8 @@ use Rattle.image_commands.specs.Causes.{CauseUntold, HasOpened}
 use Rattle.call_refusal.specs.declared.refusal.Refusal.{Refusal}
 use Rattle.call_refusal.specs.declared.refusal.Refusal.TheVariants as refusal
 use Rattle.nvme_front.specs.Answers.{HasNamespaces}
-use Rattle.nvme_lines.specs.Texts.{text_in}
-use Rattle.nvme_lines.specs.declared.line.NvmLine.{NvmLine}
+use Rattle.nvme_command.specs.Texts.{text_in}
+use Rattle.nvme_command.specs.declared.line.NvmLine.{NvmLine}
 use Rattle.script_text.specs.declared.fault.ScriptFault.{ScriptFault}
 use Rattle.nvme_command.specs.Done.{Came, CameInPart, replies_over, units_over}
 use Rattle.nvme_command.specs.Fits.{misfit}

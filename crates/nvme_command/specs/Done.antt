@@ -8,8 +8,8 @@ use Rattle.nvme_front.specs.Answers.{HasNamespaces, IsNvmAnswer, NvmAnswer, Subm
 use Rattle.nvme_front.specs.Completions.{is_internal, is_of_medium, is_success}
 use Rattle.nvme_front.specs.Refusals.{body_len, meta_len, refusal}
 use Rattle.nvme_front.specs.declared.completion.Completion.{Completion}
-use Rattle.nvme_lines.specs.declared.line.NvmLine.{NvmLine}
-use Rattle.nvme_session.specs.Sessions.{given}
+use Rattle.nvme_command.specs.declared.line.NvmLine.{NvmLine}
+use Rattle.nvme_command.specs.Sessions.{given}
 use Rattle.nvme_command.specs.Fits.{command_of, device_of_line}
 use Rattle.nvme_command.specs.Replies.{LineReply, has_failed, replies_text, reply_line}
 

@@ -5,7 +5,7 @@ use Rattle.nvme_front.specs.Commands.{command_in, is_write}
 use Rattle.nvme_front.specs.Refusals.{device_at, meta_len, refusal}
 use Rattle.nvme_front.specs.declared.command.NvmCommand.{NvmCommand}
 use Rattle.nvme_front.specs.declared.completion.Completion.{Completion}
-use Rattle.nvme_lines.specs.declared.line.NvmLine.{NvmLine}
+use Rattle.nvme_command.specs.declared.line.NvmLine.{NvmLine}
 use Rattle.script_text.specs.declared.fault.ScriptFault.{ScriptFault}
 
 -- Which metadata fit a line's command.

@@ -6,7 +6,7 @@ use Rattle.nvme_front.specs.Commands.{is_read}
 use Rattle.nvme_front.specs.Completions.{is_success}
 use Rattle.nvme_front.specs.declared.command.NvmCommand.{NvmCommand}
 use Rattle.nvme_front.specs.declared.completion.Completion.{Completion}
-use Rattle.nvme_session.specs.declared.doing.NvmReply.{NvmReply}
+use Rattle.nvme_command.specs.declared.session_doing.NvmReply.{NvmReply}
 
 -- What a command comes to, and its line.
 

@@ -5,13 +5,12 @@ ghost use Rattle.nvme_command.specs.Causes.{CauseClosed, CauseNotDone, CauseUndo
 
 use crate::fitting::misfit;
 use crate::session::{Done, do_lines};
+use crate::{NvmLine, front_of, read_lines};
 use call_refusal::Refusal;
 use dix_base::Source;
 use fault_schedule::FaultList;
 use image_commands::open_image;
 use nvme_front::NvmFront;
-use nvme_lines::{NvmLine, read_lines};
-use nvme_session::front_of;
 use rig_api::Rig;
 use source_text::read_all;
 use std::alloc::Global;

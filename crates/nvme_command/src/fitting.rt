@@ -3,8 +3,8 @@
 ghost use Rattle.std.specs.Prelude.{◌≡◌};
 ghost use Rattle.nvme_command.specs.Fits.{fits, meta_wanted, misfit};
 
+use crate::NvmLine;
 use nvme_front::{NvmCommand, NvmFront};
-use nvme_lines::NvmLine;
 use script_lines::ScriptKind;
 use script_text::ScriptFault;
 

@@ -8,9 +8,8 @@ ghost use Rattle.nvme_command.specs.Fits.{command_of};
 ghost use Rattle.nvme_command.specs.Replies.{reply_of};
 
 use crate::text::{add_reply, is_success};
+use crate::{NvmLine, NvmReply, do_command};
 use nvme_front::{Completion, NvmCommand, NvmFront};
-use nvme_lines::NvmLine;
-use nvme_session::{NvmReply, do_command};
 use rig_api::Rig;
 use std::alloc::{AllocError, Global};
 

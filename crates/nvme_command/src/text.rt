@@ -5,8 +5,8 @@ ghost use Rattle.hex.specs.Hex.{encode_lower};
 ghost use Rattle.nvme_front.specs.Completions.{is_success};
 ghost use Rattle.nvme_command.specs.Replies.{brought, completion_text, meta_text, reply_line, reply_of};
 
+use crate::NvmReply;
 use nvme_front::{Completion, NvmCommand};
-use nvme_session::NvmReply;
 use pi_guard::crc16;
 use std::alloc::{AllocError, Global};
 

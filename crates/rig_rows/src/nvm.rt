@@ -1,7 +1,7 @@
 //! NVM commands to the units of an image.
 
+use nvme_command::{NvmReply, do_command, front_of};
 use nvme_front::{Completion, NvmFront};
-use nvme_session::{NvmReply, do_command, front_of};
 use pi_guard::crc16;
 use rig_api::Rig;
 use std::alloc::{AllocError, Global};

@@ -4,16 +4,17 @@ ghost use Rattle.std.specs.Prelude.{◌≡◌, ◌≤◌, ◌<◌, [], None, IsE
 ghost use Rattle.dix_base.specs.Told.{Rose};
 ghost use Rattle.rig_api.specs.Log.{IsMedium, has_key};
 ghost use Rattle.rig_api.specs.declared.rig.RigFault.{RigFault};
-ghost use Rattle.rig_log.specs.Entries.{few_of, keyed_of};
-ghost use Rattle.rig_log.specs.Logs.{logged, room_in};
+ghost use Rattle.image_rig.specs.Entries.{few_of, keyed_of};
+ghost use Rattle.image_rig.specs.Logs.{logged, room_in};
 ghost use Rattle.test_rig.specs.Untold.{untold_stands};
 
 use crate::answers::{Answer, kept_outcome, send};
 use crate::scripted::ScriptedRig;
+use cdb_codec::Cdb;
 use dix_base::Failed;
 use fault_schedule::{FaultList, Label};
-use rig_api::{Change, Outcome, Record, Rig, RigFault, UnitSpec};
-use rig_log::Log;
+use image_rig::Log;
+use rig_api::{Change, Exchanged, Outcome, Record, Rig, RigFault, UnitSpec};
 use std::alloc::{AllocError, Global};
 
 /// The greatest block size of a device.
@@ -141,7 +142,16 @@ impl<R: Rig> Rig for ScriptedRig<R> {
         self.given = self.given.saturating_add(1);
         self.faults = count_after(self.faults, outcome);
         let size = self.inner.size(dev);
-        self.log.note(size, dev, cdb, labels, outcome, out, into);
+        self.log.note(&Exchanged {
+            dev,
+            size,
+            cdb,
+            command: Cdb::decode(cdb),
+            labels,
+            outcome,
+            out,
+            into,
+        });
         outcome
     }
 }

@@ -2,8 +2,8 @@
 
 use crate::answers::Answer;
 use fault_schedule::FaultList;
+use image_rig::Log;
 use rig_api::Rig;
-use rig_log::Log;
 
 /// A rig that opens images as the rig inside it does, tells nothing of what they hold, and answers
 /// each command by the next of its answers; behind the last one it answers that nothing was done,

@@ -1,6 +1,6 @@
 //! The lines of NVM commands.
 
-use nvme_lines::{NvmLine, read_lines};
+use nvme_command::{NvmLine, read_lines};
 use std::alloc::{AllocError, Global};
 
 /// Adds the number of a line, the first byte of its command, its fill and how many bytes its metadata has.

@@ -1,7 +1,7 @@
 use Rattle.std.proofs.Common.{sym, ◌∙◌, arith}
 use Rattle.target_answer.specs.Frames.{stored_size}
 use Rattle.flip_sweep.proofs.Spoiling.{found_here, not_here}
-use Rattle.block_lines.proofs.Frames.{shorter}
+use Rattle.image_text.proofs.Frames.{shorter}
 use Rattle.flip_sweep.proofs.spoilt.first_in.Goals as goal
 
 pub returns-in-Some : goal.returns-in-Some

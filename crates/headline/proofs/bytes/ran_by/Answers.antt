@@ -1,6 +1,6 @@
 use Rattle.std.proofs.Common.{refl}
 use Rattle.std.specs.Prelude.{Some}
-use Rattle.image_layout.specs.Heads.{head_in}
+use Rattle.image_rig.specs.Heads.{head_in}
 use Rattle.image_rig.specs.Told.{laid_of, ready_of}
 use Rattle.headline.proofs.bytes.ran_by.Goals as goal
 

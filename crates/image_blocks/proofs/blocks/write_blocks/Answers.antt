@@ -1,5 +1,5 @@
 use Rattle.std.proofs.Common.{arith, length}
-use Rattle.image_layout.proofs.Told.{ok_map}
+use Rattle.image_rig.proofs.Told.{ok_map}
 use Rattle.image_blocks.proofs.Stretches.{are_left, are_put, stretch_held}
 use Rattle.image_blocks.specs.Images.{units_open}
 use Rattle.image_blocks.proofs.blocks.write_blocks.Goals as goal

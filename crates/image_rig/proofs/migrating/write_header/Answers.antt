@@ -1,5 +1,5 @@
 use Rattle.std.proofs.Common.{length, ap, ◌∙◌}
-use Rattle.image_layout.proofs.Told.{becomes_map, ok_map}
+use Rattle.image_rig.proofs.Told.{becomes_map, ok_map}
 use Rattle.image_rig.proofs.Migrates.{header_long, kept_behind, over_header}
 use Rattle.image_rig.proofs.migrating.write_header.Goals as goal
 

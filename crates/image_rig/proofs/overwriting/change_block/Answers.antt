@@ -1,5 +1,5 @@
 use Rattle.std.proofs.Common.{◌∙◌, sym, arith}
-use Rattle.image_layout.proofs.Units.{block_held}
+use Rattle.image_rig.proofs.Units.{block_held}
 use Rattle.image_rig.proofs.Changing.{block_small, fits_room, source_held, target_address}
 use Rattle.image_rig.proofs.overwriting.change_block.Goals as goal
 

@@ -1,9 +1,9 @@
 use Rattle.std.proofs.Common.{length, ap, ◌∙◌, arith}
 use Rattle.page_pool.specs.Pages.{bytes_in}
 use Rattle.page_pool.specs.Places.{total}
-use Rattle.mirror_legs.specs.Inner.{pages_for}
-use Rattle.mirror_legs.proofs.Suits.{segs_total}
-use Rattle.leg_runs.proofs.OwnRuns.{landed}
+use Rattle.mirror_volume.specs.Inner.{pages_for}
+use Rattle.mirror_volume.proofs.Suits.{segs_total}
+use Rattle.mirror_volume.proofs.OwnRuns.{landed}
 use Rattle.mirror_volume.proofs.legs.copy_out.Goals as goal
 
 pub gather-requires-clause-range : goal.gather-requires-clause-range

@@ -7,11 +7,11 @@ use Rattle.script_stack.specs.Causes.{table_of}
 use Rattle.stack_core.specs.declared.stack.Stack.{Stack}
 use Rattle.std.specs.Prelude.{None}
 use Rattle.std.proofs.lemmas.Result.{IfOk-weaker}
-use Rattle.leg_runs.specs.LegRuns.{found_by}
-use Rattle.leg_runs.proofs.OwnRuns.{read-pi-fits, read-pi-lies}
+use Rattle.mirror_volume.specs.LegRuns.{found_by}
+use Rattle.mirror_volume.proofs.OwnRuns.{read-pi-fits, read-pi-lies}
 use Rattle.mirror_volume.proofs.Planned.{half-small, plan-asks, plan-tuples}
 use Rattle.mirror_volume.proofs.Running.{none-run, run-so}
-use Rattle.leg_runs.proofs.Results.{if-not}
+use Rattle.mirror_volume.proofs.Results.{if-not}
 use Rattle.mirror_volume.proofs.legs.read_pi_piece.Goals as goal
 
 pub read_pi_script-requires-clause-virt : goal.read_pi_script-requires-clause-virt

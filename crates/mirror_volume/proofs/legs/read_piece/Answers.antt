@@ -7,8 +7,8 @@ use Rattle.script_stack.specs.Causes.{table_of}
 use Rattle.stack_core.specs.declared.stack.Stack.{Stack}
 use Rattle.std.specs.Prelude.{None}
 use Rattle.std.proofs.lemmas.Result.{IfOk-weaker}
-use Rattle.leg_runs.specs.LegRuns.{found_by}
-use Rattle.leg_runs.proofs.OwnRuns.{read-fits, read-lies}
+use Rattle.mirror_volume.specs.LegRuns.{found_by}
+use Rattle.mirror_volume.proofs.OwnRuns.{read-fits, read-lies}
 use Rattle.mirror_volume.proofs.Planned.{half-small, plan-asks, plan-piece}
 use Rattle.mirror_volume.proofs.Running.{none-run, run-so}
 use Rattle.mirror_volume.proofs.legs.read_piece.Goals as goal

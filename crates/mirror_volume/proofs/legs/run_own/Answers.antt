@@ -2,8 +2,8 @@ use Rattle.std.proofs.Common.{ℕ, ◌≡◌, ◌-◌, ◌≤◌, [], ◌∷◌,
 use Rattle.std.proofs.lemmas.List.{take_all}
 use Rattle.script_stack.specs.Causes.{table_of}
 use Rattle.script_stack.specs.Followed.{Ran}
-use Rattle.leg_runs.specs.LegRuns.{LegRun}
-use Rattle.leg_runs.proofs.Runs.{ran-none, ran-one}
+use Rattle.mirror_volume.specs.LegRuns.{LegRun}
+use Rattle.mirror_volume.proofs.Runs.{ran-none, ran-one}
 use Rattle.mirror_volume.proofs.Running.{can-still, none-run}
 use Rattle.mirror_volume.proofs.legs.run_own.Goals as goal
 use Rattle.rig_api.specs.State.{RigState}

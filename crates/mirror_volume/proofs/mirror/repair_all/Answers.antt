@@ -1,8 +1,8 @@
 use Rattle.std.proofs.Common.{◌≡◌, ◌-◌, ◌*◌, List, ap, drop, length, min, refl, rules, subst, sym, take_at, ◌∙◌, arith}
-use Rattle.mirror_walk.specs.declared.marks.Marks.{Marks}
-use Rattle.mirror_legs.specs.declared.piece.Piece.{Piece}
-use Rattle.leg_runs.specs.Mending.{RepairBy, StretchBy, stretches_in}
-use Rattle.leg_runs.proofs.Mended.{repair-more}
+use Rattle.mirror_laws.specs.declared.marks.Marks.{Marks}
+use Rattle.mirror_volume.specs.declared.piece.Piece.{Piece}
+use Rattle.mirror_volume.specs.Mending.{RepairBy, StretchBy, stretches_in}
+use Rattle.mirror_volume.proofs.Mended.{repair-more}
 use Rattle.mirror_volume.proofs.Planned.{half-small}
 use Rattle.mirror_volume.specs.Helds.{none_mended, so_far}
 use Rattle.mirror_volume.proofs.Running.{none-run, run-both, run-so}

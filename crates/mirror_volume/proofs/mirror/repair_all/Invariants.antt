@@ -1,6 +1,6 @@
 use Rattle.std.proofs.Common.{◌≡◌, ◌+◌, ◌*◌, ◌≤◌, List, length}
-use Rattle.leg_runs.specs.LegRuns.{LegRun}
-use Rattle.leg_runs.specs.Mending.{IsRepairOf, RepairBy}
+use Rattle.mirror_volume.specs.LegRuns.{LegRun}
+use Rattle.mirror_volume.specs.Mending.{IsRepairOf, RepairBy}
 use Rattle.mirror_volume.specs.Helds.{none_mended, so_far}
 use Rattle.mirror_volume.specs.Running.{CanRun, HasRunOnLegs}
 use Rattle.mirror_volume.proofs.mirror.repair_all.Given as goal

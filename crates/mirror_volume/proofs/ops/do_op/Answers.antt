@@ -6,13 +6,13 @@ use Rattle.stack_ops.specs.Footprints.{put_seg}
 use Rattle.stack_ops.specs.declared.op.Op.{Op}
 use Rattle.stack_ops.specs.declared.op.Op.TheVariants.{Fetch, Fill, Overwrite, Put, Show, Write}
 use Rattle.script_stack.specs.Causes.{table_of}
-use Rattle.mirror_legs.specs.Passed.{op_fault}
-use Rattle.leg_runs.specs.OnOps.{DidOp, RanOp, Sides}
-use Rattle.leg_runs.specs.Standing.{op_at}
-use Rattle.leg_runs.proofs.Ends.{did-fill, did-idle, did-overwrite, did-put, did-show, op-is}
+use Rattle.mirror_volume.specs.LegsPassed.{op_fault}
+use Rattle.mirror_volume.specs.OnOps.{DidOp, RanOp, Sides}
+use Rattle.mirror_volume.specs.Standing.{op_at}
+use Rattle.mirror_volume.proofs.Ends.{did-fill, did-idle, did-overwrite, did-put, did-show, op-is}
 use Rattle.mirror_volume.proofs.Pieces.{fetch-suits, write-suits}
-use Rattle.leg_runs.proofs.Reached.{has-blocks}
-use Rattle.leg_runs.proofs.Requests.{op-fits, overwrite-fits}
+use Rattle.mirror_volume.proofs.Reached.{has-blocks}
+use Rattle.mirror_volume.proofs.Requests.{op-fits, overwrite-fits}
 use Rattle.mirror_volume.proofs.Running.{can-still}
 use Rattle.mirror_volume.proofs.ops.do_op.Goals as goal
 use Rattle.rig_api.specs.State.{RigState}

@@ -4,13 +4,13 @@ use Rattle.bio_core.specs.declared.fate.Why.{Why}
 use Rattle.page_pool.specs.Pages.{Wrote}
 use Rattle.page_pool.specs.Places.{range_of, total}
 use Rattle.stack_ops.specs.declared.reply.Reply.{Reply}
-use Rattle.whole_run.specs.ScriptWalk.{bad_from, whole_or_bad}
-use Rattle.mirror_walk.specs.declared.marks.Marks.{Marks}
-use Rattle.leg_runs.specs.OnOps.{Sides}
-use Rattle.mirror_legs.specs.declared.piece.Piece.{Piece}
-use Rattle.leg_runs.specs.Asked.{IsReadOf}
-use Rattle.leg_runs.specs.LegRuns.{AllOwn}
-use Rattle.leg_runs.proofs.Dones.{did-fetch, reads}
+use Rattle.walk_laws.specs.ScriptWalk.{bad_from, whole_or_bad}
+use Rattle.mirror_laws.specs.declared.marks.Marks.{Marks}
+use Rattle.mirror_volume.specs.OnOps.{Sides}
+use Rattle.mirror_volume.specs.declared.piece.Piece.{Piece}
+use Rattle.mirror_volume.specs.Asked.{IsReadOf}
+use Rattle.mirror_volume.specs.LegRuns.{AllOwn}
+use Rattle.mirror_volume.proofs.Dones.{did-fetch, reads}
 use Rattle.mirror_volume.proofs.ops.fetch_blocks.Goals as goal
 use Rattle.rig_api.specs.State.{RigState}
 

@@ -1,10 +1,10 @@
 use Rattle.std.proofs.Common.{◌≡◌, take, drop, ◌++◌, [], take_at, ◌*◌, ap, length, refl, rules, subst, sym, ◌∙◌, List}
 use Rattle.std.specs.Prelude.{IfOk}
-use Rattle.mirror_walk.specs.declared.marks.Marks.{Marks}
-use Rattle.mirror_legs.specs.declared.piece.Piece.{Piece}
-use Rattle.leg_runs.specs.OnOps.{Sides, WroteBy}
-use Rattle.leg_runs.proofs.Dones.{data-long, did-write}
-use Rattle.leg_runs.proofs.Runs.{ran-nothing}
+use Rattle.mirror_laws.specs.declared.marks.Marks.{Marks}
+use Rattle.mirror_volume.specs.declared.piece.Piece.{Piece}
+use Rattle.mirror_volume.specs.OnOps.{Sides, WroteBy}
+use Rattle.mirror_volume.proofs.Dones.{data-long, did-write}
+use Rattle.mirror_volume.proofs.Runs.{ran-nothing}
 use Rattle.mirror_volume.proofs.ops.write_blocks.Goals as goal
 use Rattle.rig_api.specs.State.{RigState}
 

@@ -1,8 +1,8 @@
 use Rattle.std.proofs.Common.{ℕ, ◌≡◌, ◌<◌, ◌≤◌, ◌++◌, List, [], ◌∷◌, ap, length, refl, rules, subst, sym, take, ◌∙◌, arith}
 use Rattle.std.proofs.lemmas.List.{take_all, take_more}
 use Rattle.script_laws.specs.Keeping.{Each}
-use Rattle.mirror_legs.specs.Inner.{read_script}
-use Rattle.leg_runs.specs.Asked.{AreOf, IsInside, bytes_after, found_after, stretches}
+use Rattle.mirror_volume.specs.Inner.{read_script}
+use Rattle.mirror_volume.specs.Asked.{AreOf, IsInside, bytes_after, found_after, stretches}
 use Rattle.mirror_volume.proofs.Stretched.{all-inside, are-of-append, bytes-after-append, each-at, found-after-append}
 use Rattle.mirror_volume.proofs.Running.{none-run, run-both, run-so}
 use Rattle.mirror_volume.proofs.reading.ask.Goals as goal

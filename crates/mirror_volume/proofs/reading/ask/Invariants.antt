@@ -1,7 +1,7 @@
 use Rattle.std.proofs.Common.{◌≡◌, List, length, take}
-use Rattle.mirror_legs.specs.Inner.{read_script}
-use Rattle.leg_runs.specs.Asked.{AreOf, IsReadOf, bytes_after, found_after}
-use Rattle.leg_runs.specs.LegRuns.{LegRun}
+use Rattle.mirror_volume.specs.Inner.{read_script}
+use Rattle.mirror_volume.specs.Asked.{AreOf, IsReadOf, bytes_after, found_after}
+use Rattle.mirror_volume.specs.LegRuns.{LegRun}
 use Rattle.mirror_volume.specs.Running.{CanRun, HasRunOnLegs}
 use Rattle.mirror_volume.proofs.reading.ask.Given as goal
 

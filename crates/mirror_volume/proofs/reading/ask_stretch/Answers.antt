@@ -1,7 +1,7 @@
 use Rattle.std.proofs.Common.{◌+◌, ◌*◌, ◌≤◌, length, rules, ◌∙◌, arith}
-use Rattle.mirror_legs.specs.Inner.{read_script}
-use Rattle.leg_runs.proofs.Borrowed.{pasted-back}
-use Rattle.leg_runs.proofs.Readings.{part-bytes, part-found, part-of, reads-part}
+use Rattle.mirror_volume.specs.Inner.{read_script}
+use Rattle.mirror_volume.proofs.Borrowed.{pasted-back}
+use Rattle.mirror_volume.proofs.Readings.{part-bytes, part-found, part-of, reads-part}
 use Rattle.mirror_volume.proofs.reading.ask_stretch.Goals as goal
 use Rattle.small_laws.proofs.Numbers.{within_all}
 

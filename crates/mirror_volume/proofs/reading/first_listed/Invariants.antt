@@ -1,5 +1,5 @@
 use Rattle.std.proofs.Common.{◌≡◌, ◌++◌, drop}
-use Rattle.leg_runs.specs.Asked.{first_listed}
+use Rattle.mirror_volume.specs.Asked.{first_listed}
 use Rattle.mirror_volume.proofs.reading.first_listed.Given as goal
 
 abbrev pub invariant-loop-i : goal.invariant-loop-i

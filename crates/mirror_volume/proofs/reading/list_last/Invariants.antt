@@ -1,5 +1,5 @@
 use Rattle.std.proofs.Common.{◌≡◌, ◌++◌, take, drop}
-use Rattle.leg_runs.specs.Asked.{last_listed}
+use Rattle.mirror_volume.specs.Asked.{last_listed}
 use Rattle.mirror_volume.proofs.reading.list_last.Given as goal
 
 abbrev pub invariant-loop-i : goal.invariant-loop-i

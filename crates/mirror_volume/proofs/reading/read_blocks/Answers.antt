@@ -1,15 +1,15 @@
 use Rattle.std.proofs.Common.{ℕ, ◌≡◌, ◌*◌, List, None, Option, Some, ap, length, refl, replicate, rules, sym, true, ◌∙◌}
 use Rattle.bio_core.specs.declared.fate.Why.{Why}
-use Rattle.mirror_legs.specs.declared.piece.Piece.{Piece}
-use Rattle.mirror_legs.specs.Inner.{read_script}
-use Rattle.leg_runs.specs.Asked.{IsReadOf, first_listed, fresh_on0, last_listed, rest_wanted}
-use Rattle.leg_runs.proofs.Borrowed.{written-back}
-use Rattle.leg_runs.proofs.Readings.{asked-same, first-long, on-other, read-by}
-use Rattle.leg_runs.proofs.Fetched.{rest-long}
+use Rattle.mirror_volume.specs.declared.piece.Piece.{Piece}
+use Rattle.mirror_volume.specs.Inner.{read_script}
+use Rattle.mirror_volume.specs.Asked.{IsReadOf, first_listed, fresh_on0, last_listed, rest_wanted}
+use Rattle.mirror_volume.proofs.Borrowed.{written-back}
+use Rattle.mirror_volume.proofs.Readings.{asked-same, first-long, on-other, read-by}
+use Rattle.mirror_volume.proofs.Fetched.{rest-long}
 use Rattle.mirror_volume.proofs.Running.{none-run, run-both, run-so}
 use Rattle.mirror_volume.specs.declared.legs.Plan.{Plan}
 use Rattle.mirror_volume.specs.Running.{HasRunOnLegs}
-use Rattle.leg_runs.specs.LegRuns.{LegRun}
+use Rattle.mirror_volume.specs.LegRuns.{LegRun}
 use Rattle.rig_api.specs.State.{RigState}
 use Rattle.mirror_volume.proofs.reading.read_blocks.Goals as goal
 

@@ -1,5 +1,5 @@
 use Rattle.std.proofs.Common.{◌≡◌, ◌++◌, drop}
-use Rattle.leg_runs.specs.Asked.{rest_wanted}
+use Rattle.mirror_volume.specs.Asked.{rest_wanted}
 use Rattle.mirror_volume.proofs.reading.rest.Given as goal
 
 abbrev pub invariant-loop-i : goal.invariant-loop-i

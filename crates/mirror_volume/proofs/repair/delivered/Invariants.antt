@@ -1,5 +1,5 @@
 use Rattle.std.proofs.Common.{◌≡◌, ◌++◌, drop}
-use Rattle.leg_runs.specs.Mending.{delivered}
+use Rattle.mirror_volume.specs.Mending.{delivered}
 use Rattle.mirror_volume.proofs.repair.delivered.Given as goal
 
 abbrev pub invariant-loop-i : goal.invariant-loop-i

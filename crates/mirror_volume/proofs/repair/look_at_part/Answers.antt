@@ -1,6 +1,6 @@
 use Rattle.std.proofs.Common.{inl, ap, drop, length, length-drop, length-take-le, rules, ◌*◌, ◌-◌, ◌+◌, arith}
-use Rattle.mirror_legs.specs.Inner.{read_pi_script}
-use Rattle.leg_runs.specs.Asked.{part_of}
+use Rattle.mirror_volume.specs.Inner.{read_pi_script}
+use Rattle.mirror_volume.specs.Asked.{part_of}
 use Rattle.mirror_volume.proofs.Helds.{part-after, put-part}
 use Rattle.mirror_volume.proofs.Running.{run-so}
 use Rattle.mirror_volume.proofs.repair.look_at_part.Goals as goal

@@ -1,8 +1,8 @@
 use Rattle.std.proofs.Common.{ℕ, ◌<◌, List, length, refl, rules, subst, sym, ◌∙◌, arith}
 use Rattle.std.proofs.lemmas.List.{take_all}
 use Rattle.script_laws.specs.Keeping.{Each}
-use Rattle.mirror_legs.specs.Inner.{read_pi_script}
-use Rattle.leg_runs.specs.Asked.{AreOf, IsInside}
+use Rattle.mirror_volume.specs.Inner.{read_pi_script}
+use Rattle.mirror_volume.specs.Asked.{AreOf, IsInside}
 use Rattle.mirror_volume.specs.Helds.{IsAfter}
 use Rattle.mirror_volume.proofs.Helds.{looks-more}
 use Rattle.mirror_volume.proofs.Running.{none-run, run-both, run-so}

@@ -1,9 +1,9 @@
 use Rattle.std.proofs.Common.{List, take}
-use Rattle.mirror_legs.specs.Inner.{read_pi_script}
-use Rattle.leg_runs.specs.Asked.{AreOf}
+use Rattle.mirror_volume.specs.Inner.{read_pi_script}
+use Rattle.mirror_volume.specs.Asked.{AreOf}
 use Rattle.mirror_volume.specs.Helds.{IsAfter, IsSeen}
-use Rattle.leg_runs.specs.LegRuns.{LegRun}
-use Rattle.leg_runs.specs.Mending.{IsRepairOf}
+use Rattle.mirror_volume.specs.LegRuns.{LegRun}
+use Rattle.mirror_volume.specs.Mending.{IsRepairOf}
 use Rattle.mirror_volume.specs.Running.{CanRun, HasRunOnLegs}
 use Rattle.mirror_volume.proofs.repair.look_at_parts.Given as goal
 

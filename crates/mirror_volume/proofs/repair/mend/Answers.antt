@@ -2,8 +2,8 @@ use Rattle.std.proofs.Common.{ℕ, ◌≡◌, ◌+◌, ◌*◌, Bool, true, fals
 use Rattle.std.specs.Prelude.{is_some, not}
 use Rattle.bio_core.specs.declared.fate.Why.{Why}
 use Rattle.pi_tuple.specs.Tuples.{tuple_in}
-use Rattle.mirror_legs.specs.declared.piece.Piece.{Piece}
-use Rattle.mirror_legs.specs.Inner.{write_script}
+use Rattle.mirror_volume.specs.declared.piece.Piece.{Piece}
+use Rattle.mirror_volume.specs.Inner.{write_script}
 use Rattle.mirror_volume.proofs.Helds.{block-at}
 use Rattle.mirror_volume.proofs.Running.{run-so}
 use Rattle.mirror_volume.proofs.repair.mend.Goals as goal

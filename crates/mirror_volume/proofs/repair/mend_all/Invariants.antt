@@ -1,7 +1,7 @@
 use Rattle.std.proofs.Common.{◌≡◌, ◌+◌, ◌≤◌, List, length, take}
 use Rattle.mirror_volume.specs.Helds.{goods_in, so_far}
-use Rattle.leg_runs.specs.LegRuns.{LegRun}
-use Rattle.leg_runs.specs.Mending.{IsRepairOf, MendsBy, needs_by}
+use Rattle.mirror_volume.specs.LegRuns.{LegRun}
+use Rattle.mirror_volume.specs.Mending.{IsRepairOf, MendsBy, needs_by}
 use Rattle.mirror_volume.specs.Running.{CanRun, HasRunOnLegs}
 use Rattle.mirror_volume.proofs.repair.mend_all.Given as goal
 

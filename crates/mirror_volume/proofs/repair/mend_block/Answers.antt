@@ -1,14 +1,14 @@
 use Rattle.std.proofs.Common.{◌+◌, ◌*◌, ◌<◌, true, false, None, ap, drop, get_or, length, take, ◌∙◌, arith}
 use Rattle.std.proofs.lemmas.List.{get_or_default}
 use Rattle.pi_tuple.specs.Tuples.{tuple_in}
-use Rattle.mirror_walk.specs.Mirror.{fresh}
-use Rattle.mirror_walk.specs.declared.marks.Marks.{Marks}
-use Rattle.mirror_legs.specs.declared.piece.Piece.{Piece}
-use Rattle.mirror_legs.specs.Inner.{write_script}
+use Rattle.mirror_laws.specs.Mirror.{fresh}
+use Rattle.mirror_laws.specs.declared.marks.Marks.{Marks}
+use Rattle.mirror_volume.specs.declared.piece.Piece.{Piece}
+use Rattle.mirror_volume.specs.Inner.{write_script}
 use Rattle.mirror_volume.specs.Helds.{goods_in, so_far}
-use Rattle.leg_runs.specs.Mending.{need_by}
+use Rattle.mirror_volume.specs.Mending.{need_by}
 use Rattle.mirror_volume.proofs.Helds.{bit-at, good-here, none-here}
-use Rattle.leg_runs.proofs.Mended.{mends-fine, mends-lost, mends-on0, mends-on1}
+use Rattle.mirror_volume.proofs.Mended.{mends-fine, mends-lost, mends-on0, mends-on1}
 use Rattle.mirror_volume.proofs.Running.{none-run, run-so}
 use Rattle.mirror_volume.proofs.repair.mend_block.Goals as goal
 

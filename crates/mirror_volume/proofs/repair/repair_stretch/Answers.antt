@@ -1,11 +1,11 @@
 use Rattle.std.proofs.Common.{◌≡◌, ◌+◌, ◌-◌, true, ap, drop, rules, subst, take, ◌∙◌, arith}
 use Rattle.std.proofs.lemmas.Result.{IfOk-weaker}
-use Rattle.mirror_legs.specs.declared.piece.Piece.{Piece}
-use Rattle.mirror_legs.specs.Inner.{read_pi_script}
-use Rattle.leg_runs.specs.Asked.{AreOf, fresh_on0, stretches}
+use Rattle.mirror_volume.specs.declared.piece.Piece.{Piece}
+use Rattle.mirror_volume.specs.Inner.{read_pi_script}
+use Rattle.mirror_volume.specs.Asked.{AreOf, fresh_on0, stretches}
 use Rattle.mirror_volume.specs.Helds.{goods_in}
-use Rattle.leg_runs.specs.Mending.{fresh_on1}
-use Rattle.leg_runs.proofs.Mended.{stretched}
+use Rattle.mirror_volume.specs.Mending.{fresh_on1}
+use Rattle.mirror_volume.proofs.Mended.{stretched}
 use Rattle.mirror_volume.proofs.Running.{none-run, run-both}
 use Rattle.mirror_volume.proofs.repair.repair_stretch.Goals as goal
 

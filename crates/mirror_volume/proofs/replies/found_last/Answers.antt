@@ -1,5 +1,5 @@
 use Rattle.std.proofs.Common.{length, ◌-◌, ◌∙◌, arith, sym}
-use Rattle.leg_runs.proofs.Lasts.{fits-last, found-by-last}
+use Rattle.mirror_volume.proofs.Lasts.{fits-last, found-by-last}
 use Rattle.mirror_volume.proofs.replies.found_last.Goals as goal
 
 pub found_in-requires : goal.found_in-requires

@@ -1,5 +1,5 @@
 use Rattle.std.proofs.Common.{◌≡◌, length, drop}
-use Rattle.leg_runs.specs.LegRuns.{AreBelow, noted}
+use Rattle.mirror_volume.specs.LegRuns.{AreBelow, noted}
 use Rattle.mirror_volume.proofs.replies.note.Given as goal
 
 abbrev pub invariant-loop-bad : goal.invariant-loop-bad

@@ -1,5 +1,5 @@
 use Rattle.std.proofs.Common.{◌≡◌, ◌≤◌, ◌++◌, drop}
-use Rattle.leg_runs.specs.Asked.{stretches, stretches_from}
+use Rattle.mirror_volume.specs.Asked.{stretches, stretches_from}
 use Rattle.mirror_volume.proofs.stretches.stretches_of.Given as goal
 
 abbrev pub invariant-loop-at : goal.invariant-loop-at

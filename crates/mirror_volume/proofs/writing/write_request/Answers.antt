@@ -2,14 +2,14 @@ use Rattle.std.proofs.Common.{ℕ, ◌≡◌, ◌++◌, List, Option, true, fals
 use Rattle.std.proofs.lemmas.Result.{IfOk-weaker}
 use Rattle.bio_core.specs.declared.fate.Why.{Why}
 use Rattle.stack_ops.specs.declared.reply.Reply.{Reply}
-use Rattle.whole_run.specs.ScriptWalk.{bad_from, whole_or_bad}
-use Rattle.mirror_walk.specs.OnLegs.{listed_written, marks_written}
-use Rattle.mirror_legs.specs.declared.piece.Piece.{Piece}
-use Rattle.mirror_legs.specs.Inner.{write_script}
+use Rattle.walk_laws.specs.ScriptWalk.{bad_from, whole_or_bad}
+use Rattle.mirror_laws.specs.OnLegs.{listed_written, marks_written}
+use Rattle.mirror_volume.specs.declared.piece.Piece.{Piece}
+use Rattle.mirror_volume.specs.Inner.{write_script}
 use Rattle.script_text.specs.declared.script.Script.{Script}
-use Rattle.leg_runs.specs.LegRuns.{found_by, replies_of}
-use Rattle.leg_runs.specs.OnOps.{IsWriteOf, whole_request}
-use Rattle.leg_runs.proofs.Borrowed.{written-back}
+use Rattle.mirror_volume.specs.LegRuns.{found_by, replies_of}
+use Rattle.mirror_volume.specs.OnOps.{IsWriteOf, whole_request}
+use Rattle.mirror_volume.proofs.Borrowed.{written-back}
 use Rattle.mirror_volume.proofs.Running.{none-run, run-both, run-so}
 use Rattle.mirror_volume.proofs.writing.write_request.Goals as goal
 

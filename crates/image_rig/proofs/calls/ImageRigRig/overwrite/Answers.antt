@@ -2,8 +2,8 @@ use Rattle.std.proofs.Common.{◌≡◌, ap, subst, true, ◌∙◌}
 use Rattle.std.specs.Prelude.{OnOk, false}
 use Rattle.dix_base.specs.Told.{Apart, Becomes}
 use Rattle.image_rig.specs.Changes.{IsChanged}
-use Rattle.image_layout.specs.Heads.{head_in}
-use Rattle.image_layout.specs.Places.{block_len, block_place}
+use Rattle.image_rig.specs.Heads.{head_in}
+use Rattle.image_rig.specs.LayoutPlaces.{block_len, block_place}
 use Rattle.image_rig.specs.Places.{can_change_in}
 use Rattle.image_rig.proofs.Changing.{block_behind, can_of, can_where_told, changed_units, left_units, long_as, on_ok}
 use Rattle.image_rig.proofs.Devices.{head_kept, is_open}

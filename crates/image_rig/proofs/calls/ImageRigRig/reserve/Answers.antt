@@ -1,6 +1,6 @@
 use Rattle.std.proofs.Common.{◌≡◌, ◌∙◌, ap, arith}
 use Rattle.rig_api.specs.Telling.{greatest}
-use Rattle.image_layout.specs.Heads.{head_in}
+use Rattle.image_rig.specs.Heads.{head_in}
 use Rattle.image_rig.proofs.Devices.{greatest_small}
 use Rattle.image_rig.proofs.calls.ImageRigRig.reserve.Goals as goal
 

@@ -1,9 +1,9 @@
 use Rattle.std.proofs.Common.{◌≡◌, ◌+◌, ap, arith, length, subst, sym, ◌∙◌}
-use Rattle.leg_runs.specs.OnOps.{DidOp, RanOp, Sides}
+use Rattle.mirror_volume.specs.OnOps.{DidOp, RanOp, Sides}
 use Rattle.mirror_volume.specs.Plans.{sides_of}
-use Rattle.leg_runs.specs.Standing.{op_at}
-use Rattle.leg_runs.proofs.Ends.{ran-none-left}
-use Rattle.leg_runs.proofs.Nexts.{IsBetween, op-stands}
+use Rattle.mirror_volume.specs.Standing.{op_at}
+use Rattle.mirror_volume.proofs.Ends.{ran-none-left}
+use Rattle.mirror_volume.proofs.Nexts.{IsBetween, op-stands}
 use Rattle.mirror_volume.proofs.mirror.Mirror.next.Goals as goal
 use Rattle.rig_api.specs.State.{RigState}
 

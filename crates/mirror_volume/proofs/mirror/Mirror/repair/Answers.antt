@@ -1,6 +1,6 @@
 use Rattle.mirror_volume.specs.Helds.{so_far}
 use Rattle.mirror_volume.specs.Plans.{sides_of}
-use Rattle.leg_runs.proofs.RepairTold.{repair-told}
+use Rattle.mirror_volume.proofs.RepairTold.{repair-told}
 use Rattle.mirror_volume.proofs.Running.{run-so}
 use Rattle.mirror_volume.proofs.mirror.Mirror.repair.Goals as goal
 

@@ -1,5 +1,0 @@
-mod Differing
-mod Listing
-mod Showing
-mod Sights
-pub mod Frames

@@ -1,6 +1,0 @@
-use Rattle.std.proofs.Common.{sym}
-use Rattle.command_line.proofs.WordLemmas.{not_one}
-use Rattle.command_line.proofs.command.modes_of.Goals as goal
-
-pub returns-then-words-ne1 : goal.returns-then-words-ne1
-returns-then-words-ne1 c = sym (not_one c.args.words.now c.if-words-ne1.true)

@@ -1,3 +1,0 @@
-pub mod Dumps
-pub mod Ends
-pub mod Laws

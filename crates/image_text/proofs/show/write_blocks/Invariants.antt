@@ -1,0 +1,22 @@
+use Rattle.std.proofs.Common.{◌≡◌, ◌+◌, ◌*◌, ◌≤◌, length}
+use Rattle.report_text.proofs.Flow.{Left}
+use Rattle.target_answer.specs.Frames.{frames_of, stored_size}
+use Rattle.image_text.specs.ShowText.{image_text, count_bad}
+use Rattle.image_text.proofs.show.write_blocks.Given as goal
+
+abbrev pub invariant-loop-left : goal.invariant-loop-left
+invariant-loop-left g l =
+    let ty = l.unit.ty in
+    let size = l.unit.size in
+    let len = stored_size ty size in
+    record {
+      lines : Left (image_text l.dev ty size l.first (frames_of len l.count l.frames)) (image_text l.dev ty size l.lba (frames_of len l.left l.rest)) (g.O.Sink.taken l.initial.out) (g.O.Sink.taken l.out);
+      bad : l.bad + count_bad ty size l.dev l.lba (frames_of len l.left l.rest) ≡ count_bad ty size l.dev l.first (frames_of len l.count l.frames);
+      few : l.bad + l.left ≤ l.count;
+      long : length l.rest ≡ l.left * len;
+      end : l.lba + l.left ≡ l.first + l.count;
+      count : g.O.Sink.faults l.initial.out ≤ g.O.Sink.faults l.out;
+    }
+
+abbrev pub decreases-loop-left : goal.decreases-loop-left
+decreases-loop-left g l = l.left

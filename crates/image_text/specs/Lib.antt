@@ -1,0 +1,11 @@
+pub mod DiffText
+pub mod Laws
+pub mod Passed
+pub mod ShowText
+pub mod Sights
+pub mod UnitText
+pub mod Shown
+pub mod Compared
+pub mod Dumps
+pub mod Ends
+pub mod DumpsLaws

@@ -1,0 +1,277 @@
+//! The text that tells in which blocks two places differ.
+
+ghost use Rattle.std.specs.Prelude.{◌≡◌, ◌+◌, ◌*◌, ◌^◌, ◌<◌, ◌≤◌, ◌++◌, true, IfOk, OnErr, OnOk, length};
+ghost use Rattle.pi_tuple.specs.Tuples.{tuple_in};
+ghost use Rattle.dix_base.specs.Told.{Appended, AppendedSome, Rose};
+ghost use Rattle.target_answer.specs.Frames.{frames_of, stored_size};
+ghost use Rattle.image_text.specs.DiffText.{compared_line, count_differ, counted_tag, diff_first, diff_line, diff_lines, differences, differs, have_tuples, line_of, side_text, tuples_differ, what_text, word_if};
+
+use crate::show::{counted, stored_len};
+use crate::sight::{is_zero, tuple_in};
+use dix_base::{Failed, Sink};
+use pi_tuple::{PiType, Tuple, has_ref_tag, ref_tag};
+use report_text::{Line, add, add_number, write_all};
+use target_answer::UnitSpec;
+
+/// Two units whose blocks are compared, with their numbers.
+#[derive(Clone, Copy)]
+pub struct Pair {
+    /// The number of the first.
+    pub dev: u32,
+    /// The first.
+    pub unit: UnitSpec,
+    /// The number of the other.
+    pub other_dev: u32,
+    /// The other.
+    pub other_unit: UnitSpec,
+}
+
+/// What differs of two stored blocks.
+#[derive(Clone, Copy)]
+pub struct WhatDiffers {
+    /// The data.
+    pub content: bool,
+    /// The guards.
+    pub guard: bool,
+    /// The application tags.
+    pub app: bool,
+    /// The reference tags, by their distances from the addresses.
+    pub tag: bool,
+}
+
+/// What a reference tag counts as: its distance from the low 32 bits of its own address, or in type 3 itself.
+fn counted_tag(ty: PiType, lba: u64, tag: u32) -> u32
+    ensures { result ≡ counted_tag ty lba tag }
+{
+    if !has_ref_tag(ty) {
+        return tag;
+    }
+    let low = ref_tag(lba);
+    if low <= tag {
+        tag - low
+    } else {
+        u32::MAX - (low - tag) + 1
+    }
+}
+
+/// Whether both units have tuples.
+fn have_tuples(pair: Pair) -> bool
+    ensures { result ≡ have_tuples pair }
+{
+    !is_zero(pair.unit.ty) && !is_zero(pair.other_unit.ty)
+}
+
+/// What differs of the tuples of two blocks, with what was found of their data.
+fn tuples_differ(
+    pair: Pair,
+    content: bool,
+    lba: u64,
+    other: u64,
+    one: Tuple,
+    two: Tuple,
+) -> WhatDiffers
+    ensures { result ≡ tuples_differ pair content lba other one two }
+{
+    let tag = counted_tag(pair.unit.ty, lba, one.rtag);
+    let other_tag = counted_tag(pair.other_unit.ty, other, two.rtag);
+    WhatDiffers {
+        content,
+        guard: one.guard != two.guard,
+        app: one.app != two.app,
+        tag: tag != other_tag,
+    }
+}
+
+/// What differs of two stored blocks, at these addresses: their data and, where both units have tuples,
+/// guards, application tags and reference tags.
+fn differences(pair: Pair, lba: u64, other: u64, one: &[u8], two: &[u8]) -> WhatDiffers
+    requires one { length one.now ≡ stored_size pair.unit.ty pair.unit.size }
+    requires two { length two.now ≡ stored_size pair.other_unit.ty pair.other_unit.size }
+    ensures { result ≡ differences pair lba other one.now two.now }
+{
+    let (data, behind) = one.split_at(pair.unit.size as usize);
+    let (other_data, other_behind) = two.split_at(pair.other_unit.size as usize);
+    let differ = data != other_data;
+    if !have_tuples(pair) {
+        return WhatDiffers {
+            content: differ,
+            guard: false,
+            app: false,
+            tag: false,
+        };
+    }
+    tuples_differ(
+        pair,
+        differ,
+        lba,
+        other,
+        tuple_in(behind),
+        tuple_in(other_behind),
+    )
+}
+
+/// Whether anything differs.
+fn differs(found: WhatDiffers) -> bool
+    ensures { result ≡ differs found }
+{
+    found.content || found.guard || found.app || found.tag
+}
+
+/// The word, where this differs.
+fn add_word(line: &mut Line, differ: bool, word: &[u8])
+    requires few { length word.now ≤ 6 }
+    requires room { length line.old.items ≤ 480 }
+    ensures items { line.new.items ≡ line.old.items ++ word_if differ word.now }
+    ensures bound { length line.new.items ≤ length line.old.items + 6 }
+{
+    if differ {
+        add(line, word);
+    }
+}
+
+/// A word for each that differs.
+fn add_what(line: &mut Line, found: WhatDiffers)
+    requires { length line.old.items ≤ 400 }
+    ensures items { line.new.items ≡ line.old.items ++ what_text found }
+    ensures bound { length line.new.items ≤ length line.old.items + 24 }
+{
+    add_word(line, found.content, b" data");
+    add_word(line, found.guard, b" guard");
+    add_word(line, found.app, b" app");
+    add_word(line, found.tag, b" ref");
+}
+
+/// The unit's number and the address of a block.
+fn add_side(line: &mut Line, dev: u32, lba: u64)
+    requires { length line.old.items ≤ 256 }
+    ensures items { line.new.items ≡ line.old.items ++ side_text dev lba }
+    ensures bound { length line.new.items ≤ length line.old.items + 81 }
+{
+    add_number(line, u64::from(dev));
+    add(line, b" ");
+    add_number(line, lba);
+}
+
+/// The line of two blocks that differ.
+fn difference_line(pair: Pair, lba: u64, other: u64, found: WhatDiffers) -> Line
+    requires { differs found ≡ true }
+    ensures { result.items ≡ line_of pair lba other found }
+{
+    let mut line = Line::new();
+    add_side(&mut line, pair.dev, lba);
+    add(&mut line, b" ");
+    add_side(&mut line, pair.other_dev, other);
+    add_what(&mut line, found);
+    add(&mut line, b"\n");
+    line
+}
+
+/// Writes the first line.
+pub fn write_diff_first<O: Sink>(out: &mut O) -> Result<(), Failed>
+    ensures whole { OnOk result (Appended diff_first (O.taken out.old) (O.taken out.new)) }
+    ensures part { OnErr result (AppendedSome diff_first (O.taken out.old) (O.taken out.new)) }
+    ensures cause { OnErr result (Rose (O.faults out.old) (O.faults out.new)) }
+    ensures count { O.faults out.old ≤ O.faults out.new }
+{
+    write_all(out, b"dix diff 1\n")
+}
+
+/// Writes the line of two stored blocks where they differ, and says whether they do.
+fn write_difference<O: Sink>(
+    out: &mut O,
+    pair: Pair,
+    lba: u64,
+    other: u64,
+    one: &[u8],
+    two: &[u8],
+) -> Result<bool, Failed>
+    requires one { length one.now ≡ stored_size pair.unit.ty pair.unit.size }
+    requires two { length two.now ≡ stored_size pair.other_unit.ty pair.other_unit.size }
+    ensures differ { IfOk result (λ is_other. is_other ≡ differs (differences pair lba other one.now two.now)) }
+    ensures whole { OnOk result (Appended (diff_line pair lba other one.now two.now) (O.taken out.old) (O.taken out.new)) }
+    ensures part { OnErr result (AppendedSome (diff_line pair lba other one.now two.now) (O.taken out.old) (O.taken out.new)) }
+    ensures cause { OnErr result (Rose (O.faults out.old) (O.faults out.new)) }
+    ensures count { O.faults out.old ≤ O.faults out.new }
+{
+    let found = differences(pair, lba, other, one, two);
+    if !differs(found) {
+        return Ok(false);
+    }
+    let line = difference_line(pair, lba, other, found);
+    write_all(out, line.as_slice())?;
+    Ok(true)
+}
+
+/// Writes a line for each of so many pairs of stored blocks that differ, the first of which have these
+/// addresses, and says how many they are. A sink that fails has taken a prefix of the lines.
+pub fn write_differences<O: Sink>(
+    out: &mut O,
+    pair: Pair,
+    first: u64,
+    other_first: u64,
+    count: u32,
+    frames: &[u8],
+    others: &[u8],
+) -> Result<u32, Failed>
+    requires stored { length frames.now ≡ count * stored_size pair.unit.ty pair.unit.size }
+    requires others { length others.now ≡ count * stored_size pair.other_unit.ty pair.other_unit.size }
+    requires end { first + count < 2 ^ 64 }
+    requires other_end { other_first + count < 2 ^ 64 }
+    ensures differ { IfOk result (λ n. n ≡ count_differ pair first other_first
+        (frames_of (stored_size pair.unit.ty pair.unit.size) count frames.now)
+        (frames_of (stored_size pair.other_unit.ty pair.other_unit.size) count others.now)) }
+    ensures whole { OnOk result (Appended (diff_lines pair first other_first
+        (frames_of (stored_size pair.unit.ty pair.unit.size) count frames.now)
+        (frames_of (stored_size pair.other_unit.ty pair.other_unit.size) count others.now))
+        (O.taken out.old) (O.taken out.new)) }
+    ensures part { OnErr result (AppendedSome (diff_lines pair first other_first
+        (frames_of (stored_size pair.unit.ty pair.unit.size) count frames.now)
+        (frames_of (stored_size pair.other_unit.ty pair.other_unit.size) count others.now))
+        (O.taken out.old) (O.taken out.new)) }
+    ensures cause { OnErr result (Rose (O.faults out.old) (O.faults out.new)) }
+    ensures count { O.faults out.old ≤ O.faults out.new }
+{
+    let len = stored_len(pair.unit);
+    let other_len = stored_len(pair.other_unit);
+    let mut rest = frames;
+    let mut other_rest = others;
+    let mut lba = first;
+    let mut other = other_first;
+    let mut left = count;
+    let mut differ = 0u32;
+    while left > 0 {
+        let (one, more) = rest.split_at(len);
+        let (two, other_more) = other_rest.split_at(other_len);
+        let is_other = write_difference(out, pair, lba, other, one, two)?;
+        differ = counted(differ, is_other);
+        rest = more;
+        other_rest = other_more;
+        lba += 1;
+        other += 1;
+        left -= 1;
+    }
+    Ok(differ)
+}
+
+fn compared_line(count: u32, differ: u32) -> Line
+    ensures { result.items ≡ compared_line count differ }
+{
+    let mut line = Line::new();
+    add(&mut line, b"compared ");
+    add_number(&mut line, u64::from(count));
+    add(&mut line, b" differ ");
+    add_number(&mut line, u64::from(differ));
+    add(&mut line, b"\n");
+    line
+}
+
+/// Writes the last line: how many blocks were compared, and how many of them differ.
+pub fn write_compared<O: Sink>(out: &mut O, count: u32, differ: u32) -> Result<(), Failed>
+    ensures whole { OnOk result (Appended (compared_line count differ) (O.taken out.old) (O.taken out.new)) }
+    ensures part { OnErr result (AppendedSome (compared_line count differ) (O.taken out.old) (O.taken out.new)) }
+    ensures cause { OnErr result (Rose (O.faults out.old) (O.faults out.new)) }
+    ensures count { O.faults out.old ≤ O.faults out.new }
+{
+    let line = compared_line(count, differ);
+    write_all(out, line.as_slice())
+}

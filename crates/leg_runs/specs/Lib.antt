@@ -1,5 +1,0 @@
-pub mod LegRuns
-pub mod Asked
-pub mod OnOps
-pub mod Standing
-pub mod Mending

@@ -1,6 +1,0 @@
-use Rattle.std.proofs.Common.{◌≡◌, ◌++◌, drop}
-use Rattle.mirror_legs.specs.Inner.{own_faults}
-use Rattle.mirror_legs.proofs.own.own_faults.Given as goal
-
-abbrev pub invariant-loop-line : goal.invariant-loop-line
-invariant-loop-line l = l.own.items ++ own_faults l.piece l.request (drop l.line-index l.faults) ≡ own_faults l.piece l.request l.faults

@@ -1,4 +1,0 @@
-pub mod Inner
-pub mod Legs
-pub mod MirrorScript
-pub mod Passed

@@ -1,8 +1,0 @@
-use Rattle.std.proofs.Common.{arith}
-use Rattle.rig_log.specs.Entries.{entries_length}
-use Rattle.rig_log.proofs.log.Log.len.Goals as goal
-
-pub returns : goal.returns
-returns c =
-    let e = entries_length c.args.self.now.labels.items c.args.self.now.moved.items c.args.self.now.kept.items in
-    omega (arith, e, c.len.ensures)
