@@ -6,9 +6,9 @@
 out="$here/crates/$crate/out"
 log="$out/build.log"
 
-# The crates below the program in the order of crates.txt, each with those that its line names.
+# The crates below one in the order of crates.txt, each with those that its line names.
 crates_below() {
-    awk -v top="$crate" '{ sub(/#.*/, "") }
+    awk -v top="$1" '{ sub(/#.*/, "") }
     NF {
         at = index($0, ":")
         split(substr($0, 1, at - 1), words)
@@ -35,6 +35,7 @@ crates_below() {
 
 # Free memory in MiB, under the limit of the control group too.
 free_memory() {
+    # shellcheck disable=SC2046
     awk '/^MemAvailable:/ { free = $2 / 1024 }
     FILENAME ~ /memory.max/ && $1 != "max" { most = $1 / 1048576 }
     FILENAME ~ /memory.current/ { held = $1 / 1048576 }
@@ -43,7 +44,15 @@ free_memory() {
 }
 
 minutes() { echo $((($(date +%s) - begun) / 60)); }
-tell() { say "$done of $all crates, $(minutes) min: $1"; }
+tell() {
+    say "$done of $all crates, $(minutes) min: $1"
+    told=$(date +%s)
+}
+
+# Says what is built where nothing was said for a minute.
+tell_waiting() {
+    [ $(($(date +%s) - told)) -lt 60 ] || tell "builds $(cat "$work"/*/name 2>/dev/null | tr '\n' ' ')"
+}
 
 # The crates that wait for nothing but a processor.
 ready() {
@@ -75,7 +84,7 @@ link_libraries() {
 build_crate() {
     trap 'kill -TERM $made 2>/dev/null; wait $made; exit 143' TERM
     cd "$1/crates/$2" || exit 2
-    rt lib --jobs "$3" </dev/null >"$1/said" 2>&1 &
+    DIX_BUILD=$work rt lib --jobs "$3" </dev/null >"$1/said" 2>&1 &
     made=$!
     wait $made
     echo $? >"$1/ended.new"
@@ -99,6 +108,12 @@ put_back() {
     rm -f "$1/name" "$1/pid" "$1/ended"
 }
 
+# Keeps the line by which the kit says that a crate is proved, for whoever makes a package of it.
+keep_verdict() {
+    verdict=$(grep '^logic=proved ' "$1" | tail -n 1)
+    [ -z "$verdict" ] || echo "$verdict" >"$2/verdict"
+}
+
 # Takes what the copy's crate came to: its words for the log, and whether it is done.
 finish() {
     wait "$(cat "$1/pid")"
@@ -109,6 +124,7 @@ finish() {
         cat "$1/said"
     } >>"$log"
     put_back "$1"
+    keep_verdict "$1/said" "$here/crates/$name/out"
     if [ "$status" != 0 ]; then
         failed=$name
     else
@@ -162,10 +178,9 @@ finish_crates() {
 }
 
 build_crates() {
-    crates_below >"$work/crates"
     : >"$work/done"
     : >"$work/started"
-    all=$(($(wc -l <"$work/crates") + 1)) done=0 running=0 failed=
+    all=$(($(wc -l <"$work/crates") + 1)) done=0 running=0 failed='' told=$(date +%s)
     while [ "$done" -lt "$((all - 1))" ]; do
         start_crates
         # (a circle in crates.txt, which rt names)
@@ -173,7 +188,19 @@ build_crates() {
         sleep 1
         finish_crates
         [ -z "$failed" ] || return 1
+        tell_waiting
     done
+}
+
+# Says how many crates the other program has too, and how many have a library, which is kept where nothing changed.
+say_shared() {
+    case $crate in
+    lab_cli) other=dix_cli sharer=dix ;;
+    *) other=lab_cli sharer=dixlab ;;
+    esac
+    shared=$(crates_below "$other" | cut -d ' ' -f 1 | grep -cxFf - "$work/names")
+    kept=$(while read -r name; do [ ! -d "$here/crates/$name/out/rlib" ] || echo; done <"$work/names" | wc -l)
+    say "$shared of its $(($(wc -l <"$work/names"))) crates are $sharer's too; $kept have a library already"
 }
 
 # Builds all, or says what failed and ends. A second call waits, and then finds the program.
@@ -191,9 +218,12 @@ build_alone() {
     rm -rf "$out"/build.*
     work=$(mktemp -d "$out/build.XXXXXX") && : >"$log" || end 70
     touch "$work/begun"
+    crates_below "$crate" >"$work/crates"
+    cut -d ' ' -f 1 "$work/crates" >"$work/names"
     begun=$(date +%s) processors=$(nproc) slots=$(($(free_memory) / 4000))
     slots=$((slots < 1 ? 1 : slots > processors ? processors : slots))
     say "proves and builds $called, $slots crates at a time, which can take an hour; the log is $log"
+    say_shared
     if build_crates && build_program; then
         touch -r "$work/begun" "$program"
         done=$all
@@ -212,7 +242,9 @@ build_program() {
     rm -rf "$work"/[0-9]*
     cd "$here/crates/$crate" || return
     # (first is some words)
-    held rt run -- $first </dev/null >/dev/null 2>>"$log"
+    # shellcheck disable=SC2086
+    held env DIX_BUILD="$work" rt run -- $first </dev/null >"$work/ran" 2>>"$log"
     status=$?
+    [ "$status" != 0 ] || keep_verdict "$work/ran" "$out"
     cd "$OLDPWD" && return "$status"
 }
