@@ -2,8 +2,8 @@ use Rattle.std.specs.Prelude.{ℕ, ◌≡◌, Bool, true, false, List, [], ◌�
 use Rattle.target_answer.specs.Target.{Stored}
 use Rattle.rig_api.specs.Telling.{IsStanding, Standing, units_told}
 use Rattle.script_text.specs.declared.script.Script.{Script}
-use Rattle.dix_run.specs.declared.status.Status.{Status}
-use Rattle.dix_run.specs.declared.status.Status.TheVariants as status
+use Rattle.call_verdict.specs.declared.status.Status.{Status}
+use Rattle.call_verdict.specs.declared.status.Status.TheVariants as status
 use Rattle.headline.specs.declared.way.Way.{Way}
 use Rattle.headline.specs.declared.way.Way.TheVariants.{Run, Mirror}
 

@@ -2,7 +2,7 @@
 
 ghost use Rattle.std.specs.Prelude.{◌≡◌, IfOk, OnErr, OnOk, is_some, length, map, true};
 ghost use Rattle.rig_api.specs.Telling.{specs_of};
-ghost use Rattle.script_ground.specs.Passed.{info_of};
+ghost use Rattle.script_run_laws.specs.Passed.{info_of};
 ghost use Rattle.stack_core.specs.Going.{StandsOver};
 ghost use Rattle.script_stack.specs.Followed.{Ran, SizesAre};
 ghost use Rattle.script_stack.specs.Beginning.{Begins, IsBoundTo};

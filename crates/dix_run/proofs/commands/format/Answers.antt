@@ -2,7 +2,9 @@ use Rattle.std.proofs.Common.{length, refl, ap, ◌∙◌, arith}
 use Rattle.target_answer.specs.Headers.{is_layout}
 use Rattle.dix_run.specs.Commands.{format_work}
 use Rattle.dix_run.specs.declared.refusal.Refusal.TheVariants as refusal
-use Rattle.dix_run.proofs.Endings.{formatted, refused}
+use Rattle.call_verdict.proofs.Verdicts.{refused}
+use Rattle.dix_run.specs.Verdict.{dix}
+use Rattle.dix_run.proofs.Endings.{formatted}
 use Rattle.dix_run.proofs.Layouts.{few_units}
 use Rattle.dix_run.proofs.commands.format.Goals as goal
 
@@ -22,4 +24,4 @@ returns-in-Ok g c = λ left reads.
 
 pub returns-in-Err : goal.returns-in-Err
 returns-in-Err g c = λ left reads.
-    refused (format_work c.args.units.now) (refusal.Stopped c.in-Err.stop) _ _ _ _ _ c.refuse.result (rw c.image_of.ensures at c.in-Err.ensures, (refl, refl)) c.refuse.ensures
+    refused dix (format_work c.args.units.now) (refusal.Stopped c.in-Err.stop) _ _ _ _ _ c.refuse.result (rw c.image_of.ensures at c.in-Err.ensures, (refl, refl)) c.refuse.ensures

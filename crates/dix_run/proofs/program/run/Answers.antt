@@ -4,8 +4,9 @@ use Rattle.dix_run.specs.declared.command.Command.{Command}
 use Rattle.dix_run.specs.declared.command.Command.TheVariants.{Run, Trace, Format, Migrate, Mirror, Scrub, Nvme, Modes, Big}
 use Rattle.dix_run.specs.Commands.{no_command}
 use Rattle.dix_run.specs.declared.refusal.Refusal.TheVariants as refusal
+use Rattle.dix_run.specs.Verdict.{dix}
 use Rattle.dix_run.proofs.Carrying.{carried_by}
-use Rattle.dix_run.proofs.Endings.{refused}
+use Rattle.call_verdict.proofs.Verdicts.{refused}
 use Rattle.dix_run.proofs.Layouts.{few_ops, layout_in}
 use Rattle.dix_run.proofs.program.run.Goals as goal
 
@@ -17,7 +18,7 @@ format-requires g c = layout_in (word_bytes c.args.words.now) c.in-Format.units 
 
 pub returns-in_default : goal.returns-in_default
 returns-in_default g c =
-    carried_by None _ _ _ _ _ c.refuse.result (sym c.command_of.ensures ∙ c.in_default.is) (refused no_command refusal.Words _ _ _ _ _ c.refuse.result (refl, refl, (refl, refl)) c.refuse.ensures)
+    carried_by None _ _ _ _ _ c.refuse.result (sym c.command_of.ensures ∙ c.in_default.is) (refused dix no_command refusal.Words _ _ _ _ _ c.refuse.result (refl, refl, (refl, refl)) c.refuse.ensures)
 
 pub returns-in-Run : goal.returns-in-Run
 returns-in-Run g c = carried_by (Some Run) _ _ _ _ _ c.run_image.result (sym c.command_of.ensures ∙ c.in-Some.is ∙ ap (λ (x : Command). Some x) c.in-Run.is) c.run_image.ensures

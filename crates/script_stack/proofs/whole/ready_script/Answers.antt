@@ -2,7 +2,7 @@ use Rattle.std.proofs.Common.{ap, sym, ◌∙◌}
 use Rattle.std.specs.Prelude.{is_some}
 use Rattle.rig_api.specs.Telling.{Standing, specs_of}
 use Rattle.rig_api.specs.State.{RigState}
-use Rattle.script_ground.specs.Passed.{info_of}
+use Rattle.script_run_laws.specs.Passed.{info_of}
 use Rattle.std.proofs.Common.{map}
 use Rattle.script_stack.proofs.whole.ready_script.Goals as goal
 
