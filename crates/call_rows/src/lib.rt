@@ -5,6 +5,7 @@ mod bytes;
 mod calls;
 mod commands;
 mod files;
+mod holding_sink;
 mod lines;
 mod outside;
 mod sources;
