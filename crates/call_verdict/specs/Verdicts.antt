@@ -1,4 +1,4 @@
-use Rattle.std.specs.Prelude.{ℕ, ⊥, ◌≡◌, ◌⊎◌, Bool, if◌then◌else◌, List, Option, Result, Ok, Err}
+use Rattle.std.specs.Prelude.{ℕ, ◌≡◌, ◌⊎◌, Bool, if◌then◌else◌, List, Option, Result, Ok, Err}
 use Rattle.dix_base.specs.Told.{Appended, AppendedSome, Calm, Rose}
 use Rattle.call_refusal.specs.declared.refusal.Refusal.{Refusal as Stop}
 use Rattle.call_refusal.specs.declared.refusal.Refusal.TheVariants as stop

@@ -10,7 +10,7 @@ use report_text::write_out;
 
 /// Writes the text, and says what the call comes to.
 pub fn finish<O: Sink>(out: &mut O, text: &[u8], status: Status) -> Status
-    ensures { Written status text.now (O.taken out.old) (O.taken out.new) (O.faults out.old) (O.faults out.new) result }
+    ensures written { Written status text.now (O.taken out.old) (O.taken out.new) (O.faults out.old) (O.faults out.new) result }
     ensures handed { IsPassedOn result (O.passed out.new) (O.taken out.new) }
 {
     match write_out(out, text) {
@@ -21,7 +21,7 @@ pub fn finish<O: Sink>(out: &mut O, text: &[u8], status: Status) -> Status
 
 /// Writes the line of a refusal.
 pub fn refuse<O: Sink, R: Reason>(out: &mut O, reason: R) -> Status
-    ensures { Written (R.ends reason) (R.says reason) (O.taken out.old) (O.taken out.new) (O.faults out.old) (O.faults out.new) result }
+    ensures written { Written (R.ends reason) (R.says reason) (O.taken out.old) (O.taken out.new) (O.faults out.old) (O.faults out.new) result }
     ensures handed { IsPassedOn result (O.passed out.new) (O.taken out.new) }
 {
     finish(out, reason.line().as_slice(), reason.status())

@@ -15,7 +15,7 @@ use std::alloc::Global;
 /// lines on it. Neither source nor rig is touched.
 pub(crate) fn big<O: Sink>(alloc: Global, n: u32, seed: u32, out: &mut O) -> Status
     requires { n ≤ 1024 }
-    ensures { (f : Facts) → f.rig_after ≡ f.rig → LeavesSource f
+    ensures ended { (f : Facts) → f.rig_after ≡ f.rig → LeavesSource f
         → EndedAs dix (big_work n seed) f (O.taken out.old) (O.taken out.new) (O.faults out.old) (O.faults out.new) result }
     ensures handed { IsPassedOn result (O.passed out.new) (O.taken out.new) }
 {

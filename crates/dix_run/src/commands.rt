@@ -38,7 +38,7 @@ pub(crate) fn format<R: Rig, O: Sink>(
     out: &mut O,
 ) -> Status
     requires { is_layout units.now ≡ true }
-    ensures { (left : Option (List ℕ)) (reads : ℕ) → EndedAs dix (format_work units.now) (record {
+    ensures ended { (left : Option (List ℕ)) (reads : ℕ) → EndedAs dix (format_work units.now) (record {
       words = word_bytes words.now;
       left = left;
       left_after = left;
@@ -67,7 +67,7 @@ pub(crate) fn migrate<R: Rig, O: Sink>(
     rig: &mut R,
     out: &mut O,
 ) -> Status
-    ensures { (left : Option (List ℕ)) (reads : ℕ) → EndedAs dix migrate_work (record {
+    ensures ended { (left : Option (List ℕ)) (reads : ℕ) → EndedAs dix migrate_work (record {
       words = word_bytes words.now;
       left = left;
       left_after = left;
@@ -95,7 +95,7 @@ pub(crate) fn scrub<R: Rig, O: Sink>(
     rig: &mut R,
     out: &mut O,
 ) -> Status
-    ensures { (left : Option (List ℕ)) (reads : ℕ) → EndedAs dix scrub_work (record {
+    ensures ended { (left : Option (List ℕ)) (reads : ℕ) → EndedAs dix scrub_work (record {
       words = word_bytes words.now;
       left = left;
       left_after = left;

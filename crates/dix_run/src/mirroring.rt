@@ -16,7 +16,7 @@ use unit_words::image_of;
 
 /// Writes the report of a script on a mirror, and what its repair did.
 fn report_mirrored<O: Sink>(out: &mut O, run: &Mirrored) -> Status
-    ensures { Written (done_status (is_any_lost run.now.mirror.replies.items run.now.repair.lost))
+    ensures written { Written (done_status (is_any_lost run.now.mirror.replies.items run.now.repair.lost))
         (mirror_text run.now.mirror.replies.items run.now.repair.repaired run.now.repair.lost) (O.taken out.old) (O.taken out.new) (O.faults out.old) (O.faults out.new) result }
     ensures handed { IsPassedOn result (O.passed out.new) (O.taken out.new) }
 {
@@ -34,7 +34,7 @@ pub(crate) fn mirror_image<S: Source, R: Rig, O: Sink>(
     rig: &mut R,
     out: &mut O,
 ) -> Status
-    ensures { let f : Facts = record {
+    ensures ended { let f : Facts = record {
       words = word_bytes words.now;
       left = S.left source.old;
       left_after = S.left source.new;

@@ -15,7 +15,7 @@ use std::alloc::Global;
 /// `modes T`: writes which layer finds a block altered, for each mode of units of this type. Neither
 /// source nor rig is touched.
 pub(crate) fn modes<O: Sink>(alloc: Global, ty: PiType, out: &mut O) -> Status
-    ensures { (f : Facts) → f.rig_after ≡ f.rig → LeavesSource f
+    ensures ended { (f : Facts) → f.rig_after ≡ f.rig → LeavesSource f
         → EndedAs dix (modes_work ty) f (O.taken out.old) (O.taken out.new) (O.faults out.old) (O.faults out.new) result }
     ensures handed { IsPassedOn result (O.passed out.new) (O.taken out.new) }
 {

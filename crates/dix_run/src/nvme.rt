@@ -21,7 +21,7 @@ pub(crate) fn nvme<S: Source, R: Rig, O: Sink>(
     rig: &mut R,
     out: &mut O,
 ) -> Status
-    ensures { let f : Facts = record {
+    ensures ended { let f : Facts = record {
       words = word_bytes words.now;
       left = S.left source.old;
       left_after = S.left source.new;

@@ -27,7 +27,7 @@ pub fn run<S: Source, R: Rig, O: Sink>(
     rig: &mut R,
     out: &mut O,
 ) -> Status
-    ensures { let f : Facts = record {
+    ensures carries { let f : Facts = record {
       words = word_bytes words.now;
       left = S.left script.old;
       left_after = S.left script.new;

@@ -19,7 +19,7 @@ use unit_words::image_of;
 
 /// Writes the report of a run.
 fn report_run<O: Sink>(out: &mut O, run: &Finished) -> Status
-    ensures { Written (done_status (has_bad run.now.stack.replies.items)) (report run.now.stack.replies.items) (O.taken out.old) (O.taken out.new) (O.faults out.old) (O.faults out.new) result }
+    ensures written { Written (done_status (has_bad run.now.stack.replies.items)) (report run.now.stack.replies.items) (O.taken out.old) (O.taken out.new) (O.faults out.old) (O.faults out.new) result }
     ensures handed { IsPassedOn result (O.passed out.new) (O.taken out.new) }
 {
     match print_run(out, run) {
@@ -31,7 +31,7 @@ fn report_run<O: Sink>(out: &mut O, run: &Finished) -> Status
 /// Writes the report of a run, and behind it the trace of the records of its call.
 fn trace_run<O: Sink, R: Rig>(out: &mut O, run: &Finished, rig: &R) -> Status
     requires { run.now.first ≤ length (R.state rig.now).log }
-    ensures { Written (done_status (has_bad run.now.stack.replies.items))
+    ensures written { Written (done_status (has_bad run.now.stack.replies.items))
         (report run.now.stack.replies.items ++ trace (drop run.now.first (R.state rig.now).log)) (O.taken out.old) (O.taken out.new) (O.faults out.old) (O.faults out.new) result }
     ensures handed { IsPassedOn result (O.passed out.new) (O.taken out.new) }
 {
@@ -49,7 +49,7 @@ pub(crate) fn run_image<S: Source, R: Rig, O: Sink>(
     rig: &mut R,
     out: &mut O,
 ) -> Status
-    ensures { let f : Facts = record {
+    ensures ended { let f : Facts = record {
       words = word_bytes words.now;
       left = S.left source.old;
       left_after = S.left source.new;
@@ -75,7 +75,7 @@ pub(crate) fn trace_image<S: Source, R: Rig, O: Sink>(
     rig: &mut R,
     out: &mut O,
 ) -> Status
-    ensures { let f : Facts = record {
+    ensures ended { let f : Facts = record {
       words = word_bytes words.now;
       left = S.left source.old;
       left_after = S.left source.new;

@@ -26,7 +26,7 @@ abbrev pub wants_memory : Status → Bool
 wants_memory status.Whole = false
 wants_memory status.SomeBad = false
 wants_memory status.Words = false
-wants_memory status.Script = false
+wants_memory status.Input = false
 wants_memory status.Image = false
 wants_memory status.RigFault = false
 wants_memory status.Memory = true

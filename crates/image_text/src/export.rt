@@ -1,6 +1,6 @@
 //! Blocks to a dump.
 
-ghost use Rattle.std.specs.Prelude.{◌≡◌, ◌*◌, ◌≤◌, OnErr, OnOk, length, Err, ⊥};
+ghost use Rattle.std.specs.Prelude.{◌≡◌, ◌*◌, ◌≤◌, OnErr, OnOk, length, Err};
 ghost use Rattle.dix_base.specs.Told.{Appended, AppendedSome, Rose};
 ghost use Rattle.target_answer.specs.Frames.{frames_of, stored_size};
 ghost use Rattle.target_answer.specs.Headers.{image_size};

@@ -63,7 +63,7 @@ pub(crate) fn diff<A: Store, B: Store, O: Sink>(
     second: &mut B,
     out: &mut O,
 ) -> Result<Status, Refusal>
-    ensures { (left : Option (List ℕ)) (reads : ℕ) (rig : RigState) → Came (Some (Command.Diff one other)) result
+    ensures came { (left : Option (List ℕ)) (reads : ℕ) (rig : RigState) → Came (Some (Command.Diff one other)) result
         (on_both (word_bytes words.now) (A.state first.old) (A.state first.new) (B.state second.old) (B.state second.new) left reads rig)
         (O.taken out.old) (O.taken out.new) (O.faults out.old) (O.faults out.new) }
     ensures handed { IfOk result (λ status. IsPassedOn status (O.passed out.new) (O.taken out.new)) }

@@ -23,7 +23,7 @@ use unit_words::image_of;
 fn tell_run<R: Rig, O: Sink>(out: &mut O, told: &Explained, rig: &R) -> Status
     requires records { told.now.run.first ≤ length (R.state rig.now).log }
     requires guides { Guides told.now.guide told.now.run.stack.replies.items }
-    ensures { Written (done_status (has_bad told.now.run.stack.replies.items))
+    ensures written { Written (done_status (has_bad told.now.run.stack.replies.items))
         (explained_by told.now.guide.sites.items told.now.guide.entries (drop told.now.run.first (R.state rig.now).log) told.now.run.stack.replies.items)
         (O.taken out.old) (O.taken out.new) (O.faults out.old) (O.faults out.new) result }
     ensures handed { IsPassedOn result (O.passed out.new) (O.taken out.new) }
@@ -42,7 +42,7 @@ pub(crate) fn explain<S: Source, R: Rig, O: Sink>(
     rig: &mut R,
     out: &mut O,
 ) -> Result<Status, Refusal>
-    ensures { (first second : StoreState) → Came (Some Command.Explain) result
+    ensures came { (first second : StoreState) → Came (Some Command.Explain) result
         (on_rig (word_bytes words.now) (S.left input.old) (S.left input.new) (S.faults input.old) (S.faults input.new) (R.state rig.old) (R.state rig.new) first second)
         (O.taken out.old) (O.taken out.new) (O.faults out.old) (O.faults out.new) }
     ensures handed { IfOk result (λ status. IsPassedOn status (O.passed out.new) (O.taken out.new)) }

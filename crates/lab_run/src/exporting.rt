@@ -29,7 +29,7 @@ pub(crate) fn export<A: Store, O: Sink>(
     store: &mut A,
     out: &mut O,
 ) -> Result<Status, Refusal>
-    ensures { (left : Option (List ℕ)) (reads : ℕ) (rig : RigState) (second : StoreState) → Came (Some (Command.Export place layout)) result
+    ensures came { (left : Option (List ℕ)) (reads : ℕ) (rig : RigState) (second : StoreState) → Came (Some (Command.Export place layout)) result
         (on_first (word_bytes words.now) (A.state store.old) (A.state store.new) left reads rig second) (O.taken out.old) (O.taken out.new) (O.faults out.old) (O.faults out.new) }
     ensures handed { IfOk result (λ status. IsPassedOn status (O.passed out.new) (O.taken out.new)) }
 {

@@ -29,7 +29,7 @@ pub(crate) fn import<S: Source, A: Store, O: Sink>(
     store: &mut A,
     out: &mut O,
 ) -> Result<Status, Refusal>
-    ensures { (rig : RigState) (second : StoreState) → Came (Some (Command.Import place layout)) result
+    ensures came { (rig : RigState) (second : StoreState) → Came (Some (Command.Import place layout)) result
         (on_input (word_bytes words.now) (A.state store.old) (A.state store.new) (S.left input.old) (S.left input.new) (S.faults input.old) (S.faults input.new) rig second)
         (O.taken out.old) (O.taken out.new) (O.faults out.old) (O.faults out.new) }
     ensures handed { IfOk result (λ status. IsPassedOn status (O.passed out.new) (O.taken out.new)) }

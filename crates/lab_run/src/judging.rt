@@ -97,7 +97,7 @@ pub(crate) fn judge<S: Source, O: Sink>(
     input: &mut S,
     out: &mut O,
 ) -> Result<Status, Refusal>
-    ensures { (h : StoreState) (rig : RigState) (second : StoreState) → Came (Some Command.Judge) result
+    ensures came { (h : StoreState) (rig : RigState) (second : StoreState) → Came (Some Command.Judge) result
         (on_input (word_bytes words.now) h h (S.left input.old) (S.left input.new) (S.faults input.old) (S.faults input.new) rig second)
         (O.taken out.old) (O.taken out.new) (O.faults out.old) (O.faults out.new) }
     ensures handed { IfOk result (λ status. IsPassedOn status (O.passed out.new) (O.taken out.new)) }

@@ -21,7 +21,7 @@ use vector_runs::{Played, play_source, print_played};
 /// Writes the vectors of a text whose commands were done.
 fn print<R: Rig, O: Sink>(out: &mut O, rig: &R, played: &Played) -> Status
     requires { AreLogged played.now (R.state rig.now).log }
-    ensures { let entries = drop (first_of played.now) (R.state rig.now).log in
+    ensures written { let entries = drop (first_of played.now) (R.state rig.now).log in
         Written (done_status (has_sense entries)) (played_text played.now entries) (O.taken out.old) (O.taken out.new) (O.faults out.old) (O.faults out.new) result }
     ensures handed { IsPassedOn result (O.passed out.new) (O.taken out.new) }
 {
@@ -40,7 +40,7 @@ pub(crate) fn vectors<S: Source, R: Rig, O: Sink>(
     rig: &mut R,
     out: &mut O,
 ) -> Result<Status, Refusal>
-    ensures { (first second : StoreState) → Came (Some Command.Vectors) result
+    ensures came { (first second : StoreState) → Came (Some Command.Vectors) result
         (on_rig (word_bytes words.now) (S.left input.old) (S.left input.new) (S.faults input.old) (S.faults input.new) (R.state rig.old) (R.state rig.new) first second)
         (O.taken out.old) (O.taken out.new) (O.faults out.old) (O.faults out.new) }
     ensures handed { IfOk result (λ status. IsPassedOn status (O.passed out.new) (O.taken out.new)) }

@@ -34,7 +34,7 @@ fn answer<S: Source, R: Rig, A: Store, B: Store, O: Sink>(
     second: &mut B,
     out: &mut O,
 ) -> Result<Status, Refusal>
-    ensures { let f : Facts = record {
+    ensures came { let f : Facts = record {
       words = word_bytes words.now;
       left = S.left input.old;
       left_after = S.left input.new;
@@ -83,7 +83,7 @@ pub fn run<S: Source, R: Rig, A: Store, B: Store, O: Sink>(
     second: &mut B,
     out: &mut O,
 ) -> Status
-    ensures { let f : Facts = record {
+    ensures carries { let f : Facts = record {
       words = word_bytes words.now;
       left = S.left input.old;
       left_after = S.left input.new;

@@ -23,7 +23,7 @@ use unit_words::image_of;
 
 /// Writes the units of an image.
 fn list_units<O: Sink>(image: &Image, out: &mut O) -> Status
-    ensures { Written Status.Whole (units_text (units_open image.now)) (O.taken out.old) (O.taken out.new) (O.faults out.old) (O.faults out.new) result }
+    ensures written { Written Status.Whole (units_text (units_open image.now)) (O.taken out.old) (O.taken out.new) (O.faults out.old) (O.faults out.new) result }
     ensures handed { IsPassedOn result (O.passed out.new) (O.taken out.new) }
 {
     match image_text::show_units(image, out) {
@@ -50,7 +50,7 @@ pub(crate) fn show_units<A: Store, O: Sink>(
     store: &mut A,
     out: &mut O,
 ) -> Result<Status, Refusal>
-    ensures { (left : Option (List ℕ)) (reads : ℕ) (rig : RigState) (second : StoreState) → Came (Some Command.ShowUnits) result
+    ensures came { (left : Option (List ℕ)) (reads : ℕ) (rig : RigState) (second : StoreState) → Came (Some Command.ShowUnits) result
         (on_first (word_bytes words.now) (A.state store.old) (A.state store.new) left reads rig second) (O.taken out.old) (O.taken out.new) (O.faults out.old) (O.faults out.new) }
     ensures handed { IfOk result (λ status. IsPassedOn status (O.passed out.new) (O.taken out.new)) }
 {
@@ -66,7 +66,7 @@ pub(crate) fn show_blocks<A: Store, O: Sink>(
     store: &mut A,
     out: &mut O,
 ) -> Result<Status, Refusal>
-    ensures { (left : Option (List ℕ)) (reads : ℕ) (rig : RigState) (second : StoreState) → Came (Some (Command.ShowBlocks place)) result
+    ensures came { (left : Option (List ℕ)) (reads : ℕ) (rig : RigState) (second : StoreState) → Came (Some (Command.ShowBlocks place)) result
         (on_first (word_bytes words.now) (A.state store.old) (A.state store.new) left reads rig second) (O.taken out.old) (O.taken out.new) (O.faults out.old) (O.faults out.new) }
     ensures handed { IfOk result (λ status. IsPassedOn status (O.passed out.new) (O.taken out.new)) }
 {

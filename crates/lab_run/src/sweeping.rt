@@ -40,7 +40,7 @@ pub(crate) fn sweep<S: Source, O: Sink>(
     out: &mut O,
 ) -> Result<Status, Refusal>
     requires { command_in (word_bytes words.now) ≡ Some (Command.Sweep byte units.now) }
-    ensures { (h : StoreState) (rig : RigState) (second : StoreState) → Came (Some (Command.Sweep byte units.now)) result
+    ensures came { (h : StoreState) (rig : RigState) (second : StoreState) → Came (Some (Command.Sweep byte units.now)) result
         (on_input (word_bytes words.now) h h (S.left input.old) (S.left input.new) (S.faults input.old) (S.faults input.new) rig second)
         (O.taken out.old) (O.taken out.new) (O.faults out.old) (O.faults out.new) }
     ensures handed { IfOk result (λ status. IsPassedOn status (O.passed out.new) (O.taken out.new)) }

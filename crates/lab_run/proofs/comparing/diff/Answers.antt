@@ -7,19 +7,19 @@ use Rattle.lab_run.proofs.Differing.{compared, no_first, no_second, other_count,
 use Rattle.lab_run.proofs.Openings.{finds_named}
 use Rattle.lab_run.proofs.comparing.diff.Goals as goal
 
-pub returns-in_err-room : goal.returns-in_err-room
-returns-in_err-room g c = λ left reads rig.
+pub returns-in_err-room-clause-came : goal.returns-in_err-room-clause-came
+returns-in_err-room-clause-came g c = λ left reads rig.
     let p = err_from_is_err_and c.from_residual.result c.from_residual.ensures.1 in
     rw (p.1, p.2) (spared _ c.args.one c.args.other _ _ left reads rig no_memory _ _ refl)
 
-pub returns-in_err-here : goal.returns-in_err-here
-returns-in_err-here g c = λ left reads rig.
+pub returns-in_err-here-clause-came : goal.returns-in_err-here-clause-came
+returns-in_err-here-clause-came g c = λ left reads rig.
     let p = err_from_is_err_and c.from_residual-in_err-here.result c.from_residual-in_err-here.ensures.1 in
     let h = finds_named _ c.args.one _ _ _ _ c.image_of.ensures c.in_err-here.ensures in
     rw (p.1, p.2) (no_first _ c.args.one c.args.other _ _ _ left reads rig c.in_err-here.field-0.0 _ _ _ refl h.came h.kept)
 
-pub returns-in-Err : goal.returns-in-Err
-returns-in-Err g c = λ left reads rig.
+pub returns-in-Err-clause-came : goal.returns-in-Err-clause-came
+returns-in-Err-clause-came g c = λ left reads rig.
     let h = finds_named _ c.args.one _ _ _ _ c.image_of.ensures c.in_ok-here.ensures in
     let k = finds_named _ c.args.other _ _ _ _ c.second_of.ensures c.in-Err.ensures in
     no_second _ c.args.one c.args.other _ _ _ _ left reads rig c.in_ok-here.here c.in-Err.unfound c.of_second.result _ _ h.came h.kept c.of_second.ensures k.came k.kept
@@ -39,21 +39,21 @@ diff_blocks-ended-requires-clause-places g c = record {
   other_held = c.in-Ok.ensures.came.held;
 }
 
-pub returns-then-not-are_one_size : goal.returns-then-not-are_one_size
-returns-then-not-are_one_size g c = λ left reads rig.
+pub returns-then-not-are_one_size-clause-came : goal.returns-then-not-are_one_size-clause-came
+returns-then-not-are_one_size-clause-came g c = λ left reads rig.
     let h = finds_named _ c.args.one _ _ _ _ c.image_of.ensures c.in_ok-here.ensures in
     let k = finds_named _ c.args.other _ _ _ _ c.second_of.ensures c.in-Ok.ensures in
     other_size _ c.args.one c.args.other _ _ _ _ left reads rig c.in_ok-here.here c.in-Ok.there c.are_one_size.result _ _ (record { first = h.came; kept = h.kept; second = k.came; second_kept = k.kept }) c.are_one_size.ensures c.if-not-are_one_size.true
 
-pub returns-then-here-there : goal.returns-then-here-there
-returns-then-here-there g c = λ left reads rig.
+pub returns-then-here-there-clause-came : goal.returns-then-here-there-clause-came
+returns-then-here-there-clause-came g c = λ left reads rig.
     let h = finds_named _ c.args.one _ _ _ _ c.image_of.ensures c.in_ok-here.ensures in
     let k = finds_named _ c.args.other _ _ _ _ c.second_of.ensures c.in-Ok.ensures in
     other_count _ c.args.one c.args.other _ _ _ _ left reads rig c.in_ok-here.here c.in-Ok.there c.are_one_size.result _ _ (record { first = h.came; kept = h.kept; second = k.came; second_kept = k.kept }) c.are_one_size.ensures c.if-not-are_one_size.false
     c.if-here-there.true
 
-pub returns : goal.returns
-returns g c = λ left reads rig.
+pub returns-clause-came : goal.returns-clause-came
+returns-clause-came g c = λ left reads rig.
     let was : StoreState = g.A.Store.state c.args.first.now in
     let mid : StoreState = g.A.Store.state c.find.new.store in
     let is : StoreState = g.A.Store.state c.diff_blocks-ended.new.store in
