@@ -4,16 +4,35 @@
 # FOLDER/N.sh, N counting them from 001. Where the next block follows at once, or behind a text that ends in a colon or
 # says `prints`, it is the block's output and goes to FOLDER/N.out. A paragraph that ends in a command between backquotes,
 # with a word or two behind it, is a command block too, and the block below is its output. What isn't run: a block with a
-# word in capitals, such as IMAGE, and one with a line `# not run`. Lines that begin with `run-dix: ` are what the wrapper
-# says on standard error, and no output.
+# word in capitals outside of a here-document, such as IMAGE, and one with a line `# not run`. Lines that begin with
+# `run-dix: ` are what the wrapper says on standard error, and no output.
 
 function is_command(line) {
-    return line ~ /^(\.\/run-dix|\.\/run-dixlab|printf|dd|for|cp|cat|echo|cmp|od|head|tail) /
+    return line ~ /^(\.\/run-dix|\.\/run-dixlab|printf|sed|grep|tr|expand|dd|for|cp|cat|echo|cmp|od|head|tail|rm|LC_ALL=C) / ||
+        line ~ /^[a-z]+=\$\(/
+}
+
+# A text without its here-documents.
+function outside(text, lines, n, i, end, out) {
+    n = split(text, lines, "\n")
+    for (i = 1; i <= n; i++) {
+        if (end != "") {
+            if (lines[i] == end) end = ""
+            continue
+        }
+        if (match(lines[i], /<<-?[ ]*'?[A-Za-z]+'?/)) {
+            end = substr(lines[i], RSTART + 2, RLENGTH - 2)
+            gsub(/[- ']/, "", end)
+            sub(/<<-?[ ]*'?[A-Za-z]+'?/, "", lines[i])
+        }
+        out = out lines[i] "\n"
+    }
+    return out
 }
 
 function is_form(text, words, n, i) {
     if (text ~ /(^|\n)# not run/) return 1
-    n = split(text, words, /[ \n<>&|;]+/)
+    n = split(outside(text), words, /[ \n<>&|;]+/)
     for (i = 1; i <= n; i++) if (words[i] ~ /^[A-Z][A-Z_:.]+$|^[A-Z]$/) return 1
     return 0
 }

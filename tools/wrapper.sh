@@ -1,8 +1,19 @@
-# What run-dix and run-dixlab share. Both read it behind what they say of their own: `me`, the name of the script; `called`
-# and `crate`, those of its program; `first`, words by which the program is run once it is built; `given`, a program to run
-# in place of the proved one; `most`, the bytes of input at most; `help`, `takes_image` and `takes_script`; `own_option` and
-# `look_first`.
+# What run-dix and run-dixlab share. Both read it behind what they say of their own: `called` and `crate`, those of the
+# program; `first`, words by which the program is run once it is built, and `slow` and `slow_text`, a call of it that takes
+# long; `given`, a program to run in place of the proved one; `help`, `takes_script`, `images_of`, `image_written`,
+# `judge_words`, `own_option` and `look_first`.
+#
+# In a folder with programs/, as install-programs and dist make it, the programs there are run, and nothing is built.
+me=$(basename -- "$0")
+case $me in
+run-dix | run-dixlab) call="./$me" dix=./run-dix lab=./run-dixlab ;;
+*) call=$me dix=dix lab=dixlab ;;
+esac
+is_ready=
 program="$here/crates/$crate/out/$crate"
+if [ -e "$here/programs/$crate" ]; then is_ready=1 program="$here/programs/$crate"; fi
+. "$here/tools/mistakes.sh"
+
 say() { echo "$me: $*" >&2; }
 refuse() {
     status=$1
@@ -12,15 +23,17 @@ refuse() {
 }
 
 version() {
-    commit=$(git -C "$here" describe --always --dirty 2>/dev/null) || commit=unknown
-    kit=$(rt version 2>/dev/null) || kit='none (there is no rt)'
+    commit=$(cat "$here/programs/commit" 2>/dev/null) || commit=$(git -C "$here" describe --always --dirty 2>/dev/null) ||
+        commit=unknown
+    kit=$(cat "$here/programs/kit" 2>/dev/null) || kit=$(rt version 2>/dev/null) || kit='none (there is no rt)'
     is_fresh && built='built' || built='not built yet'
-    echo "$called, commit $commit; proved program: $built; kit: $kit"
+    echo "$called $(cat "$here/VERSION"), commit $commit; proved program: $built; kit: $kit"
 }
 
 # The program is kept with the time at which its build began, so that an edit during a build counts too.
 is_fresh() {
-    [ -x "$program" ] && [ -z "$(find "$here/crates" "$here/crates.txt" -name out -prune -o \
+    [ -x "$program" ] || return
+    [ -n "$is_ready" ] || [ -z "$(find "$here/crates" "$here/crates.txt" -name out -prune -o \
         \( -name '*.rt' -o -name '*.antt' -o -name crates.txt \) -newer "$program" -print | head -n 1)" ]
 }
 
@@ -45,52 +58,64 @@ end() {
     trap '' INT TERM HUP
     [ -z "$held" ] || kill -TERM "$held" 2>/dev/null
     stop_crates
+    [ -z "$work" ] || end_kit
     wait
-    rm -rf "$work"
+    [ -z "$work" ] || rm -rf "$work"
     [ "$1" -lt 128 ] || rm -f "$log"
     exit "$1"
 }
 stop_crates() { :; }
 
-# Runs the unproved program, which sees its image as a file `image` in a folder that is removed, and ends.
-try_unproved() {
-    [ -n "$given" ] || want_rt
-    work=$(mktemp -d) || exit 70
-    : >"$work/stdin"
-    if takes_script "$@"; then head -c "${most:-4194305}" >"$work/stdin"; fi
-    image=
-    if takes_image "$@"; then
-        command=$1 image=$2
-        shift 2
-        [ -f "$image" ] || [ ! -e "$image" ] || no_copy
-        [ ! -f "$image" ] || cp -- "$image" "$work/image" || no_copy
-        set -- "$command" image "$@"
-    fi
-    if [ -n "$given" ]; then
-        cd "$work" && held "$given" "$@" <stdin
-        status=$?
-    else
-        by_the_kit "$@"
-    fi
-    [ -z "$image" ] || say "it ran on a copy, and nothing was written to $image"
-    end "$status"
+# Ends what the kit started for this build: its compiler has a session of its own. It is told by its environment, or by
+# the folder that it runs in.
+end_kit() {
+    [ -z "$held" ] || kill -TERM "$held" 2>/dev/null
+    for round in 1 2 3 4 5 6 7 8 9 10; do
+        [ -n "$(of_kit)" ] || return 0
+        sleep 0.1
+    done
+    for it in $(of_kit); do kill -KILL "$it" 2>/dev/null; done
 }
-no_copy() {
-    say "--unproved runs on a copy of the image, and $image is no file that can be copied"
-    end 64
+of_kit() {
+    {
+        grep -lF -- "DIX_BUILD=$work" /proc/[0-9]*/environ
+        ls -l /proc/[0-9]*/cwd | grep -F -- "-> $work" | grep -o '/proc/[0-9]*'
+    } 2>/dev/null | sed 's,/proc/\([0-9]*\).*,\1,' | sort -u
 }
 
-# The kit builds a program, runs it and keeps nothing; its last line tells the program's status.
-by_the_kit() {
-    say "builds $called without proofs, in about a minute; what answers is an UNPROVED program"
-    data="image=$work/image"
-    [ -f "$work/image" ] || data=
-    cd "$here/crates/$crate" && held rt try ${data:+--data "$data"} -- "$@" <"$work/stdin" 2>"$work/said"
-    status=$?
-    grep -q '^run=ended status=' "$work/said" && return
-    cat "$work/said" >&2
-    say 'rt try came to no answer'
-    end 70
+can_run() {
+    case $1 in
+    */*) [ -f "$1" ] && [ -x "$1" ] ;;
+    *) command -v "$1" >/dev/null ;;
+    esac
+}
+
+# Settles which program is run, and builds it where it must.
+choose_program() {
+    if [ -n "$given" ]; then
+        program=$given
+        can_run "$program" || refuse 64 "$program is named in place of $called, and is no program"
+        [ -z "$is_unproved" ] || say "UNPROVED: nothing says that $program was proved"
+    elif [ -n "$is_unproved" ]; then
+        [ -z "$is_ready" ] || refuse 64 'there are no sources here that could be built without proofs'
+        . "$here/tools/unproved.sh"
+        program="$kept/$crate"
+        is_fresh || { want_rt && build_unproved; }
+        say "UNPROVED: this $called was built without proofs"
+    elif ! is_fresh; then
+        want_rt
+        . "$here/tools/build.sh"
+        build
+    fi
+}
+
+# A call that writes an image holds it until it ends, as the program inherits the lock.
+hold_image() {
+    image=$(image_written "$@")
+    [ -n "$image" ] && [ -r "$image" ] && { [ -f "$image" ] || [ -b "$image" ]; } || return 0
+    command -v flock >/dev/null || return 0
+    exec 8<"$image"
+    flock -n 8 || refuse 64 "another call writes $image: try again once it has ended"
 }
 
 held='' work='' log='' is_unproved=''
@@ -102,7 +127,7 @@ while :; do
     --help) help && exit 0 ;;
     --version) version && exit 0 ;;
     --unproved) is_unproved=1 ;;
-    -*) own_option "$1" || refuse 64 "there is no option $1: ./$me --help lists all" ;;
+    -*) own_option "$1" || refuse 64 "there is no option $1: $call --help lists all" ;;
     *) break ;;
     esac
     shift
@@ -112,18 +137,18 @@ if [ $# = 0 ]; then
     exit 64
 fi
 look_first "$@"
+judge_words "$@"
+look_at_images "$@"
 if takes_script "$@" && [ -t 0 ]; then
     say 'reads from the terminal: Ctrl-D ends the text, and < FILE gives one'
 fi
 # A write past the shell's limit on file sizes then fails, and ends nothing.
 trap '' XFSZ
-if [ -n "$is_unproved" ]; then try_unproved "$@"; fi
-if [ -n "$given" ]; then
-    program=$given
-elif ! is_fresh; then
-    want_rt
-    . "$here/tools/build.sh"
-    build
+choose_program "$@"
+hold_image "$@"
+if [ -t 2 ]; then
+    . "$here/tools/watch.sh"
+    run_watched "$@"
 fi
 trap - INT TERM HUP
 exec "$program" "$@"
