@@ -86,7 +86,7 @@ look_at_images() {
         fi
     done
     image=$(image_written "$@")
-    if [ -f "$image" ] && [ ! -w "$image" ]; then say "$image can't be written${so:+, $so}"; fi
+    if [ -f "$image" ] && [ ! -w "$image" ]; then say "the image can't be written: $image"; fi
     look_at_folder "$@"
 }
 

@@ -9,7 +9,7 @@ run_watched() {
     trap 'pass_on QUIT' QUIT
     trap 'pass_on TERM' TERM
     signal=
-    if { : <&0; } 2>/dev/null; then
+    if [ -e "/proc/$$/fd/0" ]; then
         { "$program" "$@" <&3 3<&- & } 3<&0
     else
         "$program" "$@" <&- &
@@ -120,8 +120,11 @@ name_place() {
     case $1 in
     run | trace | mirror | vectors | explain | sweep)
         script=$(input_file) && ! grep -q '^ *over ' "$script" || return 0
-        grep -nE '^ *(linear|stripe) ' "$script" | awk -F: '{ print "entry " NR " of the volume is line " $1 ": " $2 ":" $3 }' |
-            sed 's/:$//' | while IFS= read -r it; do say "$it"; done
+        number=0
+        grep -nE '^ *(linear|stripe) ' "$script" | while IFS= read -r it; do
+            number=$((number + 1))
+            say "entry $number of the volume is line ${it%%:*}: ${it#*:}"
+        done
         ;;
     show | diff | export | import) say "$lab show $2 writes the units of $2: a place lies in one of them" ;;
     esac
@@ -150,10 +153,12 @@ name_input() {
     fi
 }
 name_output() {
-    file=$(readlink "/proc/$$/fd/1")
-    if [ -z "$file" ]; then
+    if [ ! -e "/proc/$$/fd/1" ]; then
         say 'standard output is closed'
-    elif [ -p "/proc/$$/fd/1" ]; then
+        return
+    fi
+    file=$(readlink "/proc/$$/fd/1")
+    if [ -p "/proc/$$/fd/1" ]; then
         say 'whoever read standard output has ended'
     elif [ -f "$file" ]; then
         say "standard output, $file, could not be written"
