@@ -6,9 +6,9 @@
 out="$here/crates/$crate/out"
 log="$out/build.log"
 
-# The crates below the program in the order of crates.txt, each with those that its line names.
+# The crates below one in the order of crates.txt, each with those that its line names.
 crates_below() {
-    awk -v top="$crate" '{ sub(/#.*/, "") }
+    awk -v top="$1" '{ sub(/#.*/, "") }
     NF {
         at = index($0, ":")
         split(substr($0, 1, at - 1), words)
@@ -75,7 +75,7 @@ link_libraries() {
 build_crate() {
     trap 'kill -TERM $made 2>/dev/null; wait $made; exit 143' TERM
     cd "$1/crates/$2" || exit 2
-    rt lib --jobs "$3" </dev/null >"$1/said" 2>&1 &
+    DIX_BUILD=$work rt lib --jobs "$3" </dev/null >"$1/said" 2>&1 &
     made=$!
     wait $made
     echo $? >"$1/ended.new"
@@ -99,6 +99,12 @@ put_back() {
     rm -f "$1/name" "$1/pid" "$1/ended"
 }
 
+# Keeps the line by which the kit says that a crate is proved, for whoever makes a package of it.
+keep_verdict() {
+    verdict=$(grep '^logic=proved ' "$1" | tail -n 1)
+    [ -z "$verdict" ] || echo "$verdict" >"$2/verdict"
+}
+
 # Takes what the copy's crate came to: its words for the log, and whether it is done.
 finish() {
     wait "$(cat "$1/pid")"
@@ -109,6 +115,7 @@ finish() {
         cat "$1/said"
     } >>"$log"
     put_back "$1"
+    keep_verdict "$1/said" "$here/crates/$name/out"
     if [ "$status" != 0 ]; then
         failed=$name
     else
@@ -162,7 +169,6 @@ finish_crates() {
 }
 
 build_crates() {
-    crates_below >"$work/crates"
     : >"$work/done"
     : >"$work/started"
     all=$(($(wc -l <"$work/crates") + 1)) done=0 running=0 failed=
@@ -174,6 +180,17 @@ build_crates() {
         finish_crates
         [ -z "$failed" ] || return 1
     done
+}
+
+# Says how many crates the other program has too, and how many have a library, which is kept where nothing changed.
+say_shared() {
+    case $crate in
+    lab_cli) other=dix_cli sharer=dix ;;
+    *) other=lab_cli sharer=dixlab ;;
+    esac
+    shared=$(crates_below "$other" | cut -d ' ' -f 1 | grep -cxFf - "$work/names")
+    kept=$(while read -r name; do [ ! -d "$here/crates/$name/out/rlib" ] || echo; done <"$work/names" | wc -l)
+    say "$shared of its $(($(wc -l <"$work/names"))) crates are $sharer's too; $kept have a library already"
 }
 
 # Builds all, or says what failed and ends. A second call waits, and then finds the program.
@@ -191,9 +208,12 @@ build_alone() {
     rm -rf "$out"/build.*
     work=$(mktemp -d "$out/build.XXXXXX") && : >"$log" || end 70
     touch "$work/begun"
+    crates_below "$crate" >"$work/crates"
+    cut -d ' ' -f 1 "$work/crates" >"$work/names"
     begun=$(date +%s) processors=$(nproc) slots=$(($(free_memory) / 4000))
     slots=$((slots < 1 ? 1 : slots > processors ? processors : slots))
     say "proves and builds $called, $slots crates at a time, which can take an hour; the log is $log"
+    say_shared
     if build_crates && build_program; then
         touch -r "$work/begun" "$program"
         done=$all
@@ -212,7 +232,8 @@ build_program() {
     rm -rf "$work"/[0-9]*
     cd "$here/crates/$crate" || return
     # (first is some words)
-    held rt run -- $first </dev/null >/dev/null 2>>"$log"
+    held env DIX_BUILD="$work" rt run -- $first </dev/null >"$work/ran" 2>>"$log"
     status=$?
+    [ "$status" != 0 ] || keep_verdict "$work/ran" "$out"
     cd "$OLDPWD" && return "$status"
 }

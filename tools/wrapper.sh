@@ -26,7 +26,9 @@ version() {
     commit=$(cat "$here/programs/commit" 2>/dev/null) || commit=$(git -C "$here" describe --always --dirty 2>/dev/null) ||
         commit=unknown
     kit=$(cat "$here/programs/kit" 2>/dev/null) || kit=$(rt version 2>/dev/null) || kit='none (there is no rt)'
-    is_fresh && built='built' || built='not built yet'
+    built='not built yet'
+    if is_fresh; then built='built'; fi
+    if [ -n "$is_ready" ]; then built="built, as $here/programs/verdicts says"; fi
     echo "$called $(cat "$here/VERSION"), commit $commit; proved program: $built; kit: $kit"
 }
 
