@@ -35,6 +35,7 @@ crates_below() {
 
 # Free memory in MiB, under the limit of the control group too.
 free_memory() {
+    # shellcheck disable=SC2046
     awk '/^MemAvailable:/ { free = $2 / 1024 }
     FILENAME ~ /memory.max/ && $1 != "max" { most = $1 / 1048576 }
     FILENAME ~ /memory.current/ { held = $1 / 1048576 }
@@ -232,6 +233,7 @@ build_program() {
     rm -rf "$work"/[0-9]*
     cd "$here/crates/$crate" || return
     # (first is some words)
+    # shellcheck disable=SC2086
     held env DIX_BUILD="$work" rt run -- $first </dev/null >"$work/ran" 2>>"$log"
     status=$?
     [ "$status" != 0 ] || keep_verdict "$work/ran" "$out"

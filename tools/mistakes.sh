@@ -26,6 +26,7 @@ judge_unit() {
     word=$1 old=$IFS IFS=:
     set -f
     # (the parts of a word)
+    # shellcheck disable=SC2086
     set -- $1
     set +f
     IFS=$old
@@ -114,7 +115,7 @@ look_at_image() {
 
 # The length that a header tells, a sign that it tells none, or nothing where it is no header.
 told_length() {
-    head -c 512 -- "$1" | od -An -v -tu1 | tr -s ' \n' '\n\n' | awk 'NF { b[n++] = $1 }
+    head -c 512 -- "$1" | od -An -v -tu1 | awk '{ for (i = 1; i <= NF; i++) b[n++] = $i }
     function number(at, i, sum) {
         for (i = 0; i < 8; i++) sum = sum * 256 + b[at + i]
         return sum

@@ -40,7 +40,9 @@ pass_on() {
 
 # Ends this shell by a signal, as the program was ended.
 end_by() {
-    ulimit -c 0
+    # (this shell needs no dump; where there is no such limit, one is left)
+    # shellcheck disable=SC3045
+    ulimit -c 0 2>/dev/null
     trap - HUP INT QUIT TERM
     kill "-$1" $$
     exit 70

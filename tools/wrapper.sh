@@ -72,13 +72,15 @@ stop_crates() { :; }
 # the folder that it runs in.
 end_kit() {
     [ -z "$held" ] || kill -TERM "$held" 2>/dev/null
-    for round in 1 2 3 4 5 6 7 8 9 10; do
+    for _ in 1 2 3 4 5 6 7 8 9 10; do
         [ -n "$(of_kit)" ] || return 0
         sleep 0.1
     done
     for it in $(of_kit); do kill -KILL "$it" 2>/dev/null; done
 }
 of_kit() {
+    # (links of numbers have no odd names)
+    # shellcheck disable=SC2010
     {
         grep -lF -- "DIX_BUILD=$work" /proc/[0-9]*/environ
         ls -l /proc/[0-9]*/cwd | grep -F -- "-> $work" | grep -o '/proc/[0-9]*'
