@@ -50,11 +50,11 @@ end_by() {
 
 # Says how far the program is: after two seconds, and then each time that as long has gone by, up to a minute.
 watch_from_outside() {
-    trap 'exit 0' TERM
     trap '' INT QUIT
     pid=$1 seconds=0 next=2
     shift
-    while sleep 1 && kill -0 "$pid" 2>/dev/null; do
+    # (a sleep that is left behind holds nothing)
+    while sleep 1 >/dev/null 2>&1 && kill -0 "$pid" 2>/dev/null; do
         seconds=$((seconds + 1))
         [ "$seconds" -ge "$next" ] || continue
         next=$((seconds < 60 ? seconds * 2 : seconds + 60))

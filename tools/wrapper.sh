@@ -119,7 +119,9 @@ hold_image() {
     [ -n "$image" ] && [ -r "$image" ] && { [ -f "$image" ] || [ -b "$image" ]; } || return 0
     command -v flock >/dev/null || return 0
     exec 8<"$image"
-    flock -n 8 || refuse 64 "another call writes $image: try again once it has ended"
+    flock -n 8
+    # (another status tells that this file can't be locked)
+    [ $? != 1 ] || refuse 64 "another call writes $image: try again once it has ended"
 }
 
 held='' work='' log='' is_unproved=''
