@@ -44,7 +44,15 @@ free_memory() {
 }
 
 minutes() { echo $((($(date +%s) - begun) / 60)); }
-tell() { say "$done of $all crates, $(minutes) min: $1"; }
+tell() {
+    say "$done of $all crates, $(minutes) min: $1"
+    told=$(date +%s)
+}
+
+# Says what is built where nothing was said for a minute.
+tell_waiting() {
+    [ $(($(date +%s) - told)) -lt 60 ] || tell "builds $(cat "$work"/*/name 2>/dev/null | tr '\n' ' ')"
+}
 
 # The crates that wait for nothing but a processor.
 ready() {
@@ -172,7 +180,7 @@ finish_crates() {
 build_crates() {
     : >"$work/done"
     : >"$work/started"
-    all=$(($(wc -l <"$work/crates") + 1)) done=0 running=0 failed=
+    all=$(($(wc -l <"$work/crates") + 1)) done=0 running=0 failed='' told=$(date +%s)
     while [ "$done" -lt "$((all - 1))" ]; do
         start_crates
         # (a circle in crates.txt, which rt names)
@@ -180,6 +188,7 @@ build_crates() {
         sleep 1
         finish_crates
         [ -z "$failed" ] || return 1
+        tell_waiting
     done
 }
 
