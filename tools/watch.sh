@@ -15,6 +15,7 @@ run_watched() {
         "$program" "$@" <&- &
     fi
     held=$!
+    [ -z "$signal" ] || pass_on "$signal"
     watch_from_outside "$held" "$@" 8<&- &
     watcher=$!
     wait "$held" 2>/dev/null

@@ -152,7 +152,7 @@ fi
 trap '' XFSZ
 choose_program "$@"
 hold_image "$@"
-if [ -t 2 ]; then
+if [ -t 2 ] && [ -d "/proc/$$/fd" ]; then
     . "$here/tools/watch.sh"
     run_watched "$@"
 fi
