@@ -16,8 +16,12 @@ run_watched() {
     fi
     held=$!
     [ -z "$signal" ] || pass_on "$signal"
-    watch_from_outside "$held" "$@" 8<&- &
-    watcher=$!
+    watcher=
+    # (who types a script knows what is waited for)
+    if ! { takes_script "$@" && [ -t 0 ]; }; then
+        watch_from_outside "$held" "$@" 8<&- &
+        watcher=$!
+    fi
     wait "$held" 2>/dev/null
     status=$?
     # (a signal ends the wait, and not yet the program)
@@ -25,8 +29,10 @@ run_watched() {
         wait "$held" 2>/dev/null
         status=$?
     done
-    kill -TERM "$watcher" 2>/dev/null
-    wait "$watcher" 2>/dev/null
+    if [ -n "$watcher" ]; then
+        kill -TERM "$watcher" 2>/dev/null
+        wait "$watcher" 2>/dev/null
+    fi
     [ -z "$signal" ] || end_by "$signal"
     [ "$status" -le 128 ] || end_by $((status - 128))
     name_status "$status" "$@"
