@@ -14,7 +14,7 @@ use page_pool::PagePool;
 use rig_api::{Rig, UnitSpec};
 use std::alloc::{AllocError, Global};
 use target_answer::is_layout;
-use test_answers::AnswerRig;
+use test_rig::AnswerRig;
 use test_table::{cut, small};
 
 /// An image, pages, and what is to stand in these.

@@ -7,12 +7,13 @@ use test_table::{Judge, cut};
 
 /// What holds for the rows from here on.
 #[derive(Drop)]
-pub(crate) struct Table {
+pub struct Table {
     case: Case,
 }
 
 impl Table {
-    pub(crate) fn new() -> Table {
+    /// The first case.
+    pub fn new() -> Table {
         Table { case: Case::FIRST }
     }
 }

@@ -5,6 +5,7 @@ ghost use Rattle.std.specs.Prelude.{◌≡◌, drop, take, IfOk, OnErr, OnOk};
 ghost use Rattle.dix_base.specs.Told.{Appended, Rose, Took};
 
 use crate::names::{add, none, yes_or_no};
+use crate::stores::with_held;
 use dix_base::{
     ByteList, CalmSink, CalmSource, Failed, MemSink, MemSource, Sink, Source, StdinSource,
     StdoutSink,
@@ -99,8 +100,7 @@ fn shown(alloc: Global, out: &mut StdoutSink, steps: &str) -> Result<String, All
 fn kept(alloc: Global, room: &str, fails: &str, steps: &str) -> Result<String, AllocError> {
     let mut sink = MemSink::new(alloc, small(room).min(4096), numbers(alloc, fails)?)?;
     let text = puts(alloc, &mut sink, steps)?;
-    let bytes = hex_of(alloc, sink.bytes())?;
-    format!(in alloc; "{text};holds {bytes}")
+    with_held(alloc, text.as_str(), sink.bytes())
 }
 
 /// Numbers with commas between.
@@ -112,6 +112,26 @@ pub(crate) fn numbers(alloc: Global, words: &str) -> Result<Vec<u64>, AllocError
     Ok(numbers)
 }
 
+/// The bytes of a list of these.
+fn listed(alloc: Global, bytes: &str) -> Result<String, AllocError> {
+    hex_of(
+        alloc,
+        ByteList::from_vec(bytes_of(alloc, bytes)?).as_slice(),
+    )
+}
+
+/// What comes of calls that take from these bytes, of which these calls fail.
+fn taken_in_memory(
+    alloc: Global,
+    bytes: &str,
+    fails: &str,
+    steps: &str,
+) -> Result<String, AllocError> {
+    let bytes = bytes_of(alloc, bytes)?;
+    let mut source = MemSource::new(bytes, numbers(alloc, fails)?);
+    takes(alloc, &mut source, steps)
+}
+
 /// What comes of a form, by its words, and its steps.
 pub(crate) fn answer(rt: HostRuntime, words: &str) -> Result<String, AllocError> {
     let alloc = rt.alloc();
@@ -119,14 +139,8 @@ pub(crate) fn answer(rt: HostRuntime, words: &str) -> Result<String, AllocError>
     let (word, rest) = cut(form);
     let (first, fails) = cut(rest);
     match word {
-        "list" => hex_of(
-            alloc,
-            ByteList::from_vec(bytes_of(alloc, first)?).as_slice(),
-        ),
-        "source" => {
-            let mut source = MemSource::new(bytes_of(alloc, first)?, numbers(alloc, fails)?);
-            takes(alloc, &mut source, steps)
-        }
+        "list" => listed(alloc, first),
+        "source" => taken_in_memory(alloc, first, fails, steps),
         "calm-source" => takes(alloc, &mut CalmSource::new(bytes_of(alloc, first)?), steps),
         "sink" => kept(alloc, first, fails, steps),
         "calm-sink" => puts(alloc, &mut CalmSink::new(), steps),

@@ -124,20 +124,30 @@ fn steps<S: Store>(alloc: Global, store: &mut S, steps: &str) -> Result<String, 
     Ok(text)
 }
 
+/// What came, and the bytes that are held then.
+pub(crate) fn with_held(alloc: Global, text: &str, held: &[u8]) -> Result<String, AllocError> {
+    let bytes = hex_of(alloc, held)?;
+    format!(in alloc; "{text};holds {bytes}")
+}
+
+/// A store in memory with these bytes, of which these calls fail.
+fn store_of(alloc: Global, held: &str, fails: &str) -> Result<MemStore, AllocError> {
+    let held = bytes_of(alloc, held)?;
+    Ok(MemStore::new(held, numbers(alloc, fails)?))
+}
+
 /// What comes of the steps of a store in memory, and what it holds then.
 fn kept(alloc: Global, held: &str, fails: &str, calls: &str) -> Result<String, AllocError> {
-    let mut store = MemStore::new(bytes_of(alloc, held)?, numbers(alloc, fails)?);
+    let mut store = store_of(alloc, held, fails)?;
     let text = steps(alloc, &mut store, calls)?;
-    let bytes = hex_of(alloc, store.bytes())?;
-    format!(in alloc; "{text};holds {bytes}")
+    with_held(alloc, text.as_str(), store.bytes())
 }
 
 /// The same of one of which no call fails.
 fn kept_calm(alloc: Global, held: &str, calls: &str) -> Result<String, AllocError> {
     let mut store = CalmStore::new(bytes_of(alloc, held)?);
     let text = steps(alloc, &mut store, calls)?;
-    let bytes = hex_of(alloc, store.bytes())?;
-    format!(in alloc; "{text};holds {bytes}")
+    with_held(alloc, text.as_str(), store.bytes())
 }
 
 /// What comes of a form, by its words, and its calls.

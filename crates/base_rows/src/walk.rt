@@ -21,6 +21,11 @@ struct Place {
     next: usize,
 }
 
+/// Two words of an answer.
+fn two_words(alloc: Global, first: &str, second: &str) -> io::Result<String> {
+    Ok(format!(in alloc; "{first} {second}")?)
+}
+
 /// Whether both give the same bytes.
 fn reads_alike(
     file: &mut FileStore,
@@ -125,6 +130,34 @@ fn opens(alloc: Global, store: &mut FileStore, path: &str) -> Result<bool, Alloc
     })
 }
 
+/// Makes a file, and answers a copy of it in memory.
+fn made(rt: &HostRuntime, path: &str) -> io::Result<CalmStore>
+    ensures { IfOk result (λ plain. length plain.bytes ≡ 700000) }
+{
+    let bytes = bytes_of_file(rt.alloc())?;
+    fs::write(rt, path, bytes.as_slice())?;
+    Ok(CalmStore::new(bytes))
+}
+
+/// Whether the file holds these bytes.
+fn holds(rt: &HostRuntime, path: &str, bytes: &[u8]) -> io::Result<bool> {
+    Ok(fs::read(rt, path)?.as_slice() == bytes)
+}
+
+/// Whether the file, of which this is a copy, is opened, and each of so many steps goes alike.
+fn walked(
+    alloc: Global,
+    store: &mut FileStore,
+    path: &str,
+    plain: &mut CalmStore,
+    seed: u64,
+    steps: u32,
+) -> Result<bool, AllocError>
+    requires { length plain.old.bytes ≡ 700000 }
+{
+    Ok(opens(alloc, store, path)? && all_alike(store, plain, seed, steps))
+}
+
 /// Makes a file, takes so many steps beside a copy of it, and says whether each step went alike, and whether the file then
 /// holds what the copy does.
 pub(crate) fn walk(
@@ -134,14 +167,10 @@ pub(crate) fn walk(
     seed: u64,
     steps: u32,
 ) -> io::Result<String> {
-    let alloc = rt.alloc();
-    let bytes = bytes_of_file(alloc)?;
-    fs::write(&rt, path, bytes.as_slice())?;
-    let mut plain = CalmStore::new(bytes);
-    let alike = opens(alloc, store, path)? && all_alike(store, &mut plain, seed, steps);
-    let same = fs::read(&rt, path)?.as_slice() == plain.bytes();
-    let (alike, same) = (yes_or_no(alike), yes_or_no(same));
-    Ok(format!(in alloc; "{alike} {same}")?)
+    let mut plain = made(&rt, path)?;
+    let alike = yes_or_no(walked(rt.alloc(), store, path, &mut plain, seed, steps)?);
+    let same = yes_or_no(holds(&rt, path, plain.bytes())?);
+    two_words(rt.alloc(), alike, same)
 }
 
 /// Whether the hundred bytes from this one on are read.
@@ -152,27 +181,34 @@ fn is_read(store: &mut FileStore, at: u64) -> &'static str
     yes_or_no(store.read_at(at, &mut [0; 100]).is_ok())
 }
 
+/// Whether reads go well of a file that was cut to half its bytes: inside the piece that was read ahead, behind that piece,
+/// and where nothing is any more.
+fn behind_cut(alloc: Global, store: &mut FileStore) -> Result<String, AllocError>
+    requires { store.old.len ≡ 700000 }
+{
+    let inside = is_read(store, 200_000);
+    let behind = is_read(store, 349_000);
+    let nowhere = is_read(store, 400_000);
+    format!(in alloc; "{inside} {behind} {nowhere}")
+}
+
 /// Cuts an opened file to half its bytes behind the store's back, and says whether reads go well: before the cut, and
-/// behind it inside the piece that was read ahead, behind that piece, and where nothing is any more.
+/// behind it.
 fn cut_short(rt: &HostRuntime, store: &mut FileStore, path: &str, half: &[u8]) -> io::Result<String>
     requires { store.old.len ≡ 700000 }
 {
     let first = is_read(store, 0);
     fs::write(rt, path, half)?;
-    let inside = is_read(store, 200_000);
-    let behind = is_read(store, 349_000);
-    let nowhere = is_read(store, 400_000);
-    Ok(format!(in rt.alloc(); "{first} {inside} {behind} {nowhere}")?)
+    let behind = behind_cut(rt.alloc(), store)?;
+    two_words(rt.alloc(), first, behind.as_str())
 }
 
 /// Makes a file, reads its first bytes, cuts it to half its bytes, and says which reads go well.
 pub(crate) fn shrunk(rt: HostRuntime, store: &mut FileStore, path: &str) -> io::Result<String> {
-    let alloc = rt.alloc();
-    let bytes = bytes_of_file(alloc)?;
-    fs::write(&rt, path, bytes.as_slice())?;
-    if !opens(alloc, store, path)? {
-        return Ok(String::from_str(alloc, "failed")?);
+    let plain = made(&rt, path)?;
+    if !opens(rt.alloc(), store, path)? {
+        return Ok(String::from_str(rt.alloc(), "failed")?);
     }
-    let (half, _) = bytes.split_at(bytes.len() / 2);
+    let (half, _) = plain.bytes().split_at(SIZE / 2);
     cut_short(&rt, store, path, half)
 }

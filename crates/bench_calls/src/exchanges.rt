@@ -8,7 +8,7 @@ use crate::targets::{BLOCKS, READ, WRITE, frames};
 use fault_schedule::Label;
 use rig_api::{Outcome, Rig};
 use std::alloc::{AllocError, Global};
-use test_answers::AnswerRig;
+use test_rig::AnswerRig;
 
 /// The device of type 1 with blocks of 512 bytes.
 pub(crate) const DEVICE: u32 = 1;

@@ -3,12 +3,13 @@
 ghost use Rattle.std.specs.Prelude.{◌≡◌, ◌≤◌, ◌^◌, ◌-◌, None, true, refl};
 ghost use Rattle.image_rig.specs.Entries.{few_of, keyed_of};
 ghost use Rattle.image_rig.specs.Logs.{logged, room_in};
-ghost use Rattle.test_answers.specs.Answering.{is_count, ready_of, size_of, standing_of};
+ghost use Rattle.test_rig.specs.Answering.{is_count, ready_of, size_of, standing_of};
 
+use cdb_codec::Cdb;
 use dix_base::Failed;
 use fault_schedule::{FaultList, Label, Tamper};
 use image_rig::Log;
-use rig_api::{Change, Outcome, Record, Rig, RigFault, UnitSpec};
+use rig_api::{Change, Exchanged, Outcome, Record, Rig, RigFault, UnitSpec};
 use std::alloc::{AllocError, Global};
 
 /// Eight devices: 0 to 3 have blocks of 512 bytes and the types 0 to 3, 4 to 7 the same with blocks of 4,096 bytes.
@@ -130,8 +131,16 @@ impl Rig for PlainRig {
             done: u32::try_from(labels.len()).unwrap_or(u32::MAX),
             sense: None,
         };
-        self.log
-            .note(size_of(dev), dev, cdb, labels, outcome, out, into);
+        self.log.note(&Exchanged {
+            dev,
+            size: size_of(dev),
+            cdb,
+            command: Cdb::decode(cdb),
+            labels,
+            outcome,
+            out,
+            into,
+        });
         outcome
     }
 }

@@ -14,8 +14,8 @@ use page_pool::{PAGE, PagePool, Seg};
 use pi_guard::GuardKind;
 use rig_api::Rig;
 use std::alloc::{AllocError, Global};
-use test_answers::AnswerRig;
 use test_groups::{group_blocks, write_all};
+use test_rig::AnswerRig;
 
 /// The pages of the data, and behind them those of the tuples.
 const DATA_PAGES: u32 = 128;

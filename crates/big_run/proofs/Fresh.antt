@@ -13,7 +13,7 @@ use Rattle.target_answer.proofs.FreshBlocks.{fresh_many, fresh_is}
 use Rattle.dix_adapter.specs.Ways.{blocks_told, cell_in, shapes_of}
 use Rattle.rig_discovery.specs.Discovery.{info_of}
 use Rattle.run_command.specs.Passed.{IsAddress, device_of}
-use Rattle.whole_run.proofs.TupleFrames.{Small, data_is, tuple_is}
+use Rattle.walk_laws.proofs.TupleFrames.{Small, data_is, tuple_is}
 use Rattle.big_run.specs.Plain.{fresh_unit}
 use Rattle.run_command.proofs.Passed.{first_found, bytes_are}
 

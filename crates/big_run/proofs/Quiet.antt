@@ -30,11 +30,11 @@ use Rattle.run_command.proofs.Passed.{place-there}
 use Rattle.script_text.specs.Generator.{after_op, big_entries, drawn, next_state, op_from, ops_from, page_start}
 use Rattle.std.specs.List.{list_any}
 use Rattle.std.proofs.lemmas.Bool.{or_from}
-use Rattle.whole_run.specs.PlainMap.{Plain, as_expected, finds_plainly, plain_answer, plain_replies_from, plain_step}
-use Rattle.whole_run.specs.ScriptWalk.{bad_from, reply_of, whole_or_bad}
-use Rattle.whole_run.specs.Settings.{Setting, block_of}
-use Rattle.whole_run.specs.Steps.{Reads, Step, Writes, body_of, each_from, steps_of}
-use Rattle.whole_run.specs.UnderMap.{AreClean, IsClean, NoEscape, NoneEscapes}
+use Rattle.walk_laws.specs.PlainMap.{Plain, as_expected, finds_plainly, plain_answer, plain_replies_from, plain_step}
+use Rattle.walk_laws.specs.ScriptWalk.{bad_from, reply_of, whole_or_bad}
+use Rattle.walk_laws.specs.Settings.{Setting, block_of}
+use Rattle.walk_laws.specs.Steps.{Reads, Step, Writes, body_of, each_from, steps_of}
+use Rattle.walk_laws.specs.UnderMap.{AreClean, IsClean, NoEscape, NoneEscapes}
 use Rattle.big_run.specs.Plain.{fresh_unit}
 use Rattle.big_run.proofs.Fresh.{AllOf, cell_is, data_found, tuple_found}
 

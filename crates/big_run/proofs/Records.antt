@@ -9,7 +9,7 @@ use Rattle.rig_api.specs.State.{RigState}
 use Rattle.rig_discovery.specs.Discovery.{LookAnswer, looks}
 use Rattle.stack_ops.specs.declared.reply.Reply.{Reply}
 use Rattle.stack_ops.specs.declared.reply.Reply.TheVariants.{Silent, Whole, Bad, Shown, Medium}
-use Rattle.stack_view.specs.Runs.{sends_of}
+use Rattle.stack_laws.specs.Runs.{sends_of}
 use Rattle.run_command.specs.Passed.{IsPlanFor, entries_of, medium_lines, ListsNone, bad_blocks}
 use Rattle.run_command.proofs.Passed.{known_from, recorded_long, none_named}
 use Rattle.script_text.specs.Generator.{big}

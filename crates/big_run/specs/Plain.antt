@@ -7,9 +7,9 @@ use Rattle.target_answer.specs.Image.{all_fresh}
 use Rattle.target_answer.specs.Target.{Stored}
 use Rattle.target_answer.specs.declared.units.UnitSpec.{UnitSpec}
 use Rattle.volume_table.specs.Tables.{Table}
-use Rattle.whole_run.specs.PlainMap.{plain_replies}
-use Rattle.whole_run.specs.Settings.{Setting}
-use Rattle.whole_run.specs.UnderMap.{opened}
+use Rattle.walk_laws.specs.PlainMap.{plain_replies}
+use Rattle.walk_laws.specs.Settings.{Setting}
+use Rattle.walk_laws.specs.UnderMap.{opened}
 
 -- What a generated script replies, by its two numbers alone.
 

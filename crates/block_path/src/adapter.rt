@@ -3,13 +3,13 @@
 //! Each call works on a buffer that has room for the block's data and its tuple. The frame stands at its front, with
 //! its tuple or without, as it travels there.
 
-ghost use Rattle.std.specs.Prelude.{◌≡◌, ◌+◌, ◌++◌, length, take};
+ghost use Rattle.std.specs.Prelude.{◌≡◌, ◌+◌, length, take};
 ghost use Rattle.pi_guard.specs.Guards.{guard_of};
-ghost use Rattle.pi_tuple.specs.Tuples.{tuple_bytes};
+ghost use Rattle.pi_tuple.specs.declared.TheConstants.{TUPLE};
 ghost use Rattle.fault_schedule.specs.Altered.{altered};
 ghost use Rattle.integrity_payload.specs.Payloads.{all_asked};
 ghost use Rattle.pi_tuple.specs.Finds.{own_tag};
-ghost use Rattle.target_answer.specs.Frames.{data_of, frame_of, tuple_of};
+ghost use Rattle.target_answer.specs.Frames.{data_of, frame_of};
 ghost use Rattle.target_answer.specs.Passing.{unless};
 ghost use Rattle.block_path.specs.Routes.{converted, host_finding, host_size, host_type, passes_tuples, wire_size, with_guard};
 ghost use Rattle.block_path.specs.Operations.{IsHandedOn};
@@ -20,7 +20,8 @@ use crate::{Operation, Route, operation_for};
 use bio_core::Dir;
 use fault_schedule::{Crossing, Tamper};
 use pi_guard::{GuardKind, crc16};
-use pi_tuple::{Check, Checks, PiType, TUPLE, Tuple, finds, make, own_tag, ref_tag};
+use pi_tuple::{Check, Checks, PiType, finds, make, own_tag, ref_tag};
+use target_answer::{put_tuple, tuple_behind};
 
 /// The type of the tuples that a host has in memory for a unit of this type: the unit's, and type 1 where the unit
 /// has none.
@@ -28,23 +29,6 @@ pub fn host_type(ty: PiType) -> PiType
     ensures { result ≡ host_type ty }
 {
     if ty == PiType::Zero { PiType::One } else { ty }
-}
-
-/// The tuple behind so many bytes of data.
-fn tuple_behind(frame: &[u8], size: usize) -> Tuple
-    requires { length frame.now ≡ size + TUPLE }
-    ensures { result ≡ tuple_of size frame.now }
-{
-    let mut bytes = [0; TUPLE];
-    bytes.copy_from_slice(&frame[size..]);
-    Tuple::from_bytes(&bytes)
-}
-
-fn put_tuple(frame: &mut [u8], size: usize, tuple: Tuple)
-    requires { length frame.old ≡ size + TUPLE }
-    ensures { frame.new ≡ data_of size frame.old ++ tuple_bytes tuple }
-{
-    frame[size..].copy_from_slice(&tuple.to_bytes());
 }
 
 fn put_guard(frame: &mut [u8], size: usize, guard: u16)

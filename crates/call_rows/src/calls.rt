@@ -1,5 +1,6 @@
 //! One call of the top call, and what comes of it.
 
+use crate::holding_sink::HoldingSink;
 use crate::sources::{source_in, words_in};
 use dix_base::{MemSink, MemSource, Sink, Source};
 use dix_run::run;
@@ -37,10 +38,11 @@ fn records_of<R: Rig>(alloc: Global, rig: &R) -> Result<Vec<u8>, AllocError> {
     Vec::from_slice(alloc, sink.bytes())
 }
 
-/// A sink with the room that a row says, which fails as it says.
-fn sink_in(alloc: Global, lines: &[String]) -> Result<MemSink, AllocError> {
+/// A sink with the room that a row says, which fails as it says, and passes nothing on before it is flushed.
+fn sink_in(alloc: Global, lines: &[String]) -> Result<HoldingSink, AllocError> {
     let room = behind(lines, "room").parse::<u32>().unwrap_or(ROOM);
-    MemSink::new(alloc, room, numbers(alloc, lines, "sink-fails")?)
+    let fails = numbers(alloc, lines, "sink-fails")?;
+    Ok(HoldingSink::new(MemSink::new(alloc, room, fails)?))
 }
 
 /// The source of a row, which fails as it says.
@@ -49,9 +51,15 @@ fn input_in(alloc: Global, lines: &[String]) -> Result<MemSource, AllocError> {
     Ok(MemSource::new(source_in(alloc, lines)?, fails))
 }
 
-/// What a call came to that ended with this status: what the sink took, and what the rig has on record.
-fn ended<R: Rig>(alloc: Global, status: u8, sink: &MemSink, rig: &R) -> Result<Came, AllocError> {
-    let text = Vec::from_slice(alloc, sink.bytes())?;
+/// What a call came to that ended with this status: what the sink passed on, or took where it failed, and what the rig
+/// has on record.
+fn ended<R: Rig>(
+    alloc: Global,
+    status: u8,
+    sink: &HoldingSink,
+    rig: &R,
+) -> Result<Came, AllocError> {
+    let text = Vec::from_slice(alloc, sink.bytes(status == 8))?;
     let records = records_of(alloc, rig)?;
     Ok(Came {
         status,

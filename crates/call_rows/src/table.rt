@@ -25,7 +25,7 @@ struct Left {
 
 /// What was left by the rows that were done, and the lines of the row that is read.
 #[derive(Drop)]
-pub(crate) struct Table {
+pub struct Table {
     rt: HostRuntime,
     left: Left,
     lines: Vec<String>,
@@ -136,7 +136,8 @@ impl Left {
 }
 
 impl Table {
-    pub(crate) fn new(rt: HostRuntime) -> io::Result<Table> {
+    /// Over no image.
+    pub fn new(rt: HostRuntime) -> io::Result<Table> {
         let alloc = rt.alloc();
         let path = path_of(&rt)?;
         Ok(Table {
@@ -153,7 +154,7 @@ impl Table {
     }
 
     /// Takes the file away.
-    pub(crate) fn clear(&self) {
+    pub fn clear(&self) {
         let _ = fs::remove_file(&self.rt, self.path.as_str());
     }
 }

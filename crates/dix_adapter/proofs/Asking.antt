@@ -277,13 +277,17 @@ alike-by ty own f g address at w k n tag bits tag' bits' label label' c t p q h 
     want' (inl z) = inl (ap (asks_tag own) (sym q) ∙ z)
     want' (inr e) = inr (ap (λ y. if is_two y then (c.rtag + k) % 2 ^ 32 else ref_tag (at + k)) t ∙ e (ref_tag (at + k)) ∙ ap (λ j. if is_two own then (address + k) % 2 ^ 32 else ref_tag j) l)
 
+-- a block as the target knows it, with this reference tag
+abbrev with_rtag : List FaultLine → Route → ℕ → Passage
+with_rtag faults r j = record { ty = r.ty; size = r.size; protect = field r; lba = wire_lba faults r; rtag = j; app = r.mode.app; mask = r.mode.mask; label = Some r.label }
+
 pub asked-alike : (a : Adapter) (unit : UnitSpec) (faults : List FaultLine) (labels : List Label) (lba n at k : ℕ) (r : Route) → IsAsked a unit faults labels lba at k r →
     Alike (passage_of unit (fields_of a lba n) at labels k) (passage faults r)
 asked-alike a unit faults labels lba n at k r h =
     let t : Tells a.ty (field_for a) lba k a.app a.mask (fields_of a lba n) = tells a.ty (field_for a) lba n k a.app a.mask in
     let b : (lba + k) % 2 ^ 32 ≡ ref_tag r.lba = ap (λ j. j % 2 ^ 32) (sym h.lba) in
-    subst (λ j. Alike (passage_of unit (fields_of a lba n) at labels k) (record { ty = r.ty; size = r.size; protect = field r; lba = wire_lba faults r; rtag = j; app = r.mode.app; mask = r.mode.mask; label = Some r.label })) b
-    (subst (λ m. Alike (record { ty = unit.ty; size = m; protect = (fields_of a lba n).protect; lba = at + k; rtag = ((fields_of a lba n).rtag + k) % 2 ^ 32; app = (fields_of a lba n).app; mask = (fields_of a lba n).mask; label = slice_get labels k }) (record { ty = r.ty; size = r.size; protect = field r; lba = wire_lba faults r; rtag = (lba + k) % 2 ^ 32; app = r.mode.app; mask = r.mode.mask; label = Some r.label })) (sym h.bytes)
+    subst (λ j. Alike (passage_of unit (fields_of a lba n) at labels k) (with_rtag faults r j)) b
+    (subst (λ m. Alike (record { ty = unit.ty; size = m; protect = (fields_of a lba n).protect; lba = at + k; rtag = ((fields_of a lba n).rtag + k) % 2 ^ 32; app = (fields_of a lba n).app; mask = (fields_of a lba n).mask; label = slice_get labels k }) (with_rtag faults r ((lba + k) % 2 ^ 32))) (sym h.bytes)
     (alike-by unit.ty r.ty (field_for a) (field r) lba at (wire_lba faults r) k r.size a.app a.mask r.mode.app r.mode.mask (slice_get labels k) (Some r.label) (fields_of a lba n)
     (h.ty ∙ sym h.own_type) (protect-is a lba n) (field-is a r h.own_type h.mode) (subst (λ y. Tells y (field_for a) lba k a.app a.mask (fields_of a lba n)) (sym h.own_type) t)
     (sym (ap (λ m. m.app) h.mode)) (sym (ap (λ m. m.mask) h.mode)) h.wire h.label))

@@ -1,8 +1,7 @@
 -- Frames gathered one after another.
 use Rattle.std.proofs.Common.{◌≡◌, ◌<◌, ◌≤◌, ℕ, zero, suc, ◌+◌, ◌*◌, Bool, true, false, List, [], ◌∷◌, ◌++◌, map, take, drop, refl, ap, sym, ◌∙◌, arith, Option, Some, None, append_assoc}
-use Rattle.std.specs.Prelude.{◌||◌, ◌&&◌, not, if◌then◌else◌, Result, Ok, Err}
+use Rattle.std.specs.Prelude.{◌||◌, if◌then◌else◌, Result, Ok, Err}
 use Rattle.std.proofs.Math.Nat.{mul-le-mul_left, mul-le-mul_right}
-use Rattle.pi_tuple.specs.Finds.{is_zero}
 use Rattle.bio_core.specs.Bios.{block_size}
 use Rattle.std.proofs.lemmas.List.{append-nil, map-append}
 use Rattle.std.proofs.lemmas.Bool.{or_parts}
@@ -13,7 +12,8 @@ use Rattle.rig_api.proofs.Passed.{joined_append}
 use Rattle.bio_core.specs.declared.bio.Bio.{Bio}
 use Rattle.bio_core.specs.declared.fate.Fate.{Fate}
 use Rattle.bio_core.specs.declared.request.Io.{Io}
-use Rattle.block_path.specs.Routes.{wire_size}
+use Rattle.block_path.specs.Routes.{passes_tuples, wire_size}
+use Rattle.block_path.specs.declared.route.Route.{Route}
 use Rattle.dix_adapter.specs.declared.adapter.Adapter.{Adapter}
 use Rattle.dix_adapter.specs.Groups.{route_by}
 use Rattle.dix_adapter.specs.Carried.{Gathers, any_bad, frame_sent, is_bad, sends_by, sends_first, unsent}
@@ -70,12 +70,15 @@ fates-more a io b cells i old now new f e g h =
 
 -- ---- room
 
-pub wire-most : (a : Adapter) (io : Io) (b : Bio) → wire_size (route_by a io b 0) ≤ block_size io + 8
-wire-most a io b = of-size (a.dif && not (is_zero a.ty)) (block_size io)
+pub route-most : (r : Route) → wire_size r ≤ r.size + 8
+route-most r = of-size (passes_tuples r) r.size
   where
     of-size : (c : Bool) (n : ℕ) → (if c then n + 8 else n) ≤ n + 8
     of-size true n = omega arith
     of-size false n = omega arith
+
+pub wire-most : (a : Adapter) (io : Io) (b : Bio) → wire_size (route_by a io b 0) ≤ block_size io + 8
+wire-most a io b = route-most (route_by a io b 0)
 
 pub room-for : (i n w s from : ℕ) → i < n → w ≤ s → from + i * w + s ≤ from + n * s
 room-for i n w s from h l =

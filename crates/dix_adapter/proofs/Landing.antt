@@ -3,15 +3,11 @@ use Rattle.std.proofs.Common.{append_assoc, ◌≡◌, ◌<◌, ◌≤◌, ℕ, 
 use Rattle.std.specs.Prelude.{if◌then◌else◌, ◌&&◌, not}
 use Rattle.pi_tuple.specs.Finds.{is_zero}
 use Rattle.block_path.specs.Routes.{wire_size}
-use Rattle.std.proofs.lemmas.List.{append-nil, drop_at, length-drop, length-map, length-take, map-append, take-append-drop}
+use Rattle.std.proofs.lemmas.List.{append-nil, drop_at, get_or_default, length-drop, length-map, length-take, map-append, take-append-drop}
 use Rattle.std.proofs.Math.Nat.{mul-le-mul_left, mul-le-mul_right}
 use Rattle.std.proofs.lemmas.List.Elements.{All-get_or}
-use Rattle.page_pool.specs.Cells.{cell, scatter}
-use Rattle.page_pool.specs.Places.{range_of, total}
-use Rattle.page_pool.proofs.Spreads.{length-range}
+use Rattle.page_pool.specs.Cells.{scatter}
 use Rattle.pi_tuple.specs.declared.checks.Check.{Check}
-use Rattle.integrity_payload.specs.declared.payload.Payload.{Payload}
-use Rattle.integrity_payload.proofs.Fills.{block_fits}
 use Rattle.bio_core.specs.declared.request.Io.{Io}
 use Rattle.bio_core.specs.Bios.{block_size}
 use Rattle.rig_api.specs.Passed.{unless, frames_of}
@@ -19,10 +15,9 @@ use Rattle.bio_core.specs.declared.bio.Bio.{Bio}
 use Rattle.bio_core.specs.declared.fate.Fate.{Fate}
 use Rattle.bio_core.specs.Bios.{Block, blocks_from, blocks_of}
 use Rattle.dix_adapter.specs.declared.adapter.Adapter.{Adapter}
-use Rattle.dix_adapter.specs.Groups.{IsBio, IsCarriedGroup, block_len, blocks_in, data_cells, first_of, frame_cells, no_bio, request_of, route_by, size, tuple_cells}
+use Rattle.dix_adapter.specs.Groups.{IsBio, IsCarriedGroup, block_len, blocks_in, data_cells, first_of, frame_cells, no_bio, no_request, request_of, route_by, size, tuple_cells}
 use Rattle.dix_adapter.specs.Carried.{arrives, carried, comes_by, comes_first, fates_in, frame_len, land, landed, lands_first}
 use Rattle.dix_adapter.proofs.Blocks.{bios-more, blocks-more, length-blocks, length-in}
-use Rattle.dix_adapter.specs.Walking.{HasHost, Walkable, WalksTuples}
 
 scatter-front : (at f cells : List ℕ) (n : ℕ) → length at ≤ n → scatter at f cells ≡ scatter at (take n f) cells
 scatter-front [] f cells n h = refl
@@ -34,21 +29,6 @@ scatter-front (i ∷ at) (v ∷ f) cells (suc n) h = scatter-front at f _ n (ome
 pub land-front : (at : List ℕ) (found : Option Check) (f cells : List ℕ) (n : ℕ) → length at ≤ n → land at (unless found f) cells ≡ land at (unless found (take n f)) cells
 land-front at None f cells n h = scatter-front at f cells n h
 land-front at (Some c) f cells n h = refl
-
-with-tuple : (pool : List (List ℕ)) (dix : Bool) (pi : Option Payload) (count k size : ℕ) (at : List ℕ) → WalksTuples pool count pi → HasHost dix pi → k < count → length at ≡ size → length (at ++ tuple_cells pi k) ≡ (if dix then size + 8 else size)
-with-tuple pool true None count k size at w h l e = absurd h
-with-tuple pool true (Some pi) count k size at w h l e =
-    let t = w.0.long in
-    let c = w.1.0 in
-    let m = length-map (range_of pi.tuples (8 * k) 8) cell in
-    let r = length-range pi.tuples (8 * k) 8 (omega arith) in
-    let a = length-append at (tuple_cells (Some pi) k) in
-    omega arith
-with-tuple pool false None count k size at w h l e = let a = length-append at [] in omega arith
-with-tuple pool false (Some pi) count k size at w h l e = absurd h
-
-pub cells-long : (pool : List (List ℕ)) (dix : Bool) (io : Io) (k : ℕ) → Walkable pool io → HasHost dix io.pi → k < io.count → length (data_cells io k ++ tuple_cells io.pi k) ≡ (if dix then block_size io + 8 else block_size io)
-cells-long pool dix io k w h l = with-tuple pool dix io.pi io.count k (block_size io) (data_cells io k) w.tuples h l (length-map (range_of io.body (k * block_size io) (block_size io)) cell ∙ length-range io.body (k * block_size io) (block_size io) (block_fits (total io.body) io.count k l))
 
 -- ---- block after block
 
@@ -164,8 +144,8 @@ behind-frame at w X F F' Y l h g e =
     ∙ sym (drop-sum at w (X ++ (F ++ Y)) ∙ ap (drop w) (drop_at X (F ++ Y) at l) ∙ drop-front w F Y h)
 
 -- the place of block i's frame
-pub frame-there : (at from i w : ℕ) (frames first : List ℕ) → at ≡ from + i * w → drop at frames ≡ drop at first → take w (drop at frames) ≡ take w (drop (i * w) (drop from first))
-frame-there at from i w frames first e d = ap (take w) (d ∙ ap (λ k. drop k first) e ∙ drop-sum from (i * w) first)
+pub frame-there : (at i w : ℕ) (frames first : List ℕ) → at ≡ i * w → drop at frames ≡ drop at first → take w (drop at frames) ≡ take w (drop (i * w) first)
+frame-there at i w frames first e d = ap (take w) (d ∙ ap (λ k. drop k first) e)
 
 pub still-ahead : (at w : ℕ) (new frames first : List ℕ) → drop (at + w) new ≡ drop (at + w) frames → drop at frames ≡ drop at first → drop (at + w) new ≡ drop (at + w) first
 still-ahead at w new frames first b d = b ∙ drop-sum at w frames ∙ ap (drop w) d ∙ sym (drop-sum at w first)
@@ -252,17 +232,40 @@ group-width a pool bytes ios req g =
     let k = All-get_or (IsBio a pool bytes ios (first_of req).dev (first_of req).dir) req 0 no_bio (let x = g.some in omega arith) g.bios in
     ap (λ n. if a.dif && not (is_zero a.ty) then n + 8 else n) k.request.size
 
+-- a bio of a group, its request, and the bytes of its frames
+pub bio-at : (a : Adapter) (pool : List (List ℕ)) (bytes : ℕ) (ios : List Io) (req : List Bio) (i : ℕ) → IsCarriedGroup a pool bytes ios req → i < length req → IsBio a pool bytes ios (first_of req).dev (first_of req).dir (get_or req i no_bio)
+bio-at a pool bytes ios req i g h = All-get_or (IsBio a pool bytes ios (first_of req).dev (first_of req).dir) req i no_bio h g.bios
+
+pub request-at : (a : Adapter) (pool : List (List ℕ)) (bytes : ℕ) (ios : List Io) (req : List Bio) (i : ℕ) (io : Io) → IsCarriedGroup a pool bytes ios req → i < length req → io ≡ get_or ios ((get_or req i no_bio).op - 1) io → io ≡ request_of ios (get_or req i no_bio).op
+request-at a pool bytes ios req i io g h e =
+    let k = bio-at a pool bytes ios req i g h in
+    e ∙ get_or_default ios ((get_or req i no_bio).op - 1) io no_request (let x = k.op in let y = k.there in omega arith)
+
+pub size-at : (a : Adapter) (pool : List (List ℕ)) (bytes : ℕ) (ios : List Io) (req : List Bio) (i : ℕ) (io : Io) → IsCarriedGroup a pool bytes ios req → i < length req → io ≡ get_or ios ((get_or req i no_bio).op - 1) io → block_size io ≡ bytes
+size-at a pool bytes ios req i io g h e = ap block_size (request-at a pool bytes ios req i io g h e) ∙ (bio-at a pool bytes ios req i g h).request.size
+
+pub width-at : (a : Adapter) (pool : List (List ℕ)) (bytes : ℕ) (ios : List Io) (req : List Bio) (i : ℕ) (io : Io) → IsCarriedGroup a pool bytes ios req → i < length req → io ≡ get_or ios ((get_or req i no_bio).op - 1) io →
+    wire_size (route_by a io (get_or req i no_bio) 0) ≡ frame_len a ios req
+width-at a pool bytes ios req i io g h e = one-width a (get_or req i no_bio) io bytes (size-at a pool bytes ios req i io g h e) ∙ sym (group-width a pool bytes ios req g)
+
 pub place-more : (done left n w at end : ℕ) → n ≤ left → left ≤ done → at ≡ (done - left) * w → end ≡ at + n * w → end ≡ (done - (left - n)) * w
 place-more done left n w at end h l p e =
     let z : (done - left) + n ≡ done - (left - n) = omega arith in
     let y : (done - left) * w + n * w ≡ ((done - left) + n) * w = omega arith in
     e ∙ ap (λ k. k + n * w) p ∙ y ∙ ap (λ k. k * w) z
 
-pub still-behind : (at w end : ℕ) (new frames first : List ℕ) → end ≡ at + w → drop end new ≡ drop end frames → drop at frames ≡ drop at first → drop end new ≡ drop end first
-still-behind at w end new frames first e b d =
-    ap (λ k. drop k new) e
-    ∙ still-ahead at w new frames first (ap (λ k. drop k new) (sym e) ∙ b ∙ ap (λ k. drop k frames) e) d
-    ∙ ap (λ k. drop k first) (sym e)
+-- what is ahead of the frames of a bio, in the buffer whose back was lent, is as it was at first
+pub ahead-behind : (at n : ℕ) (X back frames first : List ℕ) → length X ≡ at → drop n back ≡ drop n (drop at frames) → drop at frames ≡ drop at first → drop (at + n) (X ++ back) ≡ drop (at + n) first
+ahead-behind at n X back frames first l b d = drop-sum at n (X ++ back) ∙ ap (drop n) (drop_at X back at l) ∙ b ∙ ap (drop n) d ∙ sym (drop-sum at n first)
+
+take-front : (w : ℕ) (X Y : List ℕ) → w ≤ length X → take w (X ++ Y) ≡ take w X
+take-front zero X Y h = refl
+take-front (suc w) [] Y h = absurd (omega arith)
+take-front (suc w) (x ∷ X) Y h = ap (λ z. x ∷ z) (take-front w X Y (omega arith))
+
+-- the frame in the middle
+pub frame-front : (at w : ℕ) (X F Y : List ℕ) → length X ≡ at → w ≤ length F → take w (drop at (X ++ (F ++ Y))) ≡ take w F
+frame-front at w X F Y l h = ap (take w) (drop_at X (F ++ Y) at l) ∙ take-front w F Y h
 
 -- only the frames themselves count
 pub frames-front : (w n : ℕ) (X Y : List ℕ) → n * w ≤ length X → frames_of w n (X ++ Y) ≡ frames_of w n X
@@ -271,12 +274,7 @@ frames-front w (suc n) X Y h =
     let l : w ≤ length X = omega arith in
     let d = length-drop w X in
     let r = frames-front w n (drop w X) Y (omega arith) in
-    ap (λ z. z ∷ frames_of w n (drop w (X ++ Y))) (take-front w X l) ∙ ap (λ z. take w X ∷ frames_of w n z) (drop-front w X Y l) ∙ ap (λ z. take w X ∷ z) r
-  where
-    take-front : (w : ℕ) (X : List ℕ) → w ≤ length X → take w (X ++ Y) ≡ take w X
-    take-front zero X h = refl
-    take-front (suc w) [] h = absurd (omega arith)
-    take-front (suc w) (x ∷ X) h = ap (λ z. x ∷ z) (take-front w X (omega arith))
+    ap (λ z. z ∷ frames_of w n (drop w (X ++ Y))) (take-front w X Y l) ∙ ap (λ z. take w X ∷ frames_of w n z) (drop-front w X Y l) ∙ ap (λ z. take w X ∷ z) r
 
 pub frames-taken : (w n len : ℕ) (X : List ℕ) → n * w ≤ len → len ≤ length X → frames_of w n X ≡ frames_of w n (take len X)
 frames-taken w n len X h l = ap (frames_of w n) (sym (take-append-drop len X)) ∙ frames-front w n (take len X) (drop len X) (let e = length-take len X in omega arith)

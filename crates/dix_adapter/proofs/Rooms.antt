@@ -1,13 +1,8 @@
 -- Room for one command is room for less.
-use Rattle.std.proofs.Common.{◌≤◌, ℕ, ◌+◌, ◌*◌, List, arith}
+use Rattle.std.proofs.Common.{◌≤◌, ℕ, ◌+◌, ◌*◌, arith}
 use Rattle.std.proofs.Math.Nat.{mul-le-mul_left, mul-le-mul_right}
-use Rattle.bio_core.specs.declared.bio.Bio.{Bio}
-use Rattle.bio_core.specs.declared.request.Io.{Io}
-use Rattle.dix_adapter.specs.declared.adapter.Adapter.{Adapter}
 use Rattle.dix_adapter.specs.declared.scratch.Scratch.{Scratch}
-use Rattle.dix_adapter.specs.Groups.{IsCarriedGroup, block_len, size}
 use Rattle.dix_adapter.specs.Room.{HoldsBlocks}
-use Rattle.dix_adapter.proofs.Landing.{group-bytes}
 
 -- room for so many blocks is room for fewer, of fewer bytes
 pub holds-fewer : (bytes least most n : ℕ) (s : Scratch) → least ≤ bytes → n ≤ most → HoldsBlocks bytes most s → HoldsBlocks least n s

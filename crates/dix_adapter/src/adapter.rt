@@ -4,13 +4,12 @@ ghost use Rattle.std.specs.Prelude.{◌≡◌, ◌<◌, ◌+◌, ◌^◌, true, 
 ghost use Rattle.std.specs.Vec.{vec_capacity};
 ghost use Rattle.page_pool.specs.Cells.{flat};
 ghost use Rattle.bio_core.specs.declared.request.Dir.TheVariants.{Read, Write};
-ghost use Rattle.bio_core.specs.Bios.{block_size};
 ghost use Rattle.rig_api.specs.State.{Stays};
 ghost use Rattle.rig_api.specs.Telling.{greatest_size};
 ghost use Rattle.dix_adapter.specs.Ways.{Spends};
 ghost use Rattle.dix_adapter.specs.Carried.{Unsent, is_bad_write};
 ghost use Rattle.dix_adapter.specs.Carrying.{CanCarry, HasCarriedIn, HasCarriedOut, HasSettled};
-ghost use Rattle.dix_adapter.specs.Groups.{EndsInTime, block_len, first_of, mode_of, route_by, size};
+ghost use Rattle.dix_adapter.specs.Groups.{block_len, first_of, mode_of, route_by, size};
 ghost use Rattle.dix_adapter.specs.Room.{KeepsScratch};
 
 use crate::Mode;
@@ -59,25 +58,22 @@ impl Adapter {
         }
     }
 
-    /// Block `i` of a bio on its way, with so many bytes of data.
-    pub(crate) fn route(&self, io: &Io, bio: &Bio, i: u32, size: u32) -> Route
+    /// The first block of a bio on its way.
+    pub(crate) fn route(&self, io: &Io, bio: &Bio) -> Route
         requires some { 0 < io.now.count }
-        requires ends { EndsInTime bio.now }
-        requires within { i < bio.now.count }
-        requires fits { io.now.first + (bio.now.k + i) < 2 ^ 64 }
-        requires size { size ≡ block_size io.now }
-        ensures { result ≡ route_by self.now io.now bio.now i }
+        requires fits { io.now.first + bio.now.k < 2 ^ 64 }
+        ensures { result ≡ route_by self.now io.now bio.now 0 }
     {
         Route {
             label: Label {
                 op: bio.op,
-                k: bio.k + i,
+                k: bio.k,
             },
-            virt: io.first + (bio.k + i) as u64,
+            virt: io.first + bio.k as u64,
             dev: bio.dev,
-            lba: bio.lba + i as u64,
+            lba: bio.lba,
             ty: self.ty,
-            size,
+            size: io.block_size(),
             mode: self.mode(),
         }
     }

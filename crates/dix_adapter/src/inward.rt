@@ -1,6 +1,6 @@
 //! Blocks on their way in.
 
-ghost use Rattle.std.specs.Prelude.{◌≡◌, ℕ, ◌+◌, ◌-◌, ◌*◌, ◌<◌, ◌≤◌, ◌^◌, ◌++◌, List, [], length, take, drop};
+ghost use Rattle.std.specs.Prelude.{◌≡◌, ℕ, ◌+◌, ◌*◌, ◌<◌, ◌≤◌, ◌^◌, ◌++◌, List, [], length, take, drop};
 ghost use Rattle.std.specs.Vec.{vec_capacity};
 ghost use Rattle.page_pool.specs.Cells.{flat};
 ghost use Rattle.page_pool.specs.Pages.{AreWhole};
@@ -15,8 +15,8 @@ ghost use Rattle.rig_api.specs.State.{Exchanged};
 ghost use Rattle.dix_adapter.specs.Room.{KeepsScratch};
 ghost use Rattle.block_path.specs.Routes.{wire_size};
 ghost use Rattle.dix_adapter.specs.Carried.{Fetched, carried, command_for, land};
-ghost use Rattle.dix_adapter.specs.Groups.{IsCarriedGroup, IsProtect, block_len, data_cells, first_of, route_by, size, tuple_cells};
-ghost use Rattle.dix_adapter.specs.Walking.{IsBefore, IsOnce, Walkable};
+ghost use Rattle.dix_adapter.specs.Groups.{IsCarriedGroup, IsProtect, block_len, first_of, route_by, size};
+ghost use Rattle.dix_adapter.specs.Walking.{BlockOnce, HasBlock, IsOnce, WentPast, cells_ahead};
 ghost use Rattle.dix_adapter.specs.Carrying.{CanCarry};
 ghost use Rattle.dix_adapter.specs.OnTheWay.{CanGo, HasLanded, HasLandedFirst, HasLandedNext, KeepsBehind};
 ghost use Rattle.pi_tuple.specs.declared.TheConstants.{LARGEST_BLOCK};
@@ -51,6 +51,8 @@ impl Adapter {
         ensures scratch { KeepsScratch (block_len ios.now req.now) (size req.now) scratch.old scratch.new }
         ensures capacity { vec_capacity fates.new ≡ vec_capacity fates.old }
     {
+        // A look for the proof: the pages are whole.
+        let _pages = pool.pages();
         let count = fill_labels(req, &mut scratch.labels);
         let size = ios[req[0].op as usize - 1].block_size() as usize;
         let len = count as usize * self.wire_size(size);
@@ -105,6 +107,7 @@ impl Adapter {
     )
         requires group { (bytes : ℕ) × IsCarriedGroup self.now pool.old bytes ios.now req.now }
         requires way { (first_of req.now).dir ≡ Read }
+        requires whole { AreWhole pool.old }
         requires done { done ≤ size req.now }
         requires none { fates.old.items ≡ [] }
         requires room { size req.now * (block_len ios.now req.now + TUPLE) + TUPLE ≤ length frames.old }
@@ -113,26 +116,18 @@ impl Adapter {
         ensures long { length frames.new ≡ length frames.old }
         ensures capacity { vec_capacity fates.new ≡ vec_capacity fates.old }
     {
-        let _pages = pool.pages();
         let mut left = done;
         let mut at = 0usize;
         for bio in req {
             let count = bio.count.min(left);
-            at = self.land_bio(
-                pool,
-                &ios[bio.op as usize - 1],
-                bio,
-                count,
-                frames,
-                at,
-                fates,
-            );
+            let (_, rest) = frames.split_at_mut(at);
+            at += self.land_bio(pool, &ios[bio.op as usize - 1], bio, count, rest, fates);
             left -= count;
         }
     }
 
-    /// Lands the first blocks of a bio, so many of them, whose frames stand one after another from a place on. Adds what
-    /// became of each, and answers where the last frame ends.
+    /// Lands the first blocks of a bio, so many of them, whose frames stand one after another at the front of these
+    /// bytes. Adds what became of each, and answers how many bytes the frames take.
     fn land_bio(
         &self,
         pool: &mut PagePool,
@@ -140,130 +135,83 @@ impl Adapter {
         bio: &Bio,
         count: u32,
         frames: &mut [u8],
-        from: usize,
         fates: &mut Vec<Fate>,
     ) -> usize
         requires can { CanGo self.now pool.old io.now bio.now }
         requires once { IsOnce io.now }
         requires few { count ≤ bio.now.count }
         requires small { block_size io.now ≤ LARGEST_BLOCK }
-        requires room { from + count * wire_size (route_by self.now io.now bio.now 0) + TUPLE ≤ length frames.old }
+        requires room { count * wire_size (route_by self.now io.now bio.now 0) + TUPLE ≤ length frames.old }
         requires fates { length fates.old.items + count ≤ vec_capacity fates.old }
-        ensures landed { HasLandedFirst self.now io.now bio.now count (drop from frames.old) pool.old pool.new fates.old.items fates.new.items }
-        ensures end { result ≡ from + count * wire_size (route_by self.now io.now bio.now 0) }
+        ensures landed { HasLandedFirst self.now io.now bio.now count frames.old pool.old pool.new fates.old.items fates.new.items }
+        ensures size { result ≡ count * wire_size (route_by self.now io.now bio.now 0) }
+        ensures within { result ≤ length frames.old }
         ensures behind { KeepsBehind result frames.old frames.new }
         ensures capacity { vec_capacity fates.new ≡ vec_capacity fates.old }
     {
-        let _pages = pool.pages();
-        let step = self.wire_size(io.block_size() as usize);
-        let mut walks = Walks::of(io, bio.k);
-        let mut at = from;
-        for i in 0..count {
-            fates.push_reserved(self.land_next(pool, io, bio, i, &mut walks, frames, at));
+        let mut walks = Walks::of(io, self.route(io, bio));
+        let step = walks.wire_size();
+        let mut at = 0usize;
+        for _ in 0..count {
+            fates.push_reserved(self.land_next(pool, &mut walks, frames, at));
             at += step;
         }
         at
     }
 
-    /// Lands the next block of a bio, whose frame begins at a place, and says what became of it.
+    /// Lands the next block, whose frame begins at a place, and says what became of it.
     fn land_next(
         &self,
         pool: &mut PagePool,
-        io: &Io,
-        bio: &Bio,
-        i: u32,
         walks: &mut Walks<'_>,
         frames: &mut [u8],
         at: usize,
     ) -> Fate
-        requires can { CanGo self.now pool.old io.now bio.now }
-        requires once { IsOnce io.now }
-        requires before { IsBefore io.now (bio.now.k + i) walks.old }
-        requires bio { i < bio.now.count }
-        requires small { block_size io.now ≤ LARGEST_BLOCK }
-        requires room { at + (block_size io.now + TUPLE) ≤ length frames.old }
-        ensures landed { HasLandedNext self.now io.now bio.now i (drop at frames.old) pool.old pool.new result }
-        ensures before { IsBefore io.now (bio.now.k + (i + 1)) walks.new }
-        ensures behind { KeepsBehind (at + wire_size (route_by self.now io.now bio.now i)) frames.old frames.new }
+        requires block { HasBlock pool.old walks.old }
+        requires once { BlockOnce walks.old }
+        requires room { at + (walks.old.route.size + TUPLE) ≤ length frames.old }
+        ensures landed { HasLandedNext self.now walks.old (drop at frames.old) pool.old pool.new result }
+        ensures past { WentPast walks.old walks.new }
+        ensures behind { KeepsBehind (at + wire_size walks.old.route) frames.old frames.new }
     {
-        let size = walks.block_size(io) as usize;
         let (_, rest) = frames.split_at_mut(at);
-        let (frame, _) = rest.split_at_mut(size + TUPLE);
-        self.receive(pool, io, bio, i, walks, frame)
+        let (frame, _) = rest.split_at_mut(walks.route.size as usize + TUPLE);
+        self.receive(pool, walks, frame)
     }
 
-    /// Judges the frame of the next block of a bio, and lets it land where it is good. Where no tuple came, the eight
-    /// bytes behind the data are those of the block behind it, and they are left as they were.
-    fn receive(
-        &self,
-        pool: &mut PagePool,
-        io: &Io,
-        bio: &Bio,
-        i: u32,
-        walks: &mut Walks<'_>,
-        frame: &mut [u8],
-    ) -> Fate
-        requires can { CanGo self.now pool.old io.now bio.now }
-        requires once { IsOnce io.now }
-        requires before { IsBefore io.now (bio.now.k + i) walks.old }
-        requires bio { i < bio.now.count }
-        requires long { length frame.old ≡ block_size io.now + TUPLE }
-        ensures landed { HasLandedNext self.now io.now bio.now i frame.old pool.old pool.new result }
-        ensures before { IsBefore io.now (bio.now.k + (i + 1)) walks.new }
-        ensures behind { KeepsBehind (wire_size (route_by self.now io.now bio.now i)) frame.old frame.new }
+    /// Judges the frame of the next block, and lets it land where it is good. Where no tuple came, the eight bytes
+    /// behind the data are those of the block behind it, and they are left as they were.
+    fn receive(&self, pool: &mut PagePool, walks: &mut Walks<'_>, frame: &mut [u8]) -> Fate
+        requires block { HasBlock pool.old walks.old }
+        requires once { BlockOnce walks.old }
+        requires long { length frame.old ≡ walks.old.route.size + TUPLE }
+        ensures landed { HasLandedNext self.now walks.old frame.old pool.old pool.new result }
+        ensures past { WentPast walks.old walks.new }
+        ensures behind { KeepsBehind (wire_size walks.old.route) frame.old frame.new }
     {
-        let behind = tuple_behind(frame);
-        let found = self
-            .route(io, bio, i, walks.block_size(io))
-            .from_wire(&self.tamper, frame);
-        deliver(found, pool, io, bio.k + i, walks, frame);
-        put_behind(frame, &behind);
+        let size = walks.route.size as usize;
+        let mut behind = [0u8; TUPLE];
+        behind.copy_from_slice(&frame[size..]);
+        let found = walks.route.from_wire(&self.tamper, frame);
+        deliver(found, pool, walks, frame);
+        frame[size..].copy_from_slice(&behind);
         fate_in(found)
     }
 }
 
-/// The last eight bytes of a frame.
-fn tuple_behind(frame: &[u8]) -> [u8; TUPLE]
-    requires { TUPLE ≤ length frame.now }
-    ensures { result ≡ drop (length frame.now - TUPLE) frame.now }
-{
-    let mut behind = [0u8; TUPLE];
-    behind.copy_from_slice(frame.split_at(frame.len() - TUPLE).1);
-    behind
-}
-
-fn put_behind(frame: &mut [u8], behind: &[u8; TUPLE])
-    requires { TUPLE ≤ length frame.old }
-    ensures { frame.new ≡ take (length frame.old - TUPLE) frame.old ++ behind.now }
-{
-    let size = frame.len() - TUPLE;
-    let (_, last) = frame.split_at_mut(size);
-    last.copy_from_slice(behind);
-}
-
 /// Lets a block land in which nothing was found, and else goes past it.
-fn deliver(
-    found: Option<Check>,
-    pool: &mut PagePool,
-    io: &Io,
-    k: u32,
-    walks: &mut Walks<'_>,
-    frame: &[u8],
-)
-    requires walks { Walkable pool.old io.now }
-    requires once { IsOnce io.now }
-    requires before { IsBefore io.now k walks.old }
-    requires within { k < io.now.count }
-    requires long { length frame.now ≡ block_size io.now + TUPLE }
-    ensures cells { flat pool.new ≡ land (data_cells io.now k ++ tuple_cells io.now.pi k) (unless found frame.now) (flat pool.old) }
+fn deliver(found: Option<Check>, pool: &mut PagePool, walks: &mut Walks<'_>, frame: &[u8])
+    requires block { HasBlock pool.old walks.old }
+    requires once { BlockOnce walks.old }
+    requires long { length frame.now ≡ walks.old.route.size + TUPLE }
+    ensures cells { flat pool.new ≡ land (cells_ahead walks.old) (unless found frame.now) (flat pool.old) }
     ensures pages { length pool.new ≡ length pool.old }
     ensures whole { AreWhole pool.new }
-    ensures before { IsBefore io.now (k + 1) walks.new }
+    ensures past { WentPast walks.old walks.new }
 {
-    let _pages = pool.pages();
     match found {
         Some(_) => walks.skip(),
-        None => walks.write(pool, io, k, frame),
+        None => walks.write(pool, frame),
     }
 }
 

@@ -4,8 +4,10 @@ ghost use Rattle.std.specs.Prelude.{◌≡◌, true, false, ℕ, List, ◌&&◌,
 ghost use Rattle.std.specs.List.{All};
 ghost use Rattle.std.specs.Vec.{vec_capacity};
 ghost use Rattle.bio_core.specs.Bios.{block_size, blocks_of};
-ghost use Rattle.page_pool.specs.Cells.{flat};
+ghost use Rattle.page_pool.specs.Cells.{flat, gather};
+ghost use Rattle.page_pool.specs.Pages.{AreWhole};
 ghost use Rattle.block_path.specs.Routes.{wire_size};
+ghost use Rattle.block_path.specs.WayOut.{to_wire};
 ghost use Rattle.rig_api.specs.Passed.{unless};
 ghost use Rattle.bio_core.specs.declared.fate.Fate.TheVariants.{Good};
 ghost use Rattle.cdb_codec.specs.Forms.{Fits, form};
@@ -14,8 +16,8 @@ ghost use Rattle.pi_tuple.specs.Finds.{is_zero};
 ghost use Rattle.rig_api.specs.Log.{HasRoom};
 ghost use Rattle.rig_api.specs.Telling.{greatest_size};
 ghost use Rattle.rig_api.specs.State.{Exchanged};
-ghost use Rattle.dix_adapter.specs.Carried.{Gathers, WasSent, Unsent, any_fails, command_for, fails, is_bad_write, out_of, sends, sends_by, sends_first, unsent};
-ghost use Rattle.dix_adapter.specs.Walking.{IsBefore};
+ghost use Rattle.dix_adapter.specs.Carried.{Gathers, WasSent, Unsent, any_fails, command_for, fails, is_bad_write, out_of, sends, sends_first, unsent};
+ghost use Rattle.dix_adapter.specs.Walking.{HasBlock, WentPast, cells_ahead};
 ghost use Rattle.dix_adapter.specs.Outcomes.{done_of as spec_done, rest_of};
 ghost use Rattle.dix_adapter.specs.Room.{KeepsScratch};
 ghost use Rattle.bio_core.specs.declared.request.Dir.TheVariants.{Write};
@@ -56,6 +58,8 @@ impl Adapter {
         ensures scratch { KeepsScratch (block_len ios.now req.now) (size req.now) scratch.old scratch.new }
         ensures capacity { vec_capacity fates.new ≡ vec_capacity fates.old }
     {
+        // A look for the proof: the pages are whole.
+        let _pages = pool.pages();
         let end = self.gather(pool, ios, req, &mut scratch.frames, fates);
         if has_bad(fates) {
             return;
@@ -76,6 +80,7 @@ impl Adapter {
         fates: &mut Vec<Fate>,
     ) -> usize
         requires group { (bytes : ℕ) × IsCarriedGroup self.now pool.now bytes ios.now req.now }
+        requires whole { AreWhole pool.now }
         requires none { fates.old.items ≡ [] }
         requires room { size req.now * (block_len ios.now req.now + TUPLE) + TUPLE ≤ length frames.old }
         requires fates { size req.now ≤ vec_capacity fates.old }
@@ -114,67 +119,36 @@ impl Adapter {
         ensures long { length frames.new ≡ length frames.old }
         ensures capacity { vec_capacity fates.new ≡ vec_capacity fates.old }
     {
-        let mut walks = Walks::of(io, bio.k);
+        let mut walks = Walks::of(io, self.route(io, bio));
+        let step = walks.wire_size();
         let mut at = from;
-        for i in 0..bio.count {
-            let (found, end) = self.gather_next(pool, io, bio, i, &mut walks, frames, at);
-            fates.push_reserved(fate_out(found));
-            at = end;
+        for _ in 0..bio.count {
+            fates.push_reserved(fate_out(self.gather_next(pool, &mut walks, frames, at)));
+            at += step;
         }
         at
     }
 
-    /// Gathers the next block of a bio into the frames, from a place on, and answers what was found in it and where
-    /// its frame ends.
+    /// Gathers the next block into the frames, from a place on, and judges it.
     fn gather_next(
         &self,
         pool: &PagePool,
-        io: &Io,
-        bio: &Bio,
-        i: u32,
         walks: &mut Walks<'_>,
         frames: &mut [u8],
         at: usize,
-    ) -> (Option<Check>, usize)
-        requires can { CanGo self.now pool.now io.now bio.now }
-        requires before { IsBefore io.now (bio.now.k + i) walks.old }
-        requires bio { i < bio.now.count }
-        requires room { at + (block_size io.now + TUPLE) ≤ length frames.old }
-        requires small { block_size io.now ≤ LARGEST_BLOCK }
-        ensures judged { unless result.0 (take (wire_size (route_by self.now io.now bio.now i)) (drop at frames.new)) ≡ sends_by self.now io.now bio.now (flat pool.now) i }
-        ensures front { take at frames.new ≡ take at frames.old }
-        ensures end { result.1 ≡ at + wire_size (route_by self.now io.now bio.now i) }
-        ensures long { length frames.new ≡ length frames.old }
-        ensures before { IsBefore io.now (bio.now.k + (i + 1)) walks.new }
-    {
-        let size = walks.block_size(io) as usize;
-        let (_, rest) = frames.split_at_mut(at);
-        let (frame, _) = rest.split_at_mut(size + TUPLE);
-        let found = self.gather_block(pool, io, bio, i, walks, frame);
-        (found, at + self.wire_size(size))
-    }
-
-    /// Gathers the next block of a bio, and judges it.
-    fn gather_block(
-        &self,
-        pool: &PagePool,
-        io: &Io,
-        bio: &Bio,
-        i: u32,
-        walks: &mut Walks<'_>,
-        frame: &mut [u8],
     ) -> Option<Check>
-        requires can { CanGo self.now pool.now io.now bio.now }
-        requires before { IsBefore io.now (bio.now.k + i) walks.old }
-        requires bio { i < bio.now.count }
-        requires long { length frame.old ≡ block_size io.now + TUPLE }
-        ensures judged { unless result (take (wire_size (route_by self.now io.now bio.now i)) frame.new) ≡ sends_by self.now io.now bio.now (flat pool.now) i }
-        ensures long { length frame.new ≡ length frame.old }
-        ensures before { IsBefore io.now (bio.now.k + (i + 1)) walks.new }
+        requires block { HasBlock pool.now walks.old }
+        requires room { at + (walks.old.route.size + TUPLE) ≤ length frames.old }
+        ensures judged { unless result (take (wire_size walks.old.route) (drop at frames.new)) ≡ to_wire self.now.tamper walks.old.route (gather 0 (cells_ahead walks.old) (flat pool.now)) }
+        ensures front { take at frames.new ≡ take at frames.old }
+        ensures long { length frames.new ≡ length frames.old }
+        ensures past { WentPast walks.old walks.new }
     {
-        walks.read(pool, io, bio.k + i, frame);
-        self.route(io, bio, i, walks.block_size(io))
-            .to_wire(&self.tamper, frame)
+        let route = walks.route;
+        let (_, rest) = frames.split_at_mut(at);
+        let (frame, _) = rest.split_at_mut(route.size as usize + TUPLE);
+        walks.read(pool, frame);
+        route.to_wire(&self.tamper, frame)
     }
 
     /// The bytes of a frame on the wire.

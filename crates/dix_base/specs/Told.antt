@@ -58,3 +58,7 @@ Appended xs old new = Becomes (λ was is. is ≡ was ++ xs) old new
 -- A prefix of these bytes was appended.
 abbrev pub AppendedSome : List ℕ → Option (List ℕ) → Option (List ℕ) → Type 0
 AppendedSome xs old new = (n : ℕ) × Appended (take n xs) old new
+
+-- The one is the front of the other, where told.
+abbrev pub IsBehind : Option (List ℕ) → Option (List ℕ) → Type 0
+IsBehind = Becomes (λ front all. Begins front all)

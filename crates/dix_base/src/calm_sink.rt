@@ -18,6 +18,8 @@ impl CalmSink {
 impl Sink for CalmSink {
     ghost taken = { λ s. None };
 
+    ghost passed = { λ s. None };
+
     ghost faults = { λ s. 0 };
 
     /// Takes the whole piece. It never fails.
@@ -30,4 +32,13 @@ impl Sink for CalmSink {
     {
         Ok(bytes.len())
     }
+
+    /// It holds nothing back.
+    fn flush(&mut self) -> Result<(), Failed>
+        ensures calm { IsOk result }
+    {
+        Ok(())
+    }
+
+    ghost behind = { λ s. tt };
 }

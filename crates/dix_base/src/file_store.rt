@@ -9,9 +9,10 @@ use crate::fault_plan::raise;
 use crate::read_ahead::ReadAhead;
 use crate::{Failed, Store, StoreFault};
 use std::alloc::Global;
-use std::fs::{File, OpenOptions};
-use std::io::{self, ErrorKind};
+use std::fs::{self, File, Metadata, OpenOptions};
+use std::io::{self, ErrorKind, Seek, SeekFrom};
 use std::marker::Model;
+use std::os::unix::fs::FileTypeExt;
 
 /// A file. It doesn't tell its bytes.
 ///
@@ -53,21 +54,33 @@ fn reachable(rt: &HostRuntime, name: &str) -> io::Result<File> {
     }
 }
 
-/// Opens a file that is there, and gives its length in bytes.
-fn opened(rt: &HostRuntime, name: &str) -> io::Result<(File, u64)> {
-    let file = reachable(rt, name)?;
-    let size = file.metadata()?.len();
-    Ok((file, size))
+/// Whether what stands under a name gives back what is written: a plain file or a block device. A pipe could make the
+/// call that opens it wait, and a device of characters keeps nothing.
+fn is_kept(found: &Metadata) -> bool {
+    let kind = found.file_type();
+    kind.is_file() || kind.is_block_device()
+}
+
+/// Opens a file that is there, and gives its length in bytes, which of a block device only its end tells.
+fn opened(rt: &HostRuntime, name: &str) -> Option<(File, u64)> {
+    if !is_kept(&fs::metadata(rt, name).ok()?) {
+        return None;
+    }
+    let mut file = reachable(rt, name).ok()?;
+    let size = file.seek(SeekFrom::End(0)).ok()?;
+    Some((file, size))
 }
 
 /// Makes a file empty, or makes an empty one where there is none.
-fn emptied(rt: &HostRuntime, name: &str) -> io::Result<File> {
-    OpenOptions::new()
-        .read(true)
-        .write(true)
-        .create(true)
-        .truncate(true)
-        .open(rt, name)
+fn emptied(rt: &HostRuntime, name: &str) -> Option<File> {
+    if let Ok(found) = fs::metadata(rt, name) {
+        if !is_kept(&found) {
+            return None;
+        }
+    }
+    let mut how = OpenOptions::new();
+    how.read(true).write(true).create(true).truncate(true);
+    how.open(rt, name).ok()
 }
 
 impl FileStore {
@@ -117,7 +130,7 @@ impl Store for FileStore {
         self.size = 0;
         let found = opened(&self.rt, name.as_str());
         self.name = name;
-        if let Ok((file, size)) = found {
+        if let Some((file, size)) = found {
             self.file = Some(file);
             self.size = size;
             return Ok(size);
@@ -144,7 +157,7 @@ impl Store for FileStore {
         self.size = 0;
         let made = emptied(&self.rt, name.as_str());
         self.name = name;
-        if let Ok(file) = made {
+        if let Some(file) = made {
             self.file = Some(file);
             return Ok(());
         }

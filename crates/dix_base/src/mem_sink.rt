@@ -1,6 +1,7 @@
 //! A sink in memory.
 
-ghost use Rattle.std.specs.Prelude.{◌≡◌, ◌≤◌, ◌<◌, ◌+◌, ◌↔◌, ◌⊎◌, ◌++◌, [], length, min, take, Some, IfOk, IsErr, OnErr, OnOk};
+ghost use Rattle.std.specs.Prelude.{◌≡◌, ◌≤◌, ◌<◌, ◌+◌, ◌↔◌, ◌⊎◌, ◌++◌, [], length, min, take, Some, IfOk, IsErr, IsOk, OnErr, OnOk};
+ghost use Rattle.std.proofs.Math.Seq.{take-length};
 ghost use Rattle.dix_base.specs.Forms.{IsFull, IsNextListed, TookTurn, no_turns};
 ghost use Rattle.dix_base.specs.Told.{Rose};
 
@@ -56,6 +57,8 @@ impl MemSink {
 impl Sink for MemSink {
     ghost taken = { λ s. Some s.taken };
 
+    ghost passed = { λ s. Some s.taken };
+
     ghost faults = { λ s. s.turns.faults };
 
     /// Takes as many bytes as there is room for. A call fails where it is listed, or where the
@@ -82,4 +85,14 @@ impl Sink for MemSink {
         self.room -= n;
         Ok(n)
     }
+
+    /// It holds nothing back.
+    fn flush(&mut self) -> Result<(), Failed>
+        ensures same { self.new ≡ self.old }
+        ensures calm { IsOk result }
+    {
+        Ok(())
+    }
+
+    ghost behind = { λ s. take-length s.taken };
 }

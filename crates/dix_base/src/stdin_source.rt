@@ -1,12 +1,12 @@
 //! Standard input as a source.
 
-ghost use Rattle.std.specs.Prelude.{◌≡◌, ◌≤◌, None, IfOk, OnErr, OnOk, drop, length};
+ghost use Rattle.std.specs.Prelude.{◌≡◌, ◌≤◌, None, IfOk, IfSome, OnErr, OnOk, drop, length};
 ghost use Rattle.dix_base.specs.Forms.{one_more};
 ghost use Rattle.dix_base.specs.Told.{Rose};
 
 use crate::fault_plan::raise;
 use crate::{Failed, Source};
-use std::io::{Read, Stdin};
+use std::io::{ErrorKind, Read, Stdin};
 use std::marker::Model;
 
 /// Standard input. It doesn't tell what is left.
@@ -22,6 +22,21 @@ impl Model for StdinSource {
     ghost Value = { ℕ };
 
     ghost view = { λ s. s.faults };
+}
+
+/// Makes one read, and says how many bytes came, if it didn't fail. A read that a signal interrupts is made again.
+fn read_once(input: &mut Stdin, into: &mut [u8]) -> Option<usize>
+    ensures bound { IfSome result (λ n. n ≤ length into.new) }
+    ensures length { length into.new ≡ length into.old }
+{
+    for _ in 0..u32::MAX {
+        match input.read(into) {
+            Ok(n) => return Some(n),
+            Err(error) if error.kind() == ErrorKind::Interrupted => {}
+            Err(_) => return None,
+        }
+    }
+    None
 }
 
 impl StdinSource {
@@ -54,7 +69,7 @@ impl Source for StdinSource {
     {
         let mut came = [0u8; 4096];
         let most = buf.len().min(came.len());
-        if let Ok(n) = self.input.read(&mut came[..most]) {
+        if let Some(n) = read_once(&mut self.input, &mut came[..most]) {
             buf[..n].copy_from_slice(&came[..n]);
             return Ok(n);
         }

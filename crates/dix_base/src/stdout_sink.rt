@@ -1,20 +1,23 @@
 //! Standard output as a sink.
 
-ghost use Rattle.std.specs.Prelude.{◌≡◌, ◌+◌, ◌≤◌, ◌<◌, None, IfOk, OnErr, OnOk, length};
+ghost use Rattle.std.specs.Prelude.{◌≡◌, ◌+◌, ◌≤◌, ◌<◌, None, IfOk, IfSome, OnErr, OnOk, length};
 ghost use Rattle.dix_base.specs.Forms.{one_more};
 ghost use Rattle.dix_base.specs.Told.{Rose};
 
 use crate::fault_plan::raise;
 use crate::{Failed, Sink};
-use std::io::{Stdout, Write};
+use std::io::{ErrorKind, Stdout, Write};
 use std::marker::Model;
 
-/// How many bytes go to the system at once, where there are as many.
+/// How many bytes of short pieces go to the system at once, where there are as many.
 const ROOM: usize = 16384;
+
+/// A piece of so many bytes goes to the system at once, without a copy.
+const LONG: usize = 65536;
 
 /// Standard output. It doesn't tell what it took.
 ///
-/// It holds what it takes until it has 16 KiB or is flushed, so a report is a few calls of the
+/// It holds what it takes of short pieces until it has 16 KiB or is flushed, so a report is a few calls of the
 /// system.
 #[derive(Drop)]
 pub struct StdoutSink {
@@ -56,6 +59,22 @@ fn copied(room: &mut [u8], at: usize, bytes: &[u8]) -> usize
     n
 }
 
+/// Makes one write of a piece, and says how many bytes went, if some did. A write that a signal interrupts is made
+/// again.
+fn written(output: &mut Stdout, piece: &[u8]) -> Option<usize>
+    ensures bound { IfSome result (λ n. n ≤ length piece.now) }
+    ensures some { IfSome result (λ n. 0 < n) }
+{
+    for _ in 0..u32::MAX {
+        match output.write(piece) {
+            Ok(n) if n > 0 => return Some(n.min(piece.len())),
+            Err(error) if error.kind() == ErrorKind::Interrupted => {}
+            _ => return None,
+        }
+    }
+    None
+}
+
 impl StdoutSink {
     /// The standard output of this process. A contract sees its count of faults.
     pub fn new(rt: HostRuntime) -> StdoutSink
@@ -76,12 +95,12 @@ impl StdoutSink {
         ensures { self.new ≡ self.old }
     {
         let held = window(&self.room, self.from, self.end);
-        match self.output.write(held) {
-            Ok(n) if n > 0 => {
+        match written(&mut self.output, held) {
+            Some(n) => {
                 self.from = self.from.saturating_add(n);
                 true
             }
-            _ => held.is_empty(),
+            None => held.is_empty(),
         }
     }
 
@@ -98,6 +117,22 @@ impl StdoutSink {
             }
         }
         true
+    }
+
+    /// Makes one write of a piece that isn't empty, while nothing is held.
+    fn passed_on(&mut self, piece: &[u8]) -> Result<usize, Failed>
+        ensures bound { IfOk result (λ n. n ≤ length piece.now) }
+        ensures some { IfOk result (λ n. 0 < n) }
+        ensures passed { OnOk result (self.new ≡ self.old) }
+        ensures failed { OnErr result (self.new ≡ one_more self.old) }
+        ensures cause { OnErr result (Rose self.old self.new) }
+        ensures count { self.old ≤ self.new }
+    {
+        if let Some(n) = written(&mut self.output, piece) {
+            return Ok(n);
+        }
+        raise(&mut self.faults);
+        Err(Failed)
     }
 
     /// Writes all that is held. A failure leaves what wasn't written.
@@ -120,9 +155,12 @@ impl StdoutSink {
 impl Sink for StdoutSink {
     ghost taken = { λ s. None };
 
+    ghost passed = { λ s. None };
+
     ghost faults = { λ s. s };
 
-    /// Holds as many bytes as there is room for, which is made by writing what is held.
+    /// Holds as many bytes of a short piece as there is room for, which is made by writing what is held. A long piece
+    /// is passed on behind what is held.
     fn put(&mut self, bytes: &[u8]) -> Result<usize, Failed>
         ensures bound { IfOk result (λ n. n ≤ length bytes.now) }
         ensures some { IfOk result (λ n. 0 < length bytes.now → 0 < n) }
@@ -132,6 +170,10 @@ impl Sink for StdoutSink {
         ensures passed { OnOk result (self.new ≡ self.old) }
         ensures failed { OnErr result (self.new ≡ one_more self.old) }
     {
+        if bytes.len() >= LONG {
+            self.empty()?;
+            return self.passed_on(bytes);
+        }
         if self.end >= ROOM {
             self.empty()?;
         }
@@ -151,4 +193,6 @@ impl Sink for StdoutSink {
     {
         self.empty()
     }
+
+    ghost behind = { λ s. tt };
 }

@@ -2,36 +2,21 @@
 //! report.
 #![tactic(auto)]
 
-use dix_base::{FileStore, StdinSource, StdoutSink};
+use call_verdict::words_of;
+use dix_base::{FileStore, HeldStreams, StdinSource, StdoutSink};
 use dix_run::{Refusal, refuse, run};
 use image_rig::ImageRig;
+use std::io;
 use std::process::ExitCode;
-use std::{env, fs, io};
 
-/// The words that the program was called with, without its own name.
-fn words_of(rt: &HostRuntime) -> io::Result<Vec<String>> {
-    let mut words = Vec::new(rt.alloc());
-    for word in env::args(rt)?.skip(1) {
-        words.push(word)?;
-    }
-    Ok(words)
-}
-
-/// Takes the places of standard streams that are closed, so that no image is opened in one and
-/// overwritten by the report. A directory can be neither read nor written as a stream.
-fn hold_closed_streams(rt: &HostRuntime) -> [Option<fs::File>; 3] {
-    [
-        fs::open(rt, "/").ok(),
-        fs::open(rt, "/").ok(),
-        fs::open(rt, "/").ok(),
-    ]
-}
-
+/// Where the places of closed streams can't be held no image is opened.
 fn main(rt: HostRuntime) -> io::Result<ExitCode> {
-    let _held = hold_closed_streams(&rt);
     let mut script = StdinSource::new(rt.clone()?);
     let mut rig = ImageRig::new(rt.alloc(), FileStore::new(rt.clone()?));
     let mut out = StdoutSink::new(rt.clone()?);
+    let Ok(_held) = HeldStreams::hold(&rt) else {
+        return Ok(ExitCode::from(refuse(&mut out, Refusal::RIG_FAULT).number()));
+    };
     let status = match words_of(&rt) {
         Ok(words) => run(rt.alloc(), &words, &mut script, &mut rig, &mut out),
         Err(error) => refuse(&mut out, refusal_of(&error)),

@@ -1,5 +1,5 @@
 -- The commands come to their ends where nothing is at fault.
-use Rattle.std.proofs.Common.{ℕ, ◌≡◌, ◌⊎◌, inl, inr, Bool, true, false, List, Option, Some, None, refl, sym, ap, subst}
+use Rattle.std.proofs.Common.{ℕ, ◌≡◌, ◌⊎◌, inl, inr, List, Option, Some, None, refl, sym, ap, subst}
 use Rattle.dix_base.specs.Told.{Calm}
 use Rattle.dix_base.proofs.Counts.{never_rose}
 use Rattle.rig_api.specs.Head.{head_fault, head_of}
@@ -20,24 +20,17 @@ use Rattle.run_command.specs.Texts.{has_bad}
 use Rattle.run_command.specs.Verdict.{IsComplete as RunComplete}
 use Rattle.call_refusal.specs.declared.refusal.Refusal.{Refusal as Stop}
 use Rattle.call_refusal.specs.declared.refusal.Refusal.TheVariants as stop
-use Rattle.dix_run.specs.Commands.{Ended, IsRightRun, IsRun, RunsOrFails, work_of}
+use Rattle.call_verdict.proofs.Verdicts.{completed, done_is}
+use Rattle.dix_run.specs.Commands.{Ended, IsRightRun, work_of}
 use Rattle.dix_run.specs.Headline.{Carries}
 use Rattle.dix_run.specs.ScrubText.{has_some}
-use Rattle.dix_run.specs.Verdict.{ByCause, Cause, CauseNotCommanded, CauseNotMirrored, CauseNotRun, Done, EndedAs, Facts, Refused, Verdict, Work, Written, call_of, done_status, status_of, verdict_status, verdict_text}
+use Rattle.call_verdict.specs.Verdicts.{Cause, Done, EndedAs, Refused, RunsOrFails, Verdict, done_status, verdict_status}
+use Rattle.dix_run.specs.Verdict.{ByCause, CauseNotCommanded, CauseNotMirrored, CauseNotRun, Facts, call_of, dix, status_of}
 use Rattle.dix_run.specs.declared.refusal.Refusal.{Refusal}
 use Rattle.dix_run.specs.declared.refusal.Refusal.TheVariants as refusal
-use Rattle.dix_run.specs.declared.status.Status.{Status}
-use Rattle.dix_run.specs.declared.status.Status.TheVariants as status
+use Rattle.call_verdict.specs.declared.status.Status.{Status}
+use Rattle.call_verdict.specs.declared.status.Status.TheVariants as status
 use Rattle.dix_run.proofs.Opening.{opens}
-
--- where the sink had no fault the status is the verdict's
-as_written : (w : Work) (v : Verdict w.Yield) (old new : Option (List ℕ)) (o n : ℕ) (result : Status) → Calm o n → Written (verdict_status w v) (verdict_text w v) old new o n result → result ≡ verdict_status w v
-as_written w v old new o n result c (inl e) = e.0
-as_written w v old new o n result c (inr e) = absurd (never_rose o n c e.1)
-
-done_is : (bad : Bool) → IsRun (done_status bad)
-done_is true = inr refl
-done_is false = inl refl
 
 -- ---- scripts
 
@@ -91,38 +84,36 @@ uncommanded_for_memory (refusal.Stopped s) f alone c = wants_memory s (alone s c
 
 -- ---- all commands
 
-completes : (c : Option Command) (f : Facts) (v : Verdict (work_of c).Yield) → Cause (work_of c) v f → (work_of c).IsRight f → (work_of c).Ends (verdict_status (work_of c) v)
-completes None f (Refused r) c h = ap status_of c.0
-completes None f (Done x) c h = absurd x
-completes (Some Run) f (Refused r) c h = not_run f r c h
-completes (Some Run) f (Done run) c h = inl (done_is (has_bad run.stack.replies.items))
-completes (Some Trace) f (Refused r) c h = not_run f r c h
-completes (Some Trace) f (Done x) c h = inl (done_is (has_bad x.0.stack.replies.items))
-completes (Some (Format us)) f (Refused r) c h = inr (by_memory CauseUnformatted r f (λ s d. unformatted_for_memory s (image_in f.words) f.rig f.rig_after h d) c)
-completes (Some (Format us)) f (Done x) c h = inl refl
-completes (Some Migrate) f (Refused r) c h = inr (by_memory CauseUnmigrated r f (λ s d. unmigrated_for_memory s h.image (image_in f.words) f.rig f.rig_after h.image_is h.head h.calm d) c)
-completes (Some Migrate) f (Done n) c h = inl refl
-completes (Some Mirror) f (Refused r) c h = inr (mirror_from_outside f r c (λ s whole. whole h.text h.image h.script h.text_is h.language h.image_is h.head h.volume h.lines h.calm))
-completes (Some Mirror) f (Done run) c h = inl (done_is (is_any_lost run.mirror.replies.items run.repair.lost))
-completes (Some Scrub) f (Refused r) c h = inr (by_memory CauseUnscrubbed r f (λ s d. unscrubbed_for_memory s h.image (image_in f.words) f.rig f.rig_after h.image_is h.head h.calm d) c)
-completes (Some Scrub) f (Done x) c h = inl (done_is (has_some x.1))
-completes (Some Nvme) f (Refused r) c h =
+completes : (c : Option Command) (f : Facts) (v : Verdict Refusal (work_of c).Yield) → Cause dix (work_of c) v f → (work_of c).Answers f (verdict_status dix (work_of c) v)
+completes None f (Refused r) c = ap status_of c.0
+completes None f (Done x) c = absurd x
+completes (Some Run) f (Refused r) c = λ h. not_run f r c h
+completes (Some Run) f (Done run) c = λ h. inl (done_is (has_bad run.stack.replies.items))
+completes (Some Trace) f (Refused r) c = λ h. not_run f r c h
+completes (Some Trace) f (Done x) c = λ h. inl (done_is (has_bad x.0.stack.replies.items))
+completes (Some (Format us)) f (Refused r) c = λ h. inr (by_memory CauseUnformatted r f (λ s d. unformatted_for_memory s (image_in f.words) f.rig f.rig_after h d) c)
+completes (Some (Format us)) f (Done x) c = λ h. inl refl
+completes (Some Migrate) f (Refused r) c = λ h. inr (by_memory CauseUnmigrated r f (λ s d. unmigrated_for_memory s h.image (image_in f.words) f.rig f.rig_after h.image_is h.head h.calm d) c)
+completes (Some Migrate) f (Done n) c = λ h. inl refl
+completes (Some Mirror) f (Refused r) c = λ h. inr (mirror_from_outside f r c (λ s whole. whole h.text h.image h.script h.text_is h.language h.image_is h.head h.volume h.lines h.calm))
+completes (Some Mirror) f (Done run) c = λ h. inl (done_is (is_any_lost run.mirror.replies.items run.repair.lost))
+completes (Some Scrub) f (Refused r) c = λ h. inr (by_memory CauseUnscrubbed r f (λ s d. unscrubbed_for_memory s h.image (image_in f.words) f.rig f.rig_after h.image_is h.head h.calm d) c)
+completes (Some Scrub) f (Done x) c = λ h. inl (done_is (has_some x.1))
+completes (Some Nvme) f (Refused r) c = λ h.
     inr (uncommanded_for_memory r f (λ x d. spared_alone x (image_in f.words) f.left f.left_after f.reads f.reads_after f.rig f.rig_after h.text h.image h.lines h.text_is h.language h.image_is h.head h.fit h.reads h.calm d) c)
-completes (Some Nvme) f (Done x) c h = inl (done_is x.0)
-completes (Some (Modes ty)) f (Refused r) c h = inr (ap status_of c.0)
-completes (Some (Modes ty)) f (Done x) c h = inl refl
-completes (Some (Big n seed)) f (Refused r) c h = inr (ap status_of c.0)
-completes (Some (Big n seed)) f (Done b) c h = inl (ap done_status c.0.not_bad)
+completes (Some Nvme) f (Done x) c = λ h. inl (done_is x.0)
+completes (Some (Modes ty)) f (Refused r) c = inr (ap status_of c.0)
+completes (Some (Modes ty)) f (Done x) c = inl refl
+completes (Some (Big n seed)) f (Refused r) c = inr (ap status_of c.0)
+completes (Some (Big n seed)) f (Done b) c = inl (ap done_status c.0.not_bad)
 
 pub carried : (f : Facts) (taken taken' : Option (List ℕ)) (o n : ℕ) (result : Status) → Ended f taken taken' o n result → Carries f taken taken' o n result
-carried f taken taken' o n result ended =
-    let w : Work = work_of (command_in f.words) in
-    record {
-      ended = ended;
-      complete = λ right calm. subst w.Ends (sym (as_written w ended.verdict taken taken' o n result calm ended.written)) (completes (command_in f.words) f ended.verdict ended.cause right);
-      opens = opens (command_in f.words) f ended.verdict ended.cause;
-    }
+carried f taken taken' o n result ended = record {
+  ended = ended;
+  complete = completed dix (work_of (command_in f.words)) f taken taken' o n result (λ v c. completes (command_in f.words) f v c) ended;
+  opens = opens (command_in f.words) f ended.verdict ended.cause;
+}
 
 -- a call of words that name this
-pub carried_by : (c : Option Command) (f : Facts) (taken taken' : Option (List ℕ)) (o n : ℕ) (result : Status) → command_in f.words ≡ c → EndedAs (work_of c) f taken taken' o n result → Carries f taken taken' o n result
-carried_by c f taken taken' o n result named ended = carried f taken taken' o n result (subst (λ (x : Option Command). EndedAs (work_of x) f taken taken' o n result) (sym named) ended)
+pub carried_by : (c : Option Command) (f : Facts) (taken taken' : Option (List ℕ)) (o n : ℕ) (result : Status) → command_in f.words ≡ c → EndedAs dix (work_of c) f taken taken' o n result → Carries f taken taken' o n result
+carried_by c f taken taken' o n result named ended = carried f taken taken' o n result (subst (λ (x : Option Command). EndedAs dix (work_of x) f taken taken' o n result) (sym named) ended)

@@ -1,4 +1,4 @@
--- A call came to its end.
+-- Commands that came to their ends.
 use Rattle.std.proofs.Common.{ℕ, ◌≡◌, inr, List, [], ◌++◌, length, drop, Option, sym, ap, subst, ◌∙◌, append_assoc}
 use Rattle.std.specs.Prelude.{codes, decimal}
 use Rattle.std.proofs.Math.Seq.{drop-append_seam}
@@ -18,18 +18,11 @@ use Rattle.run_command.specs.Texts.{has_bad}
 use Rattle.run_command.specs.Verdict.{HasRun, HasRunSource}
 use Rattle.run_command.specs.declared.verdict.Finished.{Finished}
 use Rattle.dix_run.specs.Commands.{format_work, trace_work}
-use Rattle.dix_run.specs.Verdict.{Done, EndedAs, Facts, LeavesSource, Refused, Work, Written, call_of, done_status, refusal_text, status_of}
-use Rattle.dix_run.specs.declared.refusal.Refusal.{Refusal}
-use Rattle.dix_run.specs.declared.status.Status.{Status}
-use Rattle.dix_run.specs.declared.status.Status.TheVariants as status
-
--- A command came to its end: it was done, or refused.
-
-pub done : (w : Work) (x : w.Yield) (f : Facts) (old new : Option (List ℕ)) (o n : ℕ) (result : Status) → w.WasDone x f → Written (w.status x) (w.text x) old new o n result → EndedAs w f old new o n result
-done w x f old new o n result cause written = record { verdict = Done x; cause = cause; written = written }
-
-pub refused : (w : Work) (r : Refusal) (f : Facts) (old new : Option (List ℕ)) (o n : ℕ) (result : Status) → w.WasRefused r f → Written (status_of r) (refusal_text r) old new o n result → EndedAs w f old new o n result
-refused w r f old new o n result cause written = record { verdict = Refused r; cause = cause; written = written }
+use Rattle.call_verdict.specs.Verdicts.{EndedAs, Written, done_status}
+use Rattle.call_verdict.proofs.Verdicts.{done}
+use Rattle.dix_run.specs.Verdict.{Facts, LeavesSource, call_of, dix}
+use Rattle.call_verdict.specs.declared.status.Status.{Status}
+use Rattle.call_verdict.specs.declared.status.Status.TheVariants as status
 
 -- a scrub without the memory for its text looked at every block
 pub scrub_spared : (name : List ℕ) (devices : List DeviceInfo) (found : List Found) (old new : RigState) → WasScrubbed name devices found old new → CauseUnscrubbed stop.Memory name old new
@@ -40,9 +33,9 @@ scrub_spared name devices found old new d =
 
 -- a count of units that are the words'
 pub formatted : (f : Facts) (us : List UnitSpec) (n : ℕ) (old new : Option (List ℕ)) (o m : ℕ) (result : Status) → n ≡ length us → WasFormatted (image_in f.words) us f.rig f.rig_after → LeavesSource f →
-    Written status.Whole (codes "formatted " ++ (decimal n ++ codes "\n")) old new o m result → EndedAs (format_work us) f old new o m result
+    Written status.Whole (codes "formatted " ++ (decimal n ++ codes "\n")) old new o m result → EndedAs dix (format_work us) f old new o m result
 formatted f us n old new o m result number was source written =
-    done (format_work us) tt f old new o m result (was, source) (subst (λ k. Written status.Whole (codes "formatted " ++ (decimal k ++ codes "\n")) old new o m result) number written)
+    done dix (format_work us) tt f old new o m result (was, source) (subst (λ k. Written status.Whole (codes "formatted " ++ (decimal k ++ codes "\n")) old new o m result) number written)
 
 -- the records of a call that ran a script
 records_since : (run : Finished) (script : Script) (name : List ℕ) (old new : RigState) → HasRun run script name old new → new.log ≡ old.log ++ drop run.first new.log
@@ -55,6 +48,6 @@ records_since run script name old new r =
     more ∙ ap (λ v. old.log ++ v) (sym rest)
 
 pub traced : (f : Facts) (run : Finished) (old new : Option (List ℕ)) (o n : ℕ) (result : Status) → HasRunSource run (call_of f) →
-    Written (done_status (has_bad run.stack.replies.items)) (report run.stack.replies.items ++ trace (drop run.first f.rig_after.log)) old new o n result → EndedAs trace_work f old new o n result
+    Written (done_status (has_bad run.stack.replies.items)) (report run.stack.replies.items ++ trace (drop run.first f.rig_after.log)) old new o n result → EndedAs dix trace_work f old new o n result
 traced f run old new o n result ran written =
-    done trace_work (run, drop run.first f.rig_after.log) f old new o n result (record { ran = ran; log_is = records_since run ran.script (image_in f.words) f.rig f.rig_after ran.ran }) written
+    done dix trace_work (run, drop run.first f.rig_after.log) f old new o n result (record { ran = ran; log_is = records_since run ran.script (image_in f.words) f.rig f.rig_after ran.ran }) written

@@ -17,7 +17,8 @@ use Rattle.call_refusal.specs.declared.refusal.Refusal.TheVariants as stop
 use Rattle.run_command.specs.declared.verdict.Finished.{Finished}
 use Rattle.dix_run.specs.Commands.{work_of}
 use Rattle.dix_run.specs.Headline.{OpensOnce}
-use Rattle.dix_run.specs.Verdict.{ByCause, Cause, CauseNotCommanded, CauseNotMirrored, CauseNotRun, Done, Facts, HasNoCommand, Refused, Verdict, WantsMemory, call_of}
+use Rattle.call_verdict.specs.Verdicts.{Cause, Done, Refused, Verdict}
+use Rattle.dix_run.specs.Verdict.{ByCause, CauseNotCommanded, CauseNotMirrored, CauseNotRun, Facts, HasNoCommand, WantsMemory, call_of, dix}
 use Rattle.dix_run.specs.declared.refusal.Refusal.{Refusal}
 use Rattle.dix_run.specs.declared.refusal.Refusal.TheVariants as refusal
 
@@ -113,7 +114,7 @@ wanting_opens : (f : Facts) (r : Refusal) → WantsMemory r f → OpensOnce f
 wanting_opens f r c = inl (stayed f.rig f.rig_after c.1)
 
 -- by what the words say
-pub opens : (c : Option Command) (f : Facts) (v : Verdict (work_of c).Yield) → Cause (work_of c) v f → OpensOnce f
+pub opens : (c : Option Command) (f : Facts) (v : Verdict Refusal (work_of c).Yield) → Cause dix (work_of c) v f → OpensOnce f
 opens None f (Refused r) c = none_opens f r c
 opens None f (Done x) c = absurd x
 opens (Some Run) f (Refused r) c = not_run_opens f r c

@@ -2,6 +2,5 @@ pub mod Commands
 pub mod Headline
 pub mod Passed
 pub mod ScrubText
-pub mod Statuses
 pub mod Verdict
 pub mod Grammar

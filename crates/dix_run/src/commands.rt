@@ -4,12 +4,12 @@ ghost use Rattle.std.specs.Prelude.{◌≡◌, ◌≤◌, ◌++◌, ℕ, List, O
 ghost use Rattle.target_answer.specs.Headers.{is_layout};
 ghost use Rattle.unit_words.specs.Words.{word_bytes};
 ghost use Rattle.dix_run.specs.Commands.{format_work, migrate_work, scrub_work};
-ghost use Rattle.dix_run.specs.Verdict.{EndedAs};
+ghost use Rattle.call_verdict.specs.Verdicts.{EndedAs, IsPassedOn};
+ghost use Rattle.dix_run.specs.Verdict.{dix};
 
-use crate::program::{finish, refuse, status_for};
 use crate::refusal::Refusal;
 use crate::scrub_text::{has_some, scrub_text};
-use crate::status::Status;
+use call_verdict::{Status, finish, refuse, status_for};
 use dix_base::Sink;
 use image_commands::{format_image, migrate_image, scrub_image};
 use report_text::{Line, add, add_number};
@@ -38,7 +38,7 @@ pub(crate) fn format<R: Rig, O: Sink>(
     out: &mut O,
 ) -> Status
     requires { is_layout units.now ≡ true }
-    ensures { (left : Option (List ℕ)) (reads : ℕ) → EndedAs (format_work units.now) (record {
+    ensures ended { (left : Option (List ℕ)) (reads : ℕ) → EndedAs dix (format_work units.now) (record {
       words = word_bytes words.now;
       left = left;
       left_after = left;
@@ -47,6 +47,7 @@ pub(crate) fn format<R: Rig, O: Sink>(
       rig = R.state rig.old;
       rig_after = R.state rig.new;
     }) (O.taken out.old) (O.taken out.new) (O.faults out.old) (O.faults out.new) result }
+    ensures handed { IsPassedOn result (O.passed out.new) (O.taken out.new) }
 {
     let units = units.as_slice();
     match format_image(alloc, image_of(words), units, rig) {
@@ -66,7 +67,7 @@ pub(crate) fn migrate<R: Rig, O: Sink>(
     rig: &mut R,
     out: &mut O,
 ) -> Status
-    ensures { (left : Option (List ℕ)) (reads : ℕ) → EndedAs migrate_work (record {
+    ensures ended { (left : Option (List ℕ)) (reads : ℕ) → EndedAs dix migrate_work (record {
       words = word_bytes words.now;
       left = left;
       left_after = left;
@@ -75,6 +76,7 @@ pub(crate) fn migrate<R: Rig, O: Sink>(
       rig = R.state rig.old;
       rig_after = R.state rig.new;
     }) (O.taken out.old) (O.taken out.new) (O.faults out.old) (O.faults out.new) result }
+    ensures handed { IsPassedOn result (O.passed out.new) (O.taken out.new) }
 {
     match migrate_image(alloc, image_of(words), rig) {
         Ok(count) => finish(
@@ -93,7 +95,7 @@ pub(crate) fn scrub<R: Rig, O: Sink>(
     rig: &mut R,
     out: &mut O,
 ) -> Status
-    ensures { (left : Option (List ℕ)) (reads : ℕ) → EndedAs scrub_work (record {
+    ensures ended { (left : Option (List ℕ)) (reads : ℕ) → EndedAs dix scrub_work (record {
       words = word_bytes words.now;
       left = left;
       left_after = left;
@@ -102,6 +104,7 @@ pub(crate) fn scrub<R: Rig, O: Sink>(
       rig = R.state rig.old;
       rig_after = R.state rig.new;
     }) (O.taken out.old) (O.taken out.new) (O.faults out.old) (O.faults out.new) result }
+    ensures handed { IsPassedOn result (O.passed out.new) (O.taken out.new) }
 {
     let mut found = Vec::new(alloc);
     let devices = match scrub_image(alloc, image_of(words), rig, &mut found) {

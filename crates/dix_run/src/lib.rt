@@ -12,9 +12,8 @@ mod program;
 mod refusal;
 mod running;
 mod scrub_text;
-mod status;
 
+pub use call_verdict::{Status, refuse};
 pub use command::{Command, command_of};
-pub use program::{refuse, run};
+pub use program::run;
 pub use refusal::Refusal;
-pub use status::Status;

@@ -3,11 +3,11 @@
 ghost use Rattle.unit_words.specs.Words.{word_bytes};
 ghost use Rattle.mirror_command.specs.Texts.{is_any_lost, mirror_text};
 ghost use Rattle.dix_run.specs.Commands.{mirror_work};
-ghost use Rattle.dix_run.specs.Verdict.{EndedAs, Facts, Written, done_status};
+ghost use Rattle.call_verdict.specs.Verdicts.{EndedAs, IsPassedOn, Written, done_status};
+ghost use Rattle.dix_run.specs.Verdict.{Facts, dix};
 
-use crate::program::{refuse, status_for};
 use crate::refusal::Refusal;
-use crate::status::Status;
+use call_verdict::{Status, refuse, status_for};
 use dix_base::{Failed, Sink, Source};
 use mirror_command::{Mirrored, mirror_source, print_mirrored};
 use rig_api::Rig;
@@ -16,8 +16,9 @@ use unit_words::image_of;
 
 /// Writes the report of a script on a mirror, and what its repair did.
 fn report_mirrored<O: Sink>(out: &mut O, run: &Mirrored) -> Status
-    ensures { Written (done_status (is_any_lost run.now.mirror.replies.items run.now.repair.lost))
+    ensures written { Written (done_status (is_any_lost run.now.mirror.replies.items run.now.repair.lost))
         (mirror_text run.now.mirror.replies.items run.now.repair.repaired run.now.repair.lost) (O.taken out.old) (O.taken out.new) (O.faults out.old) (O.faults out.new) result }
+    ensures handed { IsPassedOn result (O.passed out.new) (O.taken out.new) }
 {
     match print_mirrored(out, run) {
         Ok(()) => status_for(run.has_bad()),
@@ -33,7 +34,7 @@ pub(crate) fn mirror_image<S: Source, R: Rig, O: Sink>(
     rig: &mut R,
     out: &mut O,
 ) -> Status
-    ensures { let f : Facts = record {
+    ensures ended { let f : Facts = record {
       words = word_bytes words.now;
       left = S.left source.old;
       left_after = S.left source.new;
@@ -42,7 +43,8 @@ pub(crate) fn mirror_image<S: Source, R: Rig, O: Sink>(
       rig = R.state rig.old;
       rig_after = R.state rig.new;
     } in
-        EndedAs mirror_work f (O.taken out.old) (O.taken out.new) (O.faults out.old) (O.faults out.new) result }
+        EndedAs dix mirror_work f (O.taken out.old) (O.taken out.new) (O.faults out.old) (O.faults out.new) result }
+    ensures handed { IsPassedOn result (O.passed out.new) (O.taken out.new) }
 {
     match mirror_source(alloc, image_of(words), source, rig) {
         Ok(run) => report_mirrored(out, &run),

@@ -2,11 +2,11 @@
 
 ghost use Rattle.unit_words.specs.Words.{word_bytes};
 ghost use Rattle.dix_run.specs.Commands.{nvme_work};
-ghost use Rattle.dix_run.specs.Verdict.{EndedAs, Facts};
+ghost use Rattle.call_verdict.specs.Verdicts.{EndedAs, IsPassedOn};
+ghost use Rattle.dix_run.specs.Verdict.{Facts, dix};
 
-use crate::program::{finish, refuse, status_for};
 use crate::refusal::Refusal;
-use crate::status::Status;
+use call_verdict::{Status, finish, refuse, status_for};
 use dix_base::{Sink, Source};
 use nvme_command::do_commands;
 use rig_api::Rig;
@@ -21,7 +21,7 @@ pub(crate) fn nvme<S: Source, R: Rig, O: Sink>(
     rig: &mut R,
     out: &mut O,
 ) -> Status
-    ensures { let f : Facts = record {
+    ensures ended { let f : Facts = record {
       words = word_bytes words.now;
       left = S.left source.old;
       left_after = S.left source.new;
@@ -30,7 +30,8 @@ pub(crate) fn nvme<S: Source, R: Rig, O: Sink>(
       rig = R.state rig.old;
       rig_after = R.state rig.new;
     } in
-        EndedAs nvme_work f (O.taken out.old) (O.taken out.new) (O.faults out.old) (O.faults out.new) result }
+        EndedAs dix nvme_work f (O.taken out.old) (O.taken out.new) (O.faults out.old) (O.faults out.new) result }
+    ensures handed { IsPassedOn result (O.passed out.new) (O.taken out.new) }
 {
     match do_commands(alloc, image_of(words), source, rig) {
         Ok(done) => finish(out, &done.text, status_for(done.bad)),

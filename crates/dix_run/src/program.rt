@@ -1,9 +1,9 @@
 //! The top call.
 
-ghost use Rattle.std.specs.Prelude.{◌≡◌};
+ghost use Rattle.call_verdict.specs.Verdicts.{IsPassedOn};
 ghost use Rattle.unit_words.specs.Words.{word_bytes};
 ghost use Rattle.dix_run.specs.Headline.{Carries};
-ghost use Rattle.dix_run.specs.Verdict.{Facts, Written, done_status, refusal_text, status_of};
+ghost use Rattle.dix_run.specs.Verdict.{Facts};
 
 use crate::big::big;
 use crate::commands::{format, migrate, scrub};
@@ -12,36 +12,11 @@ use crate::modes::modes;
 use crate::nvme::nvme;
 use crate::refusal::Refusal;
 use crate::running::{run_image, trace_image};
-use crate::status::Status;
 use crate::{Command, command_of};
-use dix_base::{Failed, Sink, Source};
-use report_text::write_out;
+use call_verdict::{Status, refuse};
+use dix_base::{Sink, Source};
 use rig_api::Rig;
 use std::alloc::Global;
-
-/// Writes the text, and says what the call comes to.
-pub(crate) fn finish<O: Sink>(out: &mut O, text: &[u8], status: Status) -> Status
-    ensures { Written status text.now (O.taken out.old) (O.taken out.new) (O.faults out.old) (O.faults out.new) result }
-{
-    match write_out(out, text) {
-        Ok(()) => status,
-        Err(Failed) => Status::WriteFault,
-    }
-}
-
-/// Writes the line of a refusal.
-pub fn refuse<O: Sink>(out: &mut O, refusal: Refusal) -> Status
-    ensures { Written (status_of refusal) (refusal_text refusal) (O.taken out.old) (O.taken out.new) (O.faults out.old) (O.faults out.new) result }
-{
-    finish(out, refusal.line().as_slice(), refusal.status())
-}
-
-/// The status of a command that was done, by whether something failed in it.
-pub(crate) fn status_for(bad: bool) -> Status
-    ensures { result ≡ done_status bad }
-{
-    if bad { Status::SomeBad } else { Status::Whole }
-}
 
 /// Runs the program on its words, without its own name: does the command that they are, and writes
 /// its text. Only `run`, `trace`, `mirror` and `nvme` read the source.
@@ -52,7 +27,7 @@ pub fn run<S: Source, R: Rig, O: Sink>(
     rig: &mut R,
     out: &mut O,
 ) -> Status
-    ensures { let f : Facts = record {
+    ensures carries { let f : Facts = record {
       words = word_bytes words.now;
       left = S.left script.old;
       left_after = S.left script.new;
@@ -62,6 +37,7 @@ pub fn run<S: Source, R: Rig, O: Sink>(
       rig_after = R.state rig.new;
     } in
         Carries f (O.taken out.old) (O.taken out.new) (O.faults out.old) (O.faults out.new) result }
+    ensures handed { IsPassedOn result (O.passed out.new) (O.taken out.new) }
 {
     let Some(command) = command_of(words) else {
         return refuse(out, Refusal::Words);

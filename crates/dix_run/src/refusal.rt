@@ -3,8 +3,8 @@
 ghost use Rattle.std.specs.Prelude.{◌≡◌};
 ghost use Rattle.dix_run.specs.Verdict.{refusal_text, status_of, usage_text};
 
-use crate::status::Status;
 use call_refusal::Refusal as Stop;
+use call_verdict::{Reason, Status};
 use report_text::{Line, add};
 
 /// Why a call of the program comes to nothing.
@@ -20,27 +20,28 @@ impl Refusal {
     /// Want of memory.
     pub const MEMORY: Refusal = Refusal::Stopped(Stop::Memory);
 
-    /// The status of the refusal.
-    pub(crate) fn status(self) -> Status
-        ensures { result ≡ status_of self }
+    /// The rig failed, or may not be called.
+    pub const RIG_FAULT: Refusal = Refusal::Stopped(Stop::RigFault);
+}
+
+impl Reason for Refusal {
+    ghost ends = { λ r. status_of r };
+
+    ghost says = { λ r. refusal_text r };
+
+    fn status(&self) -> Status
+        ensures { result ≡ status_of self.now }
     {
-        match self {
+        match *self {
             Refusal::Words => Status::Words,
-            Refusal::Stopped(Stop::Script(_)) => Status::Script,
-            Refusal::Stopped(Stop::Image(_)) => Status::Image,
-            Refusal::Stopped(Stop::BadCapacity { .. }) => Status::Image,
-            Refusal::Stopped(Stop::Volume { .. }) => Status::Image,
-            Refusal::Stopped(Stop::RigFault) => Status::RigFault,
-            Refusal::Stopped(Stop::Memory) => Status::Memory,
-            Refusal::Stopped(Stop::ReadFault) => Status::ReadFault,
+            Refusal::Stopped(stop) => stop.status(),
         }
     }
 
-    /// The line that is written for the refusal.
-    pub(crate) fn line(self) -> Line
-        ensures { result.items ≡ refusal_text self }
+    fn line(&self) -> Line
+        ensures { result.items ≡ refusal_text self.now }
     {
-        match self {
+        match *self {
             Refusal::Words => usage_line(),
             Refusal::Stopped(stop) => stop.line(),
         }

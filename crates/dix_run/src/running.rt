@@ -6,11 +6,11 @@ ghost use Rattle.report_text.specs.Report.{report};
 ghost use Rattle.report_text.specs.Trace.{trace};
 ghost use Rattle.run_command.specs.Texts.{has_bad};
 ghost use Rattle.dix_run.specs.Commands.{run_work, trace_work};
-ghost use Rattle.dix_run.specs.Verdict.{EndedAs, Facts, Written, done_status};
+ghost use Rattle.call_verdict.specs.Verdicts.{EndedAs, IsPassedOn, Written, done_status};
+ghost use Rattle.dix_run.specs.Verdict.{Facts, dix};
 
-use crate::program::{refuse, status_for};
 use crate::refusal::Refusal;
-use crate::status::Status;
+use call_verdict::{Status, refuse, status_for};
 use dix_base::{Failed, Sink, Source};
 use rig_api::Rig;
 use run_command::{Finished, print_run, print_traced_run, run_source};
@@ -19,7 +19,8 @@ use unit_words::image_of;
 
 /// Writes the report of a run.
 fn report_run<O: Sink>(out: &mut O, run: &Finished) -> Status
-    ensures { Written (done_status (has_bad run.now.stack.replies.items)) (report run.now.stack.replies.items) (O.taken out.old) (O.taken out.new) (O.faults out.old) (O.faults out.new) result }
+    ensures written { Written (done_status (has_bad run.now.stack.replies.items)) (report run.now.stack.replies.items) (O.taken out.old) (O.taken out.new) (O.faults out.old) (O.faults out.new) result }
+    ensures handed { IsPassedOn result (O.passed out.new) (O.taken out.new) }
 {
     match print_run(out, run) {
         Ok(()) => status_for(run.has_bad()),
@@ -30,8 +31,9 @@ fn report_run<O: Sink>(out: &mut O, run: &Finished) -> Status
 /// Writes the report of a run, and behind it the trace of the records of its call.
 fn trace_run<O: Sink, R: Rig>(out: &mut O, run: &Finished, rig: &R) -> Status
     requires { run.now.first ≤ length (R.state rig.now).log }
-    ensures { Written (done_status (has_bad run.now.stack.replies.items))
+    ensures written { Written (done_status (has_bad run.now.stack.replies.items))
         (report run.now.stack.replies.items ++ trace (drop run.now.first (R.state rig.now).log)) (O.taken out.old) (O.taken out.new) (O.faults out.old) (O.faults out.new) result }
+    ensures handed { IsPassedOn result (O.passed out.new) (O.taken out.new) }
 {
     match print_traced_run(out, run, rig) {
         Ok(()) => status_for(run.has_bad()),
@@ -47,7 +49,7 @@ pub(crate) fn run_image<S: Source, R: Rig, O: Sink>(
     rig: &mut R,
     out: &mut O,
 ) -> Status
-    ensures { let f : Facts = record {
+    ensures ended { let f : Facts = record {
       words = word_bytes words.now;
       left = S.left source.old;
       left_after = S.left source.new;
@@ -56,7 +58,8 @@ pub(crate) fn run_image<S: Source, R: Rig, O: Sink>(
       rig = R.state rig.old;
       rig_after = R.state rig.new;
     } in
-        EndedAs run_work f (O.taken out.old) (O.taken out.new) (O.faults out.old) (O.faults out.new) result }
+        EndedAs dix run_work f (O.taken out.old) (O.taken out.new) (O.faults out.old) (O.faults out.new) result }
+    ensures handed { IsPassedOn result (O.passed out.new) (O.taken out.new) }
 {
     match run_source(alloc, image_of(words), source, rig) {
         Ok(run) => report_run(out, &run),
@@ -72,7 +75,7 @@ pub(crate) fn trace_image<S: Source, R: Rig, O: Sink>(
     rig: &mut R,
     out: &mut O,
 ) -> Status
-    ensures { let f : Facts = record {
+    ensures ended { let f : Facts = record {
       words = word_bytes words.now;
       left = S.left source.old;
       left_after = S.left source.new;
@@ -81,7 +84,8 @@ pub(crate) fn trace_image<S: Source, R: Rig, O: Sink>(
       rig = R.state rig.old;
       rig_after = R.state rig.new;
     } in
-        EndedAs trace_work f (O.taken out.old) (O.taken out.new) (O.faults out.old) (O.faults out.new) result }
+        EndedAs dix trace_work f (O.taken out.old) (O.taken out.new) (O.faults out.old) (O.faults out.new) result }
+    ensures handed { IsPassedOn result (O.passed out.new) (O.taken out.new) }
 {
     match run_source(alloc, image_of(words), source, rig) {
         Ok(run) => trace_run(out, &run, rig),

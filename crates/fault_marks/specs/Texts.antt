@@ -6,6 +6,7 @@ use Rattle.stack_ops.specs.declared.op.Op.{Op}
 use Rattle.stack_ops.specs.declared.op.Op.TheVariants.{Write, Fetch, WritePi, FetchPi}
 use Rattle.fault_marks.specs.Marks.{line_marked}
 use Rattle.fault_marks.specs.Sentences.{sentence}
+use Rattle.fault_marks.specs.Premises.{premise_lines}
 use Rattle.fault_marks.specs.Words.{line_at}
 
 -- What is said of a text that is judged.
@@ -30,6 +31,6 @@ abbrev pub all_asked : List Op → ℕ
 all_asked [] = 0
 all_asked (op ∷ ops) = blocks_asked op + all_asked ops
 
--- of a script without a fault: how many ops it has, how many blocks its requests ask for, how many faults it schedules
+-- of a script without a fault: how many ops it has, how many blocks its requests ask for, how many faults it schedules, and which premises it meets
 abbrev pub right_text : Script → List ℕ
-right_text script = codes "right ops " ++ (decimal (length script.ops) ++ (codes " blocks " ++ (decimal (all_asked script.ops) ++ (codes " faults " ++ (decimal (length script.faults) ++ codes "\n")))))
+right_text script = codes "right ops " ++ (decimal (length script.ops) ++ (codes " blocks " ++ (decimal (all_asked script.ops) ++ (codes " faults " ++ (decimal (length script.faults) ++ (codes "\n" ++ premise_lines script))))))

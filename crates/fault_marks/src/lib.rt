@@ -4,6 +4,7 @@
 
 mod lines;
 mod marks;
+mod premises;
 mod right;
 mod sentences;
 mod texts;

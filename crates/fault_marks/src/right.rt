@@ -3,6 +3,7 @@
 ghost use Rattle.std.specs.Prelude.{◌≡◌, ◌≤◌, ℕ, IfOk, length};
 ghost use Rattle.fault_marks.specs.Texts.{all_asked, blocks_asked, right_text};
 
+use crate::premises::add_premises;
 use crate::texts::add_number;
 use script_text::Script;
 use stack_ops::Op;
@@ -33,8 +34,8 @@ fn all_asked(ops: &[Op]) -> u64
     blocks
 }
 
-/// What is said of a script without a fault: how many ops it has, how many blocks its requests ask for,
-/// and how many faults it schedules.
+/// What is said of a script without a fault: how many ops it has, how many blocks its requests ask for, how many
+/// faults it schedules, and which premises of the theorems on a run it meets by its form.
 pub fn right_text(alloc: Global, script: &Script) -> Result<Vec<u8>, AllocError>
     requires { length script.now.ops ≤ 1024 }
     ensures { IfOk result (λ v. v.items ≡ right_text script.now) }
@@ -48,5 +49,6 @@ pub fn right_text(alloc: Global, script: &Script) -> Result<Vec<u8>, AllocError>
     out.extend_from_slice(b" faults ")?;
     add_number(&mut out, script.faults.as_slice().len() as u64)?;
     out.extend_from_slice(b"\n")?;
+    add_premises(alloc, &mut out, script)?;
     Ok(out)
 }

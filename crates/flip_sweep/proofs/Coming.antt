@@ -1,10 +1,10 @@
 -- A run over the formatted image of units, in memory, comes to what its script does; or why it comes to nothing.
 use Rattle.std.proofs.Common.{◌≡◌, ℕ, suc, ◌*◌, ◌^◌, ◌<◌, ◌≤◌, true, List, [], ◌∷◌, length, take, drop, Option, Some, None, refl, sym, ap, subst, ◌∙◌, arith}
 use Rattle.std.proofs.lemmas.List.{drop_at, length-take}
-use Rattle.image_scripts.specs.Over.{image_with, left_by, opening_over, replied, setting_over, volume_over}
-use Rattle.image_scripts.proofs.FreshHead.{right_head, units_back}
-use Rattle.image_scripts.proofs.Got.{got_walked}
-use Rattle.image_scripts.proofs.Told.{IsAfter, after, head_asked, image_after, units_asked}
+use Rattle.image_laws.specs.Over.{image_with, left_by, opening_over, replied, setting_over, volume_over}
+use Rattle.image_laws.proofs.FreshHead.{right_head, units_back}
+use Rattle.image_laws.proofs.Got.{got_walked}
+use Rattle.image_laws.proofs.Told.{IsAfter, after, head_asked, image_after, units_asked}
 use Rattle.image_rig.proofs.Heads.{right_units, right_head as right_parts}
 use Rattle.page_pool.specs.Cells.{flat}
 use Rattle.rig_api.specs.Head.{Head, head_fault, head_of}
@@ -29,8 +29,8 @@ use Rattle.volume_table.specs.declared.device.DeviceInfo.{DeviceInfo}
 use Rattle.block_path.specs.Acts.{State}
 use Rattle.stack_ops.specs.declared.op.Op.{Op}
 use Rattle.stack_ops.specs.declared.reply.Reply.{Reply}
-use Rattle.whole_run.specs.ScriptWalk.{replies_from}
-use Rattle.whole_run.specs.Settings.{Setting}
+use Rattle.walk_laws.specs.ScriptWalk.{replies_from}
+use Rattle.walk_laws.specs.Settings.{Setting}
 use Rattle.flip_sweep.specs.Comes.{CameTo, came_to, seen_of}
 use Rattle.flip_sweep.specs.Swept.{CauseNoRun}
 use Rattle.flip_sweep.specs.declared.runs.Came.{Came as CameRun}

@@ -5,7 +5,7 @@ use Rattle.stack_ops.specs.declared.reply.Reply.{Reply}
 use Rattle.target_answer.specs.Frames.{joined}
 use Rattle.target_answer.specs.Image.{formatted}
 use Rattle.target_answer.specs.declared.units.UnitSpec.{UnitSpec}
-use Rattle.image_scripts.specs.Over.{left_by, replied}
+use Rattle.image_laws.specs.Over.{left_by, replied}
 use Rattle.script_text.specs.declared.script.Script.{Script}
 use Rattle.flip_sweep.specs.declared.runs.Came.{Came}
 use Rattle.page_pool.specs.declared.TheConstants.{PAGE}

@@ -1,7 +1,7 @@
 -- The text of a sweep, by byte, units and script alone.
 use Rattle.std.specs.Prelude.{ℕ, zero, suc, ◌≡◌, ◌+◌, ◌⊎◌, ltb, Bool, List, [], ◌∷◌, ◌++◌, Option, Some, None, Result, Ok, Err}
 use Rattle.dix_base.specs.Told.{Appended, AppendedSome, Rose}
-use Rattle.image_scripts.specs.Over.{volume_over}
+use Rattle.image_laws.specs.Over.{volume_over}
 use Rattle.script_text.specs.Bindings.{binding_fault}
 use Rattle.script_text.specs.declared.fault.ScriptFault.{ScriptFault}
 use Rattle.script_text.specs.declared.script.Script.{Script}

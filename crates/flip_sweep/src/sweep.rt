@@ -1,6 +1,6 @@
 //! All flips of a script.
 
-ghost use Rattle.std.specs.Prelude.{◌≡◌, ◌+◌, ◌≤◌, ◌<◌, ◌^◌, [], IfErr, IfOk, IsErrOf, OnErr, OnOk, length, true};
+ghost use Rattle.std.specs.Prelude.{◌≡◌, ◌+◌, ◌≤◌, ◌<◌, ◌^◌, [], IfErr, IfOk, IsErrOf, OnErr, OnOk, length, true, Err};
 ghost use Rattle.dix_base.specs.Told.{Appended, AppendedSome, Rose};
 ghost use Rattle.run_command.specs.Working.{IsSound};
 ghost use Rattle.target_answer.specs.Headers.{is_layout};
@@ -298,6 +298,8 @@ fn sweep_ground<O: Sink>(alloc: Global, base: &Ground<'_>, out: &mut O) -> Resul
     requires base { IsGround base.now }
     ensures swept { SweepEnds result (swept_in base.now) (O.faults out.old) (O.faults out.new) (O.taken out.old) (O.taken out.new) }
     ensures count { O.faults out.old ≤ O.faults out.new }
+    ensures handed { OnOk result (O.passed out.new ≡ O.taken out.new) }
+    ensures halted { result ≡ Err (Unswept.Halted Halt.Memory) → O.passed out.new ≡ O.taken out.new }
 {
     let Ok(sites) = sites_of(alloc, base.script.ops.as_slice()) else {
         return Err(Unswept::Stopped(Refusal::Memory));
@@ -329,6 +331,8 @@ pub fn sweep_script<O: Sink>(
     requires byte { 1 ≤ byte }
     ensures swept { SweepEnds result (record { byte = byte; units = units.now; script = script.now }) (O.faults out.old) (O.faults out.new) (O.taken out.old) (O.taken out.new) }
     ensures count { O.faults out.old ≤ O.faults out.new }
+    ensures handed { OnOk result (O.passed out.new ≡ O.taken out.new) }
+    ensures halted { result ≡ Err (Unswept.Halted Halt.Memory) → O.passed out.new ≡ O.taken out.new }
 {
     let base = match begun(alloc, byte, units, script) {
         Ok(base) => base,

@@ -11,19 +11,20 @@ use Rattle.dix_run.specs.declared.command.Command.{Command}
 use Rattle.dix_run.specs.declared.command.Command.TheVariants as command
 use Rattle.report_text.specs.Report.{report}
 use Rattle.script_text.specs.declared.script.Script.{Script}
-use Rattle.image_scripts.proofs.Passed.{complete, same_script}
-use Rattle.image_scripts.specs.Passed.{has_bad, CauseRefused, HasRun, Finished}
+use Rattle.image_laws.proofs.Passed.{complete, same_script}
+use Rattle.image_laws.specs.Passed.{has_bad, CauseRefused, HasRun, Finished}
 use Rattle.call_refusal.specs.declared.refusal.Refusal.{Refusal as Stop}
 use Rattle.call_refusal.specs.declared.refusal.Refusal.TheVariants as stop
 use Rattle.dix_run.proofs.Passed.{complete as mirror_complete}
 use Rattle.dix_run.specs.Passed.{is_any_lost, mirror_text, CauseRefused as CauseUnmirrored, HasMirrored, Mirrored}
 use Rattle.dix_run.specs.Commands.{mirror_work, run_work, work_of}
 use Rattle.dix_run.specs.Headline.{Carries}
-use Rattle.dix_run.specs.Verdict.{Cause, CauseNotMirrored, CauseNotRun, Done, EndedAs, Facts, Refused, Verdict, Work, Written, call_of, done_status, status_of, verdict_status, verdict_text}
+use Rattle.call_verdict.specs.Verdicts.{Cause, Done, EndedAs, Refused, Verdict, Work, Written, done_status, verdict_status, verdict_text}
+use Rattle.dix_run.specs.Verdict.{CauseNotMirrored, CauseNotRun, Facts, call_of, dix, status_of}
 use Rattle.dix_run.specs.declared.refusal.Refusal.{Refusal}
 use Rattle.dix_run.specs.declared.refusal.Refusal.TheVariants as refusal
-use Rattle.dix_run.specs.declared.status.Status.{Status}
-use Rattle.dix_run.specs.declared.status.Status.TheVariants as status
+use Rattle.call_verdict.specs.declared.status.Status.{Status}
+use Rattle.call_verdict.specs.declared.status.Status.TheVariants as status
 use Rattle.headline.specs.Headline.{FitsImage, FitsMirror}
 use Rattle.headline.specs.Words.{words_for}
 use Rattle.headline.specs.declared.way.Way.{Way}
@@ -44,11 +45,11 @@ pub record IsCalled (way : Way) (image text image' : List ℕ) (f : Facts) : Typ
 -- ---- its text
 
 -- What a call that came to an end wrote.
-pub record HasWritten (w : Work) (v : Verdict w.Yield) (result : Status) (text' : List ℕ) : Type 0 where
-  pub status_is : result ≡ verdict_status w v
-  pub text_is : text' ≡ verdict_text w v
+pub record HasWritten (w : Work dix) (v : Verdict Refusal w.Yield) (result : Status) (text' : List ℕ) : Type 0 where
+  pub status_is : result ≡ verdict_status dix w v
+  pub text_is : text' ≡ verdict_text dix w v
 
-wrote : (w : Work) (v : Verdict w.Yield) (text' : List ℕ) (o n : ℕ) (result : Status) → (result ≡ status.WriteFault → ⊥) → Written (verdict_status w v) (verdict_text w v) (Some []) (Some text') o n result → HasWritten w v result text'
+wrote : (w : Work dix) (v : Verdict Refusal w.Yield) (text' : List ℕ) (o n : ℕ) (result : Status) → (result ≡ status.WriteFault → ⊥) → Written (verdict_status dix w v) (verdict_text dix w v) (Some []) (Some text') o n result → HasWritten w v result text'
 wrote w v text' o n result good (inl e) = record { status_is = e.0; text_is = e.1 }
 wrote w v text' o n result good (inr e) = absurd (good e.0)
 
@@ -93,10 +94,10 @@ pub record CameToRun (script : Script) (f : Facts) (result : Status) (text' : Li
 pub came_to_run : (script : Script) (image text image' text' : List ℕ) (f : Facts) (o n : ℕ) (result : Status) → IsCalled Run image text image' f → head_fault (head_of image) ≡ None → FitsImage script image text → (result ≡ status.Memory → ⊥) → (result ≡ status.WriteFault → ⊥) →
     Carries f (Some []) (Some text') o n result → CameToRun script f result text'
 came_to_run script image text image' text' f o n result called right fits memory sink carries = by ended.verdict ended.cause (wrote run_work ended.verdict text' o n result sink ended.written) where
-  ended : EndedAs run_work f (Some []) (Some text') o n result
-  ended = let named : command_in f.words ≡ Some command.Run = ap command_in called.words in subst (λ (c : Option Command). EndedAs (work_of c) f (Some []) (Some text') o n result) named carries.ended
+  ended : EndedAs dix run_work f (Some []) (Some text') o n result
+  ended = let named : command_in f.words ≡ Some command.Run = ap command_in called.words in subst (λ (c : Option Command). EndedAs dix (work_of c) f (Some []) (Some text') o n result) named carries.ended
 
-  by : (v : Verdict Finished) → Cause run_work v f → HasWritten run_work v result text' → CameToRun script f result text'
+  by : (v : Verdict Refusal Finished) → Cause dix run_work v f → HasWritten run_work v result text' → CameToRun script f result text'
   by (Refused r) cause w = absurd (memory (w.status_is ∙ refused_for_memory f r called.faults cause (λ s c. complete s (call_of f) c text image script called.text_is fits.language called.image_is right fits.volume fits.lines called.reads)))
   by (Done run) cause w = record {
     run = run;
@@ -116,10 +117,10 @@ pub record CameToMirror (script : Script) (f : Facts) (result : Status) (text' :
 pub came_to_mirror : (script : Script) (image text image' text' : List ℕ) (f : Facts) (o n : ℕ) (result : Status) → IsCalled Mirror image text image' f → head_fault (head_of image) ≡ None → FitsMirror script image text → (result ≡ status.Memory → ⊥) → (result ≡ status.WriteFault → ⊥) →
     Carries f (Some []) (Some text') o n result → CameToMirror script f result text'
 came_to_mirror script image text image' text' f o n result called right fits memory sink carries = by ended.verdict ended.cause (wrote mirror_work ended.verdict text' o n result sink ended.written) where
-  ended : EndedAs mirror_work f (Some []) (Some text') o n result
-  ended = let named : command_in f.words ≡ Some command.Mirror = ap command_in called.words in subst (λ (c : Option Command). EndedAs (work_of c) f (Some []) (Some text') o n result) named carries.ended
+  ended : EndedAs dix mirror_work f (Some []) (Some text') o n result
+  ended = let named : command_in f.words ≡ Some command.Mirror = ap command_in called.words in subst (λ (c : Option Command). EndedAs dix (work_of c) f (Some []) (Some text') o n result) named carries.ended
 
-  by : (v : Verdict Mirrored) → Cause mirror_work v f → HasWritten mirror_work v result text' → CameToMirror script f result text'
+  by : (v : Verdict Refusal Mirrored) → Cause dix mirror_work v f → HasWritten mirror_work v result text' → CameToMirror script f result text'
   by (Refused r) cause w = absurd (memory (w.status_is ∙ unmirrored_for_memory f r called.faults cause (λ s c. mirror_complete s (call_of f) c text image script called.text_is fits.language called.image_is right fits.volume fits.lines called.reads)))
   by (Done run) cause w = record {
     run = run;

@@ -16,15 +16,15 @@ use Rattle.volume_table.specs.Places.{place_in, volume_len}
 use Rattle.volume_table.specs.Tables.{IsOn, MadeFor}
 use Rattle.volume_table.specs.declared.device.DeviceInfo.{DeviceInfo}
 use Rattle.dix_adapter.specs.Ways.{blocks_told, cell_in, shapes_of}
-use Rattle.whole_run.specs.Past.{brought_by}
-use Rattle.whole_run.specs.UnderMap.{address_of, home}
-use Rattle.whole_run.proofs.TupleFrames.{Small, data_is, tuple_is}
+use Rattle.walk_laws.specs.Past.{brought_by}
+use Rattle.walk_laws.specs.UnderMap.{address_of, home}
+use Rattle.walk_laws.proofs.TupleFrames.{Small, data_is, tuple_is}
 use Rattle.image_rig.proofs.Heads.{layout_parts}
-use Rattle.script_premises.proofs.Fresh.{blocks_are, fresh_unit, shapes_are, cell_is}
+use Rattle.script_form_laws.proofs.Fresh.{blocks_are, fresh_unit, shapes_are, cell_is}
 use Rattle.script_text.specs.declared.script.Script.{Script}
-use Rattle.image_scripts.specs.Passed.{devices_of}
+use Rattle.image_laws.specs.Passed.{devices_of}
 use Rattle.headline.specs.Headline.{blocks_in, half_over, mirror_over, volume_over}
-use Rattle.image_scripts.proofs.FreshHead.{units_back}
+use Rattle.image_laws.proofs.FreshHead.{units_back}
 
 -- ---- the block of an address
 

@@ -15,32 +15,33 @@ use Rattle.rig_discovery.specs.Discovery.{info_of}
 use Rattle.volume_table.specs.Tables.{MadeFor, Table}
 use Rattle.volume_table.specs.declared.device.DeviceInfo.{DeviceInfo}
 use Rattle.dix_adapter.specs.Ways.{blocks_told, cell_in, shapes_of}
-use Rattle.whole_run.specs.PlainMap.{as_expected}
-use Rattle.whole_run.specs.Settings.{Setting}
-use Rattle.whole_run.specs.UnderMap.{address_of}
+use Rattle.walk_laws.specs.PlainMap.{as_expected}
+use Rattle.walk_laws.specs.Settings.{Setting}
+use Rattle.walk_laws.specs.UnderMap.{address_of}
 use Rattle.run_laws.specs.ShownRun.{DevicesAreClean}
 use Rattle.image_rig.proofs.Heads.{layout_parts}
 use Rattle.run_premises.proofs.Escapes.{none_supplied}
-use Rattle.script_premises.proofs.Fresh.{formatted_clean, shapes_are}
+use Rattle.script_form_laws.proofs.Fresh.{formatted_clean, shapes_are}
 use Rattle.script_text.specs.declared.script.Script.{Script}
-use Rattle.image_scripts.specs.Passed.{IsFormedRun, IsPlainRun, has_bad, AllReadRightly, Followed, HasRun, WasAsked, devices_of, table_over, Finished}
-use Rattle.image_scripts.proofs.Passed.{table_is, image_devices}
+use Rattle.image_laws.specs.Passed.{IsFormedRun, IsPlainRun, has_bad, AllReadRightly, Followed, HasRun, WasAsked, devices_of, table_over, Finished}
+use Rattle.image_laws.proofs.Passed.{table_is, image_devices}
 use Rattle.dix_run.specs.Passed.{HasServedMirror, is_any_lost, mirror_text, HasMirrored, Mirrored, BothHoldLast, WasEnough, IsOneGoodRun}
 use Rattle.report_text.specs.Report.{report}
 use Rattle.dix_run.specs.Headline.{Carries}
-use Rattle.dix_run.specs.Verdict.{Facts, done_status}
-use Rattle.dix_run.specs.declared.status.Status.{Status}
-use Rattle.dix_run.specs.declared.status.Status.TheVariants as status
+use Rattle.call_verdict.specs.Verdicts.{done_status}
+use Rattle.dix_run.specs.Verdict.{Facts}
+use Rattle.call_verdict.specs.declared.status.Status.{Status}
+use Rattle.call_verdict.specs.declared.status.Status.TheVariants as status
 use Rattle.headline.specs.Headline.{AreEqualLegs, FitsImage, FitsMirror, HasGoodLegs, Headline, IsClean, IsFaultless, IsFormedText, IsFound, IsFresh, IsMended, IsMirrored, IsPlain, IsStill, IsWalked, blocks_in, mended_over, mirror_over, opening_over, replied_on_mirror, setting_over, volume_over}
 use Rattle.headline.specs.Words.{IsTold, wants_memory, words_for}
 use Rattle.headline.specs.declared.way.Way.{Way}
 use Rattle.headline.specs.declared.way.Way.TheVariants.{Mirror, Run}
 use Rattle.headline.proofs.Coming.{CameToMirror, CameToRun, IsCalled, came_to_mirror, came_to_run}
-use Rattle.image_scripts.proofs.FreshHead.{right_head, units_back}
+use Rattle.image_laws.proofs.FreshHead.{right_head, units_back}
 use Rattle.headline.proofs.FreshLegs.{equal_legs}
-use Rattle.image_scripts.proofs.Got.{got_formed, got_plain, got_walked}
+use Rattle.image_laws.proofs.Got.{got_formed, got_plain, got_walked}
 use Rattle.headline.proofs.GotMirrored.{got_enough, got_served}
-use Rattle.image_scripts.proofs.Told.{IsAfter, after, head_asked, image_after, units_asked}
+use Rattle.image_laws.proofs.Told.{IsAfter, after, head_asked, image_after, units_asked}
 
 -- ---- over the image
 

@@ -8,8 +8,8 @@ use Rattle.run_laws.specs.ShownRun.{DevicesAreClean}
 use Rattle.target_answer.specs.Target.{Stored}
 use Rattle.target_answer.specs.declared.units.UnitSpec.{UnitSpec}
 use Rattle.volume_table.specs.declared.device.DeviceInfo.{DeviceInfo}
-use Rattle.whole_run.specs.PlainMap.{as_expected}
-use Rattle.whole_run.specs.Settings.{Setting}
+use Rattle.walk_laws.specs.PlainMap.{as_expected}
+use Rattle.walk_laws.specs.Settings.{Setting}
 
 -- The devices are those of the units. Their blocks are told, are bytes, and are clean for every volume over them of a type with tuples under which the application tag 0 is the expected one.
 abbrev pub TellsFresh : List UnitSpec → List DeviceInfo → RigState → Type 0

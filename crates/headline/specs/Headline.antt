@@ -9,27 +9,27 @@ use Rattle.rig_api.specs.Head.{head_fault, head_of}
 use Rattle.rig_api.specs.Telling.{own_units}
 use Rattle.stack_ops.specs.declared.reply.Reply.{Reply}
 use Rattle.volume_table.specs.Faults.{table_fault}
-use Rattle.whole_run.specs.Detectable.{detectable}
-use Rattle.whole_run.specs.Past.{brought_by}
-use Rattle.whole_run.specs.PlainMap.{Plain, as_expected, plain_map, plain_replies}
-use Rattle.whole_run.specs.Settings.{Setting}
-use Rattle.whole_run.specs.Steps.{Step}
-use Rattle.whole_run.specs.UnderMap.{AreClean, NoEscape, NoneEscapes, home, opened, under}
+use Rattle.walk_laws.specs.Detectable.{detectable}
+use Rattle.walk_laws.specs.Past.{brought_by}
+use Rattle.walk_laws.specs.PlainMap.{Plain, as_expected, plain_map, plain_replies}
+use Rattle.walk_laws.specs.Settings.{Setting}
+use Rattle.walk_laws.specs.Steps.{Step}
+use Rattle.walk_laws.specs.UnderMap.{AreClean, NoEscape, NoneEscapes, home, opened, under}
 use Rattle.run_laws.specs.ShownRun.{DevicesAreClean}
 use Rattle.run_premises.specs.Forms.{escapes_none, shows_by_form}
 use Rattle.stack_ops.specs.Ops.{is_overwrite}
 use Rattle.script_text.specs.Language.{script_in}
 use Rattle.script_text.specs.declared.script.Script.{Script}
-use Rattle.image_scripts.specs.Passed.{has_bad, AllReadRightly, devices_of}
+use Rattle.image_laws.specs.Passed.{has_bad, AllReadRightly, devices_of}
 use Rattle.mirror_script.specs.MirrorFaults.{mirror_fault}
-use Rattle.mirror_walk.specs.Mirror.{mirror_replies}
-use Rattle.mirror_walk.specs.OneGood.{OneGood, script_asks}
-use Rattle.mirror_walk.specs.Repair.{WalkedRepair}
+use Rattle.mirror_laws.specs.Mirror.{mirror_replies}
+use Rattle.mirror_laws.specs.OneGood.{OneGood, script_asks}
+use Rattle.mirror_laws.specs.Repair.{WalkedRepair}
 use Rattle.dix_run.specs.Passed.{repair_over, is_any_lost, mirror_text, AllReadLast, BothHoldLast, half_of, mirror_setting}
 use Rattle.report_text.specs.Report.{report}
-use Rattle.dix_run.specs.Verdict.{done_status}
-use Rattle.dix_run.specs.declared.status.Status.{Status}
-pub use Rattle.image_scripts.specs.Over.{FitsImage, IsClean, blocks_in, image_with, left_by, opening_over, replied, setting_over, volume_over}
+use Rattle.call_verdict.specs.Verdicts.{done_status}
+use Rattle.call_verdict.specs.declared.status.Status.{Status}
+pub use Rattle.image_laws.specs.Over.{FitsImage, IsClean, blocks_in, image_with, left_by, opening_over, replied, setting_over, volume_over}
 use Rattle.headline.specs.declared.way.Way.{Way}
 use Rattle.headline.specs.declared.way.Way.TheVariants.{Mirror, Run}
 

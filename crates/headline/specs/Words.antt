@@ -2,8 +2,8 @@ use Rattle.std.specs.Prelude.{ℕ, ◌≡◌, Bool, true, false, List, [], ◌�
 use Rattle.target_answer.specs.Target.{Stored}
 use Rattle.rig_api.specs.Telling.{IsStanding, Standing, units_told}
 use Rattle.script_text.specs.declared.script.Script.{Script}
-use Rattle.dix_run.specs.declared.status.Status.{Status}
-use Rattle.dix_run.specs.declared.status.Status.TheVariants as status
+use Rattle.call_verdict.specs.declared.status.Status.{Status}
+use Rattle.call_verdict.specs.declared.status.Status.TheVariants as status
 use Rattle.headline.specs.declared.way.Way.{Way}
 use Rattle.headline.specs.declared.way.Way.TheVariants.{Run, Mirror}
 
@@ -26,7 +26,7 @@ abbrev pub wants_memory : Status → Bool
 wants_memory status.Whole = false
 wants_memory status.SomeBad = false
 wants_memory status.Words = false
-wants_memory status.Script = false
+wants_memory status.Input = false
 wants_memory status.Image = false
 wants_memory status.RigFault = false
 wants_memory status.Memory = true

@@ -5,14 +5,14 @@ ghost use Rattle.dix_run.specs.Passed.{WasFormatted};
 ghost use Rattle.rig_api.specs.Head.{head_fault, head_of, units_of};
 ghost use Rattle.rig_api.specs.State.{RigState};
 ghost use Rattle.rig_discovery.specs.Discovery.{info_of};
-ghost use Rattle.image_scripts.specs.Passed.{WasAsked, devices_of};
+ghost use Rattle.image_laws.specs.Passed.{WasAsked, devices_of};
 ghost use Rattle.target_answer.specs.Headers.{is_layout};
 ghost use Rattle.target_answer.specs.Image.{formatted};
 ghost use Rattle.target_answer.specs.declared.units.UnitSpec.{UnitSpec as AnyUnit};
 ghost use Rattle.headline.specs.Fresh.{TellsFresh};
 ghost use Rattle.volume_table.specs.declared.device.DeviceInfo.{DeviceInfo as AnyDevice};
 
-use script_premises::a_formatted_image_is_clean;
+use script_form_laws::a_formatted_image_is_clean;
 
 /// A law: what a rig that tells its image was formatted with is the formatted image of these units; it has a right head,
 /// which tells these units. Once its devices were asked, the rig tells these units and their blocks; and these are bytes,

@@ -1,6 +1,7 @@
 //! A sink in memory that takes all of a report.
 
-ghost use Rattle.std.specs.Prelude.{◌≡◌, ◌≤◌, ◌<◌, ◌++◌, [], length, take, Some, IfOk, OnErr, OnOk};
+ghost use Rattle.std.specs.Prelude.{◌≡◌, ◌≤◌, ◌<◌, ◌++◌, [], length, take, Some, IfOk, IsOk, OnErr, OnOk};
+ghost use Rattle.std.proofs.Math.Seq.{take-length};
 ghost use Rattle.dix_base.specs.Told.{Rose};
 
 use dix_base::{Failed, Sink};
@@ -44,6 +45,8 @@ impl ReportSink {
 impl Sink for ReportSink {
     ghost taken = { λ s. Some s.bytes };
 
+    ghost passed = { λ s. Some s.bytes };
+
     ghost faults = { λ s. s.faults };
 
     /// Takes the whole piece.
@@ -62,4 +65,14 @@ impl Sink for ReportSink {
         }
         Ok(bytes.len())
     }
+
+    /// It holds nothing back.
+    fn flush(&mut self) -> Result<(), Failed>
+        ensures same { self.new ≡ self.old }
+        ensures calm { IsOk result }
+    {
+        Ok(())
+    }
+
+    ghost behind = { λ s. take-length s.bytes };
 }

@@ -12,11 +12,12 @@ use crate::overwriting::change_block;
 use crate::place::{greatest_size, logical};
 use crate::{ImageHead, ImageRig, Log, look};
 use arrayvec::ArrayVec;
+use cdb_codec::Cdb;
 use dix_base::{Failed, Store, StoreFault};
 use fault_schedule::{FaultList, Label, Tamper};
-use rig_api::{Change, Outcome, Record, Rig, RigFault, UnitSpec};
+use rig_api::{Change, Exchanged, Outcome, Record, Rig, RigFault, UnitSpec};
 use std::alloc::{AllocError, Global};
-use target_model::serve;
+use target_model::serve_command;
 
 impl<S: Store> ImageRig<S> {
     /// A rig over this store, with no image opened, no fault armed and nothing in its log.
@@ -153,9 +154,19 @@ impl<S: Store> Rig for ImageRig<S> {
         into: &mut [u8],
     ) -> Outcome {
         let unit = logical(&self.units, dev as usize);
-        let outcome = serve(&mut self.store, &unit, cdb, labels, out, into, &self.tamper);
-        self.log
-            .note(unit.size, dev, cdb, labels, outcome, out, into);
+        let command = Cdb::decode(cdb);
+        let tamper = &self.tamper;
+        let outcome = serve_command(&mut self.store, &unit, command, labels, out, into, tamper);
+        self.log.note(&Exchanged {
+            dev,
+            size: unit.size,
+            cdb,
+            command,
+            labels,
+            outcome,
+            out,
+            into,
+        });
         outcome
     }
 }

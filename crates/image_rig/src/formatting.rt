@@ -12,11 +12,11 @@ ghost use Rattle.image_rig.specs.Small.{is_small};
 use dix_base::{Store, StoreFault};
 use pi_tuple::{PiType, make, own_tag};
 use std::alloc::Global;
-use target_answer::{MOST_FRAME, UnitSpec, Version, header, stored_size};
+use target_answer::{MOST_FRAME, UnitSpec, Version, header, put_tuple, stored_size};
 
 /// Puts the tuple of a formatted block behind zeros: guard 0, which is that of zeros, application tag 0,
 /// and the block's own reference tag.
-fn put_tuple(frame: &mut [u8], ty: PiType, size: u32, lba: u64)
+fn put_fresh(frame: &mut [u8], ty: PiType, size: u32, lba: u64)
     requires long { length frame.old ≡ stored_size ty size }
     requires zeros { take size frame.old ≡ replicate size 0 }
     ensures frame { frame.new ≡ fresh ty size lba }
@@ -25,10 +25,7 @@ fn put_tuple(frame: &mut [u8], ty: PiType, size: u32, lba: u64)
 {
     match ty {
         PiType::Zero => {}
-        _ => {
-            let tuple = make(0, 0, own_tag(ty, lba)).to_bytes();
-            frame[size as usize..].copy_from_slice(&tuple);
-        }
+        _ => put_tuple(frame, size as usize, make(0, 0, own_tag(ty, lba))),
     }
 }
 
@@ -47,7 +44,7 @@ fn append_blocks<S: Store>(
     ensures stays { WasExtended (S.state store.old) (S.state store.new) }
 {
     for k in 0..unit.blocks {
-        put_tuple(frame, unit.ty, unit.size, unit.first + k);
+        put_fresh(frame, unit.ty, unit.size, unit.first + k);
         store.append(alloc, frame)?;
     }
     Ok(())

@@ -1,6 +1,6 @@
 //! The stored blocks of a place, line by line.
 
-ghost use Rattle.std.specs.Prelude.{◌≡◌, ◌*◌, ◌≤◌, length};
+ghost use Rattle.std.specs.Prelude.{◌≡◌, ◌*◌, ◌≤◌, length, OnOk, Err};
 ghost use Rattle.target_answer.specs.Headers.{image_size};
 ghost use Rattle.image_rig.specs.LayoutPlaces.{block_len};
 ghost use Rattle.image_blocks.specs.Images.{units_open};
@@ -126,6 +126,7 @@ pub fn show_blocks<S: Store, O: Sink>(
         (S.state store.old).faults (S.state store.new).faults (O.faults out.old) (O.faults out.new) (O.taken out.old) (O.taken out.new) }
     ensures store { WasRead (S.state store.old) (S.state store.new) }
     ensures sinks { O.faults out.old ≤ O.faults out.new }
+    ensures handed { (result ≡ Err WalkFault.Sink → ⊥) → O.passed out.new ≡ O.taken out.new }
 {
     let ended = show_all(store, image, place, room, out);
     match out.flush() {

@@ -1,6 +1,6 @@
 //! Blocks to a dump.
 
-ghost use Rattle.std.specs.Prelude.{◌≡◌, ◌*◌, ◌≤◌, OnErr, OnOk, length};
+ghost use Rattle.std.specs.Prelude.{◌≡◌, ◌*◌, ◌≤◌, OnErr, OnOk, length, Err};
 ghost use Rattle.dix_base.specs.Told.{Appended, AppendedSome, Rose};
 ghost use Rattle.target_answer.specs.Frames.{frames_of, stored_size};
 ghost use Rattle.target_answer.specs.Headers.{image_size};
@@ -163,6 +163,7 @@ pub fn export_blocks<S: Store, O: Sink>(
         (S.state store.old).faults (S.state store.new).faults (O.faults out.old) (O.faults out.new) (O.taken out.old) (O.taken out.new) }
     ensures store { WasRead (S.state store.old) (S.state store.new) }
     ensures sinks { O.faults out.old ≤ O.faults out.new }
+    ensures handed { (result ≡ Err WalkFault.Sink → ⊥) → O.passed out.new ≡ O.taken out.new }
 {
     let ended = export_all(store, image, place, layout, room, out);
     match out.flush() {

@@ -11,7 +11,7 @@ ghost use Rattle.dix_base.specs.Stores.{WasRead, WasWritten};
 ghost use Rattle.image_text.specs.Ends.{ArePieces, AreSome, CanTake, HasOwn, ImportEnds, KeepsOutside, TakingEnds, behind_pieces, each_len, pieces_of};
 ghost use Rattle.target_answer.specs.declared.TheConstants.{MOST_FRAME};
 
-use crate::fault::ImportFault;
+use crate::dumps_fault::ImportFault;
 use crate::layout::{Layout, piece_len};
 use crate::pieces::{fill, put_pieces};
 use dix_base::{Failed, Source, Store};

@@ -3,7 +3,7 @@
 
 mod blocks;
 mod diff;
-mod diff_blocks;
+mod diff_walk;
 mod dumps_fault;
 mod dumps_laws;
 mod export;
@@ -20,7 +20,7 @@ mod units;
 
 pub use blocks::show_blocks;
 pub use diff::{Pair, WhatDiffers, write_compared, write_diff_first, write_differences};
-pub use diff_blocks::diff_blocks;
+pub use diff_walk::diff_blocks;
 pub use dumps_fault::ImportFault;
 pub use dumps_laws::a_dump_comes_back;
 pub use export::export_blocks;

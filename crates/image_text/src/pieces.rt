@@ -1,18 +1,16 @@
 //! Pieces of a dump, taken from a source and made blocks.
 
-ghost use Rattle.std.specs.Prelude.{◌≡◌, ◌+◌, ◌*◌, ◌^◌, ◌<◌, ◌≤◌, ◌++◌, IfOk, List, OnErr, ℕ, length, take, true};
+ghost use Rattle.std.specs.Prelude.{◌≡◌, ◌+◌, ◌*◌, ◌^◌, ◌<◌, ◌≤◌, IfOk, List, OnErr, ℕ, length, take, true};
 ghost use Rattle.dix_base.specs.Told.{IsAtEnd, Rose, Took};
-ghost use Rattle.pi_tuple.specs.Tuples.{tuple_bytes};
 ghost use Rattle.target_answer.specs.Frames.{frames_of, joined, stored_size};
 ghost use Rattle.target_answer.specs.Passing.{with_own_tuple};
 ghost use Rattle.image_text.specs.Dumps.{fits, imported, imported_block, piece_len};
-ghost use Rattle.pi_tuple.specs.declared.TheConstants.{TUPLE};
 
 use crate::layout::{Layout, piece_len, stored_len};
 use dix_base::{Failed, Source};
 use pi_guard::crc16;
-use pi_tuple::{PiType, Tuple, make, own_tag};
-use target_answer::UnitSpec;
+use pi_tuple::{PiType, make, own_tag};
+use target_answer::{UnitSpec, put_tuple};
 
 /// Takes bytes until `into` is full or the source at its end, and says how many came.
 pub(crate) fn fill<S: Source>(source: &mut S, into: &mut [u8]) -> Result<usize, Failed>
@@ -37,14 +35,6 @@ pub(crate) fn fill<S: Source>(source: &mut S, into: &mut [u8]) -> Result<usize, 
         got += n;
     }
     Ok(got)
-}
-
-fn put_tuple(block: &mut [u8], at: usize, tuple: Tuple)
-    requires { at + TUPLE ≡ length block.old }
-    ensures { block.new ≡ take at block.old ++ tuple_bytes tuple }
-{
-    let bytes = tuple.to_bytes();
-    block[at..].copy_from_slice(&bytes);
 }
 
 /// Puts data under a tuple of their own, where the unit has tuples.

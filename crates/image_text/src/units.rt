@@ -1,6 +1,6 @@
 //! The units of an image, line by line.
 
-ghost use Rattle.std.specs.Prelude.{◌≤◌, OnErr, OnOk};
+ghost use Rattle.std.specs.Prelude.{◌≤◌, OnErr, OnOk, ◌≡◌};
 ghost use Rattle.dix_base.specs.Told.{Appended, AppendedSome, Rose};
 ghost use Rattle.image_text.specs.UnitText.{units_text};
 ghost use Rattle.image_blocks.specs.Images.{units_open};
@@ -16,6 +16,7 @@ pub fn show_units<O: Sink>(image: &Image, out: &mut O) -> Result<(), Failed>
     ensures part { OnErr result (AppendedSome (units_text (units_open image.now)) (O.taken out.old) (O.taken out.new)) }
     ensures cause { OnErr result (Rose (O.faults out.old) (O.faults out.new)) }
     ensures count { O.faults out.old ≤ O.faults out.new }
+    ensures handed { OnOk result (O.passed out.new ≡ O.taken out.new) }
 {
     write_units(out, image.units())?;
     out.flush()

@@ -2,39 +2,23 @@
 //! judges scripts.
 #![tactic(auto)]
 
-use dix_base::{FileStore, StdinSource, StdoutSink};
+use call_verdict::words_of;
+use dix_base::{FileStore, HeldStreams, StdinSource, StdoutSink};
 use image_rig::ImageRig;
 use lab_run::{Refusal, refuse, run};
+use std::io;
 use std::process::ExitCode;
-use std::{env, fs, io};
-use wide_stdout::WideStdout;
 
-/// The words that the program was called with, without its own name.
-fn words_of(rt: &HostRuntime) -> io::Result<Vec<String>> {
-    let mut words = Vec::new(rt.alloc());
-    for word in env::args(rt)?.skip(1) {
-        words.push(word)?;
-    }
-    Ok(words)
-}
-
-/// Takes the places of standard streams that are closed, so that no image is opened in one and
-/// overwritten. A directory can be neither read nor written as a stream.
-fn hold_closed_streams(rt: &HostRuntime) -> [Option<fs::File>; 3] {
-    [
-        fs::open(rt, "/").ok(),
-        fs::open(rt, "/").ok(),
-        fs::open(rt, "/").ok(),
-    ]
-}
-
+/// Where the places of closed streams can't be held no image is opened.
 fn main(rt: HostRuntime) -> io::Result<ExitCode> {
-    let _held = hold_closed_streams(&rt);
     let mut input = StdinSource::new(rt.clone()?);
     let mut rig = ImageRig::new(rt.alloc(), FileStore::new(rt.clone()?));
     let mut first = FileStore::new(rt.clone()?);
     let mut second = FileStore::new(rt.clone()?);
-    let mut out = WideStdout::new(StdoutSink::new(rt.clone()?), rt.stdout());
+    let mut out = StdoutSink::new(rt.clone()?);
+    let Ok(_held) = HeldStreams::hold(&rt) else {
+        return Ok(ExitCode::from(refuse(&mut out, Refusal::RIG_FAULT).number()));
+    };
     let status = match words_of(&rt) {
         Ok(words) => run(
             rt.alloc(),
@@ -54,6 +38,6 @@ fn main(rt: HostRuntime) -> io::Result<ExitCode> {
 fn refusal_of(error: &io::Error) -> Refusal {
     match error.kind() {
         io::ErrorKind::InvalidData => Refusal::Words,
-        _ => Refusal::Memory,
+        _ => Refusal::MEMORY,
     }
 }

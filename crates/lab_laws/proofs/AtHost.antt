@@ -15,9 +15,9 @@ use Rattle.fault_schedule.specs.declared.fault.FaultLine.{FaultLine}
 use Rattle.integrity_payload.specs.declared.payload.Owner.{Owner}
 use Rattle.target_answer.specs.Frames.{data_of, frame_of, tuple_of}
 use Rattle.block_path.specs.WayIn.{WayIn, adapter_finds_in, mapped_back, owner_finds, owner_says, received, way_in}
-use Rattle.whole_run.specs.Detectable.{bears, crossed}
-use Rattle.whole_run.specs.Settings.{Block, Setting, route}
-use Rattle.whole_run.proofs.TupleFrames.{frame_is}
+use Rattle.walk_laws.specs.Detectable.{bears, crossed}
+use Rattle.walk_laws.specs.Settings.{Block, Setting, route}
+use Rattle.walk_laws.proofs.TupleFrames.{frame_is}
 use Rattle.run_laws.proofs.Found.{Bears, bears_both, expected, passed}
 use Rattle.run_laws.proofs.Framed.{mapped_body, mapped_tuple}
 use Rattle.lab_laws.proofs.Flipped.{IsOne, Whole, flip_whole, flip_wrong, tag_app, tag_data, tag_found, tag_guard, tag_whole}

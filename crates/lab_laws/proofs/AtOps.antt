@@ -14,13 +14,13 @@ use Rattle.stack_ops.specs.declared.op.Op.TheVariants.{Fetch, FetchPi, Fill, Ove
 use Rattle.volume_table.specs.Places.{volume_len}
 use Rattle.block_path.specs.WayIn.{owner_says}
 use Rattle.block_path.proofs.Cells.{below}
-use Rattle.whole_run.specs.CalmRun.{AllFit, Fits, LiesInImage}
-use Rattle.whole_run.specs.ReadsAs.{landing, read_op}
-use Rattle.whole_run.specs.Settings.{Setting, block_of}
-use Rattle.whole_run.specs.Steps.{Reads, Seals, Step, Writes, WritesPi, body_of, each_from, frame_at, steps_of, tuple_of}
-use Rattle.whole_run.proofs.CalmRuns.{frame_length, part_length}
-use Rattle.whole_run.proofs.InSteps.{read_reply, read_steps}
-use Rattle.whole_run.proofs.TupleFrames.{below_replicate}
+use Rattle.walk_laws.specs.CalmRun.{AllFit, Fits, LiesInImage}
+use Rattle.walk_laws.specs.ReadsAs.{landing, read_op}
+use Rattle.walk_laws.specs.Settings.{Setting, block_of}
+use Rattle.walk_laws.specs.Steps.{Reads, Seals, Step, Writes, WritesPi, body_of, each_from, frame_at, steps_of, tuple_of}
+use Rattle.walk_laws.proofs.CalmRuns.{frame_length, part_length}
+use Rattle.walk_laws.proofs.InSteps.{read_reply, read_steps}
+use Rattle.walk_laws.proofs.TupleFrames.{below_replicate}
 use Rattle.lab_laws.proofs.Flipped.{IsOne, IsSeenFlip}
 use Rattle.lab_laws.proofs.OneLine.{IsOwn, m0}
 use Rattle.lab_laws.proofs.Marked.{host_out, medium_in, wire_in, wire_out}

@@ -12,8 +12,8 @@ use Rattle.stack_ops.specs.declared.op.Op.TheVariants.{Fetch, FetchPi, Fill, Ove
 use Rattle.target_answer.specs.declared.units.UnitSpec.{UnitSpec}
 use Rattle.volume_table.specs.Places.{place_in, volume_len}
 use Rattle.block_path.specs.Acts.{State}
-use Rattle.whole_run.specs.CalmRun.{AllFit, Fits, LiesInImage}
-use Rattle.whole_run.specs.Settings.{Setting}
+use Rattle.walk_laws.specs.CalmRun.{AllFit, Fits, LiesInImage}
+use Rattle.walk_laws.specs.Settings.{Setting}
 use Rattle.stack_ops.specs.Ops.{first_virt}
 use Rattle.run_premises.specs.Forms.{op_of}
 use Rattle.script_lines.specs.declared.line.Spot.{Spot}

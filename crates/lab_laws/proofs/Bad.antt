@@ -2,7 +2,7 @@
 use Rattle.std.proofs.Common.{◌≡◌, ℕ, suc, List, [], ◌∷◌, Option, Some, None, refl, sym, ap, ◌∙◌}
 use Rattle.bio_core.specs.declared.fate.Why.{Why}
 use Rattle.stack_ops.specs.declared.reply.BadBlock.{BadBlock}
-use Rattle.whole_run.specs.ScriptWalk.{bad_from}
+use Rattle.walk_laws.specs.ScriptWalk.{bad_from}
 
 -- the first bad block of a list is this one
 pub record BeginsWith (k : ℕ) (w : Why) (bad : List BadBlock) : Type 0 where

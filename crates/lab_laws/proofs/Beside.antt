@@ -22,11 +22,11 @@ use Rattle.block_path.specs.Serial.{plain, plain_tells}
 use Rattle.block_path.specs.WayIn.{WayIn, adapter_finds_in, mapped_back, owner_finds, received, way_in}
 use Rattle.block_path.specs.WayOut.{Fails, Refuses, Stores, WayOut, way_out}
 use Rattle.block_path.specs.declared.route.Route.{Route}
-use Rattle.whole_run.specs.CalmRun.{LiesInImage}
-use Rattle.whole_run.specs.ScriptWalk.{act_of, bad_from}
-use Rattle.whole_run.specs.Settings.{Block, Setting, route}
-use Rattle.whole_run.specs.Steps.{Alters, Reads, Seals, Sets, Shows, Step, Writes, WritesPi, each_from}
-use Rattle.whole_run.specs.UnderMap.{NoneEscapes, SuppliesNoEscape, home}
+use Rattle.walk_laws.specs.CalmRun.{LiesInImage}
+use Rattle.walk_laws.specs.ScriptWalk.{act_of, bad_from}
+use Rattle.walk_laws.specs.Settings.{Block, Setting, route}
+use Rattle.walk_laws.specs.Steps.{Alters, Reads, Seals, Sets, Shows, Step, Writes, WritesPi, each_from}
+use Rattle.walk_laws.specs.UnderMap.{NoneEscapes, SuppliesNoEscape, home}
 use Rattle.lab_laws.proofs.Flipped.{Whole}
 use Rattle.lab_laws.proofs.Ways.{in_of, target_finds}
 use Rattle.lab_laws.proofs.OneLine.{Alike, StepIsOther, alike, as_read, as_written, m0, m1, none_shifted}

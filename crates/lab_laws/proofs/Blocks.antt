@@ -11,9 +11,9 @@ use Rattle.pi_tuple.specs.declared.tuple.Tuple.{Tuple}
 use Rattle.pi_tuple.proofs.TupleLaws.{own_below, own_is}
 use Rattle.target_answer.specs.Frames.{frame_of}
 use Rattle.target_answer.specs.Passing.{with_own_tuple}
-use Rattle.whole_run.specs.PlainMap.{as_expected}
-use Rattle.whole_run.specs.UnderMap.{IsClean}
-use Rattle.whole_run.proofs.TupleFrames.{Small, data_is, tuple_is}
+use Rattle.walk_laws.specs.PlainMap.{as_expected}
+use Rattle.walk_laws.specs.UnderMap.{IsClean}
+use Rattle.walk_laws.proofs.TupleFrames.{Small, data_is, tuple_is}
 use Rattle.lab_laws.specs.Clean.{MakesClean}
 
 framed : (ty : PiType) (lba : ℕ) (piece : List ℕ) → is_zero ty ≡ false → with_own_tuple ty lba piece ≡ frame_of piece (record { guard = crc piece; app = 0; rtag = own_tag ty lba })

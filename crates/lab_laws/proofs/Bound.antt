@@ -21,24 +21,24 @@ use Rattle.volume_table.specs.declared.device.DeviceInfo.{DeviceInfo}
 use Rattle.volume_table.proofs.Laws.{made}
 use Rattle.dix_adapter.specs.Ways.{blocks_told, cell_in, shapes_of}
 use Rattle.block_path.specs.Routes.{target}
-use Rattle.whole_run.specs.CalmRun.{LiesInImage}
-use Rattle.whole_run.specs.Settings.{Setting}
-use Rattle.whole_run.specs.UnderMap.{home}
+use Rattle.walk_laws.specs.CalmRun.{LiesInImage}
+use Rattle.walk_laws.specs.Settings.{Setting}
+use Rattle.walk_laws.specs.UnderMap.{home}
 use Rattle.run_laws.specs.ShownRun.{IsChecked}
 use Rattle.run_laws.proofs.Reading.{checked_form}
-use Rattle.script_ground.proofs.Calm.{lies-in}
-use Rattle.script_ground.proofs.OverUnits.{IsBoundOver}
-use Rattle.script_ground.specs.Units.{AreStored}
+use Rattle.script_run_laws.proofs.Calm.{lies-in}
+use Rattle.script_run_laws.proofs.OverUnits.{IsBoundOver}
+use Rattle.script_run_laws.specs.Units.{AreStored}
 use Rattle.script_laws.proofs.Ranges.{all_in_range}
 use Rattle.script_text.specs.Bindings.{binding_fault}
 use Rattle.script_text.specs.Crossings.{crossing_of, is_read}
 use Rattle.script_text.specs.declared.fault.ScriptFault.{ScriptFault}
 use Rattle.script_text.specs.declared.script.Script.{Script}
-use Rattle.image_scripts.specs.Passed.{devices_of}
-use Rattle.image_scripts.proofs.Passed.{all_end, blocks_are, formatted_below, fresh_unit, shapes_are}
+use Rattle.image_laws.specs.Passed.{devices_of}
+use Rattle.image_laws.proofs.Passed.{all_end, blocks_are, formatted_below, fresh_unit, shapes_are}
 use Rattle.image_rig.proofs.Heads.{layout_parts}
-use Rattle.image_scripts.specs.Over.{setting_over, volume_over}
-use Rattle.image_scripts.proofs.Told.{devices_back, stored_back}
+use Rattle.image_laws.specs.Over.{setting_over, volume_over}
+use Rattle.image_laws.proofs.Told.{devices_back, stored_back}
 use Rattle.flip_sweep.specs.Flips.{bad_if, fault_before, overwrite_fault, with_flip}
 use Rattle.flip_sweep.specs.Swept.{Sweep}
 use Rattle.flip_sweep.specs.declared.flips.Site.{Site}

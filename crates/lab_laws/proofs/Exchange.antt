@@ -4,8 +4,8 @@ use Rattle.target_answer.specs.Frames.{joined}
 use Rattle.target_answer.specs.Target.{Answer}
 use Rattle.rig_api.specs.Log.{moved_of}
 use Rattle.rig_api.specs.Telling.{answer_of, at_front, with_blocks}
-use Rattle.answered_record.specs.Answered.{room_of}
-use Rattle.answered_record.proofs.Exchange.{moved_is, outcome_is, units_are}
+use Rattle.record_laws.specs.Answered.{room_of}
+use Rattle.record_laws.proofs.Exchange.{moved_is, outcome_is, units_are}
 use Rattle.rig_api.specs.Telling.{spec_at}
 use Rattle.lab_laws.specs.Again.{ExchangeAnswers}
 

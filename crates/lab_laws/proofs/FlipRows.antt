@@ -17,8 +17,8 @@ use Rattle.script_laws.proofs.Keeping.{read_keeps}
 use Rattle.script_text.specs.Bindings.{binding_fault}
 use Rattle.script_text.specs.Language.{line_taken, script_in, taken}
 use Rattle.script_text.specs.declared.script.Script.{Script}
-use Rattle.image_scripts.specs.Passed.{devices_of, table_over}
-use Rattle.image_scripts.proofs.Told.{devices_back}
+use Rattle.image_laws.specs.Passed.{devices_of, table_over}
+use Rattle.image_laws.proofs.Told.{devices_back}
 use Rattle.flip_sweep.specs.Swept.{Sweep}
 use Rattle.lab_laws.specs.Flips.{IsPlainSweep, IsQuietSweep}
 use Rattle.lab_laws.proofs.NoneListed.{plain_quiet}

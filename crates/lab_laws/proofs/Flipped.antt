@@ -21,9 +21,9 @@ use Rattle.fault_schedule.proofs.Xored.{get-xored, length-xored}
 use Rattle.guard_laws.proofs.Flips.{xor_kept}
 use Rattle.target_answer.specs.Frames.{data_of, tuple_of}
 use Rattle.block_path.proofs.Cells.{AllBelow}
-use Rattle.whole_run.proofs.TupleFrames.{below_at, below_drop, below_replicate, below_take, spelled}
+use Rattle.walk_laws.proofs.TupleFrames.{below_at, below_drop, below_replicate, below_take, spelled}
 use Rattle.run_laws.proofs.Found.{bears_both, expected, passed}
-use Rattle.whole_run.specs.Detectable.{bears}
+use Rattle.walk_laws.specs.Detectable.{bears}
 use Rattle.run_premises.specs.Forms.{is_near, is_none, is_seen}
 use Rattle.run_premises.proofs.Frames.{after_bytes, after_size, all_of, app_stays, mask, not_right, xored_below}
 use Rattle.run_premises.proofs.Near.{named_at, near_seen, take-xored}

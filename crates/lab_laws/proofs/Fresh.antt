@@ -16,10 +16,10 @@ use Rattle.rig_discovery.specs.Discovery.{info_of}
 use Rattle.volume_table.specs.Places.{place_in, volume_len}
 use Rattle.volume_table.specs.Tables.{IsOn}
 use Rattle.dix_adapter.specs.Ways.{blocks_told, cell_in}
-use Rattle.whole_run.specs.Settings.{Setting}
-use Rattle.whole_run.specs.UnderMap.{home}
-use Rattle.script_ground.specs.Units.{AreStored}
-use Rattle.image_scripts.proofs.Passed.{fresh_unit, formatted_clean}
+use Rattle.walk_laws.specs.Settings.{Setting}
+use Rattle.walk_laws.specs.UnderMap.{home}
+use Rattle.script_run_laws.specs.Units.{AreStored}
+use Rattle.image_laws.proofs.Passed.{fresh_unit, formatted_clean}
 use Rattle.lab_laws.proofs.Scrubbed.{sizes_of}
 
 run_stored : (ty : PiType) (size lba n : ℕ) → All (λ (b : List ℕ). length b ≡ stored_size ty size) (fresh_from ty size lba n)

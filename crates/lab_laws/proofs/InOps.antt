@@ -16,11 +16,11 @@ use Rattle.volume_table.specs.Places.{volume_len}
 use Rattle.block_path.specs.Acts.{State, act}
 use Rattle.block_path.specs.Blocks.{ActAnswer}
 use Rattle.block_path.specs.Serial.{plain}
-use Rattle.whole_run.specs.CalmRun.{LiesInImage}
-use Rattle.whole_run.specs.ScriptWalk.{acts_of, bad_from, replies_from, reply_of, request_reply, walk_from, whole_or_bad}
-use Rattle.whole_run.specs.Settings.{Setting, block_of}
-use Rattle.whole_run.specs.Steps.{Reads, Seals, Step, Writes, WritesPi, body_of, each_from, frame_at, steps_of, tuple_of}
-use Rattle.whole_run.specs.UnderMap.{NoEscape, NoneEscapes}
+use Rattle.walk_laws.specs.CalmRun.{LiesInImage}
+use Rattle.walk_laws.specs.ScriptWalk.{acts_of, bad_from, replies_from, reply_of, request_reply, walk_from, whole_or_bad}
+use Rattle.walk_laws.specs.Settings.{Setting, block_of}
+use Rattle.walk_laws.specs.Steps.{Reads, Seals, Step, Writes, WritesPi, body_of, each_from, frame_at, steps_of, tuple_of}
+use Rattle.walk_laws.specs.UnderMap.{NoEscape, NoneEscapes}
 use Rattle.lab_laws.proofs.Flipped.{Whole}
 use Rattle.lab_laws.proofs.Marked.{IsBad}
 use Rattle.lab_laws.proofs.OneLine.{m0, m1}

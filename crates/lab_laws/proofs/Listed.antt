@@ -20,11 +20,11 @@ use Rattle.block_path.specs.Blocks.{fetched_cell, own_cell, own_frame, stored_ce
 use Rattle.block_path.specs.WayIn.{WayIn, way_in}
 use Rattle.block_path.specs.WayOut.{Stores, WayOut, way_out}
 use Rattle.block_path.specs.declared.route.Route.{Route}
-use Rattle.whole_run.specs.CalmRun.{LiesInImage}
-use Rattle.whole_run.specs.ScriptWalk.{act_of}
-use Rattle.whole_run.specs.Settings.{Block, Setting, route}
-use Rattle.whole_run.specs.Steps.{Reads, Step, Writes, WritesPi}
-use Rattle.whole_run.specs.UnderMap.{home}
+use Rattle.walk_laws.specs.CalmRun.{LiesInImage}
+use Rattle.walk_laws.specs.ScriptWalk.{act_of}
+use Rattle.walk_laws.specs.Settings.{Block, Setting, route}
+use Rattle.walk_laws.specs.Steps.{Reads, Step, Writes, WritesPi}
+use Rattle.walk_laws.specs.UnderMap.{home}
 use Rattle.lab_laws.proofs.Flipped.{IsOne, IsSeenFlip, Whole}
 use Rattle.lab_laws.proofs.Ways.{in_by, out_by, target_finds}
 use Rattle.lab_laws.proofs.OneLine.{Alike, IsOwn, as_written, m0, m1, none_shifted, one_line, reads_alike, same_fetched, same_stored}

@@ -4,7 +4,7 @@ use Rattle.bio_core.specs.declared.fate.Why.{Why}
 use Rattle.stack_ops.specs.declared.reply.BadBlock.{BadBlock}
 use Rattle.stack_ops.specs.declared.reply.Reply.{Reply}
 use Rattle.block_path.specs.Blocks.{ActAnswer}
-use Rattle.whole_run.specs.ScriptWalk.{bad_from, request_reply, whole_or_bad}
+use Rattle.walk_laws.specs.ScriptWalk.{bad_from, request_reply, whole_or_bad}
 use Rattle.script_laws.specs.Keeping.{Each}
 use Rattle.lab_laws.proofs.Bad.{BeginsWith}
 use Rattle.flip_sweep.specs.Verdicts.{first_found, first_other, found_of, listed, or_else}

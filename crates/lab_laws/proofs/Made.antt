@@ -27,15 +27,15 @@ use Rattle.volume_table.specs.declared.device.DeviceInfo.{DeviceInfo}
 use Rattle.volume_table.proofs.Laws.{made}
 use Rattle.dix_adapter.specs.Ways.{blocks_told, shapes_of}
 use Rattle.dix_adapter.proofs.Units.{shapes-are}
-use Rattle.whole_run.specs.PlainMap.{as_expected}
-use Rattle.whole_run.specs.Settings.{Setting}
-use Rattle.whole_run.specs.UnderMap.{IsClean, address_of}
+use Rattle.walk_laws.specs.PlainMap.{as_expected}
+use Rattle.walk_laws.specs.Settings.{Setting}
+use Rattle.walk_laws.specs.UnderMap.{IsClean, address_of}
 use Rattle.run_laws.specs.ShownRun.{DevicesAreClean}
 use Rattle.run_premises.proofs.Near.{crc-zeros}
 use Rattle.script_laws.proofs.Keeping.{read_keeps}
 use Rattle.script_laws.proofs.Ranges.{all_in_range}
-use Rattle.image_scripts.specs.Passed.{setting_told, HasTable, devices_of, table_over}
-use Rattle.image_scripts.proofs.Passed.{all_end, blocks_are, fresh_unit}
+use Rattle.image_laws.specs.Passed.{setting_told, HasTable, devices_of, table_over}
+use Rattle.image_laws.proofs.Passed.{all_end, blocks_are, fresh_unit}
 use Rattle.image_rig.specs.LayoutPlaces.{block_place}
 use Rattle.image_rig.proofs.Heads.{layout_parts}
 use Rattle.image_rig.proofs.Units.{unit_found}
@@ -47,7 +47,7 @@ use Rattle.image_text.specs.Dumps.{imported, imported_block}
 use Rattle.image_text.specs.Ends.{HasTaken}
 use Rattle.image_text.specs.declared.layout.Layout.TheVariants.{Plain}
 use Rattle.image_text.proofs.Putting.{imported_length}
-use Rattle.image_scripts.specs.Over.{blocks_in, setting_over, volume_over}
+use Rattle.image_laws.specs.Over.{blocks_in, setting_over, volume_over}
 use Rattle.lab_laws.specs.Clean.{ClaimsOnClean, FormatMakes, HoldsClean, ImportMakes, IsImported, IsMade, KeepsHead, RunsOnClean}
 use Rattle.lab_laws.proofs.Blocks.{made_clean}
 use Rattle.lab_laws.proofs.Cells.{there}

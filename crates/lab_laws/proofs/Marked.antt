@@ -25,8 +25,8 @@ use Rattle.target_answer.specs.Frames.{data_of, tuple_of}
 use Rattle.block_path.specs.WayIn.{Delivers, Spoils, Stops, WayIn, adapter_finds_in, mapped_back, owner_finds, received, way_in}
 use Rattle.block_path.specs.WayOut.{Fails, Refuses, Stores, WayOut, adapter_finds_out, mapped_out, sent, way_out}
 use Rattle.volume_table.specs.Places.{place_in}
-use Rattle.whole_run.specs.Detectable.{bears, crossed}
-use Rattle.whole_run.specs.Settings.{Block, Setting, route}
+use Rattle.walk_laws.specs.Detectable.{bears, crossed}
+use Rattle.walk_laws.specs.Settings.{Block, Setting, route}
 use Rattle.run_laws.proofs.Found.{expected, passed, passes_if, unmasked}
 use Rattle.run_laws.proofs.Framed.{mapped_body, mapped_tuple}
 use Rattle.run_premises.specs.FormedRun.{IsOfBytes}

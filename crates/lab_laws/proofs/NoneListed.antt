@@ -15,22 +15,22 @@ use Rattle.dix_adapter.specs.Ways.{blocks_told}
 use Rattle.block_path.specs.Acts.{State}
 use Rattle.block_path.specs.Blocks.{ActAnswer}
 use Rattle.block_path.specs.Serial.{plain_tells}
-use Rattle.whole_run.specs.PlainMap.{Plain, finds_plainly, listed_by, plain_answer, plain_replies_from, plain_step}
-use Rattle.whole_run.specs.ScriptWalk.{bad_from, replies_from, reply_of}
-use Rattle.whole_run.specs.Settings.{Setting, block_of}
-use Rattle.whole_run.specs.Steps.{Reads, Step, Writes, body_of, each_from, frame_at, steps_of}
-use Rattle.whole_run.specs.UnderMap.{AreClean, IsClean, NoEscape, address_of, home, opened}
-use Rattle.whole_run.proofs.CalmRuns.{is_plain}
+use Rattle.walk_laws.specs.PlainMap.{Plain, finds_plainly, listed_by, plain_answer, plain_replies_from, plain_step}
+use Rattle.walk_laws.specs.ScriptWalk.{bad_from, replies_from, reply_of}
+use Rattle.walk_laws.specs.Settings.{Setting, block_of}
+use Rattle.walk_laws.specs.Steps.{Reads, Step, Writes, body_of, each_from, frame_at, steps_of}
+use Rattle.walk_laws.specs.UnderMap.{AreClean, IsClean, NoEscape, address_of, home, opened}
+use Rattle.walk_laws.proofs.CalmRuns.{is_plain}
 use Rattle.run_premises.specs.Forms.{supplies_none}
 use Rattle.run_premises.proofs.Escapes.{none_supplied}
-use Rattle.script_ground.proofs.Calm.{calm-run}
+use Rattle.script_run_laws.proofs.Calm.{calm-run}
 use Rattle.script_laws.specs.Keeping.{Each}
-use Rattle.image_scripts.proofs.Passed.{formatted_clean}
+use Rattle.image_laws.proofs.Passed.{formatted_clean}
 use Rattle.script_text.specs.declared.script.Script.{Script}
-use Rattle.image_scripts.specs.Over.{opening_over, setting_over, volume_over}
-use Rattle.image_scripts.proofs.Told.{stored_back}
+use Rattle.image_laws.specs.Over.{opening_over, setting_over, volume_over}
+use Rattle.image_laws.proofs.Told.{stored_back}
 use Rattle.flip_sweep.specs.Swept.{Sweep}
-use Rattle.whole_run.proofs.CalmWays.{unmasked}
+use Rattle.walk_laws.proofs.CalmWays.{unmasked}
 use Rattle.lab_laws.specs.Flips.{IsGuarded, IsPlainSweep, PlainIsQuiet}
 use Rattle.lab_laws.proofs.Bound.{blocks_below, bound, cells, few, no_overwrite, on, unfaulted}
 use Rattle.lab_laws.proofs.Listing.{IsQuiet, lists_request}

@@ -15,10 +15,10 @@ use Rattle.block_path.specs.Blocks.{ActAnswer, fetched_cell, own_cell, own_frame
 use Rattle.block_path.specs.WayIn.{WayIn, way_in}
 use Rattle.block_path.specs.WayOut.{WayOut, way_out}
 use Rattle.block_path.specs.declared.route.Route.{Route}
-use Rattle.whole_run.specs.Detectable.{crossed}
-use Rattle.whole_run.specs.ScriptWalk.{act_of}
-use Rattle.whole_run.specs.Settings.{Block, Setting, route}
-use Rattle.whole_run.specs.Steps.{Alters, Reads, Seals, Sets, Shows, Step, Writes, WritesPi}
+use Rattle.walk_laws.specs.Detectable.{crossed}
+use Rattle.walk_laws.specs.ScriptWalk.{act_of}
+use Rattle.walk_laws.specs.Settings.{Block, Setting, route}
+use Rattle.walk_laws.specs.Steps.{Alters, Reads, Seals, Sets, Shows, Step, Writes, WritesPi}
 use Rattle.run_laws.proofs.Framed.{not_altered}
 use Rattle.lab_laws.proofs.Flipped.{IsOne}
 use Rattle.lab_laws.proofs.Ways.{comes_in, fetched_home, goes_out, in_by, out_by, stored_home, under_lines}

@@ -19,15 +19,15 @@ use Rattle.rig_api.specs.Head.{IsHeadOf, head_of, units_of}
 use Rattle.rig_api.specs.Log.{LogEntry, entry_of, moved_by, moved_of, moved_under}
 use Rattle.rig_api.specs.State.{RigState}
 use Rattle.rig_api.specs.Telling.{Standing, answer_of, at_front, no_spec, spec_at, specs_of, units_told, with_blocks}
-use Rattle.answered_record.specs.Answered.{Answers, AreAnswersTo, FramesBy, FramesUnder, IsAnswerTo, answer_with, room_of}
-use Rattle.answered_record.proofs.Going.{answers_join}
+use Rattle.record_laws.specs.Answered.{Answers, AreAnswersTo, FramesBy, FramesUnder, IsAnswerTo, answer_with, room_of}
+use Rattle.record_laws.proofs.Going.{answers_join}
 use Rattle.script_laws.proofs.Keeping.{read_keeps}
-use Rattle.image_scripts.proofs.Passed.{known_from}
+use Rattle.image_laws.proofs.Passed.{known_from}
 use Rattle.stack_core.specs.Mediums.{medium_lines}
 use Rattle.stack_core.proofs.NoMedium.{none_named}
 use Rattle.script_text.specs.declared.script.Script.{Script}
 use Rattle.source_text.specs.Reading.{most_bytes}
-use Rattle.image_scripts.specs.Passed.{Facts, HasRun, Finished}
+use Rattle.image_laws.specs.Passed.{Facts, HasRun, Finished}
 use Rattle.vector_lines.specs.Printed.{is_sender, out_of, sends}
 use Rattle.vector_lines.specs.Texts.{list_in}
 use Rattle.script_text.specs.declared.fault.ScriptFault.{ScriptFault}

@@ -30,14 +30,14 @@ use Rattle.block_path.specs.Blocks.{ActAnswer, Sent, Site, read_by, written_by}
 use Rattle.block_path.specs.declared.route.Route.{Route}
 use Rattle.block_path.specs.Serial.{plain, plain_tells}
 use Rattle.block_path.specs.Senses.{is_medium_why, why_ended}
-use Rattle.whole_run.specs.Settings.{Setting, route}
-use Rattle.whole_run.specs.Steps.{Alters, Reads, Seals, Sets, Shows, Step, Writes, WritesPi, steps_of}
-use Rattle.whole_run.specs.ReadsAs.{listed_among, listed_in}
+use Rattle.walk_laws.specs.Settings.{Setting, route}
+use Rattle.walk_laws.specs.Steps.{Alters, Reads, Seals, Sets, Shows, Step, Writes, WritesPi, steps_of}
+use Rattle.walk_laws.specs.ReadsAs.{listed_among, listed_in}
 use Rattle.run_laws.specs.BackedRun.{Belongs, IsBacked, IsListedAs, OfRequest}
 use Rattle.run_laws.specs.Records.{Mixed, NoTwo, came_of, end_for, end_in, ended_by, find, is_labelled, put_blocks, put_decoded, put_entries, put_request, recorded, stamped}
 use Rattle.run_laws.specs.TakenWalk.{taken_act, taken_acts, taken_from, taken_in, taken_out}
 use Rattle.run_laws.proofs.Labelled.{each_both, each_first, each_other, tells_append}
-use Rattle.run_follows.specs.Falls.{Falls, put_really, really}
+use Rattle.stack_walk_laws.specs.Falls.{Falls, put_really, really}
 use Rattle.stack_core.specs.Mediums.{listed_mediums, medium_lines}
 use Rattle.stack_core.specs.OnRecord.{bad_blocks}
 use Rattle.lab_laws.specs.Passing.{AreDone, IsNotCut, IsWhole, WasTaken, width}

@@ -18,7 +18,7 @@ use Rattle.target_answer.specs.Target.{Answer, Stored, answer_unless, carried_ou
 use Rattle.rig_api.specs.Log.{LogEntry, moved_of}
 use Rattle.rig_api.specs.Telling.{Standing, at_front, spec_at, unit_at, with_blocks}
 use Rattle.rig_api.specs.declared.rig.Outcome.{Outcome}
-use Rattle.answered_record.proofs.Quiet.{comes_through, crosses}
+use Rattle.record_laws.proofs.Quiet.{comes_through, crosses}
 use Rattle.vector_lines.specs.Printed.{first_line, in_of, out_of, vector_line}
 use Rattle.vector_runs.specs.Done.{answers_over, units_over}
 use Rattle.vector_runs.specs.ListText.{lines_text}

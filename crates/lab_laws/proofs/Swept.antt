@@ -16,17 +16,17 @@ use Rattle.volume_table.specs.Places.{place_in, volume_len}
 use Rattle.dix_adapter.specs.Ways.{blocks_told}
 use Rattle.block_path.specs.Acts.{State}
 use Rattle.block_path.proofs.Cells.{below}
-use Rattle.whole_run.specs.CalmRun.{AllFit, LiesInImage}
-use Rattle.whole_run.specs.Settings.{Setting}
-use Rattle.whole_run.specs.UnderMap.{NoEscape, home}
-use Rattle.whole_run.proofs.TupleFrames.{below_replicate}
+use Rattle.walk_laws.specs.CalmRun.{AllFit, LiesInImage}
+use Rattle.walk_laws.specs.Settings.{Setting}
+use Rattle.walk_laws.specs.UnderMap.{NoEscape, home}
+use Rattle.walk_laws.proofs.TupleFrames.{below_replicate}
 use Rattle.stack_ops.specs.Ops.{first_virt}
 use Rattle.run_premises.specs.Forms.{op_of}
-use Rattle.script_ground.proofs.Calm.{all-fit}
+use Rattle.script_run_laws.proofs.Calm.{all-fit}
 use Rattle.script_laws.specs.Keeping.{Each}
 use Rattle.script_text.specs.Crossings.{is_read}
 use Rattle.script_text.specs.declared.script.Script.{Script}
-use Rattle.image_scripts.specs.Over.{opening_over, setting_over, volume_over}
+use Rattle.image_laws.specs.Over.{opening_over, setting_over, volume_over}
 use Rattle.flip_sweep.specs.Comes.{CameTo}
 use Rattle.flip_sweep.specs.Flips.{sites_of, with_flip}
 use Rattle.flip_sweep.specs.Swept.{Sweep, verdict_at}

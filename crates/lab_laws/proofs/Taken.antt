@@ -26,8 +26,8 @@ use Rattle.target_answer.specs.Passing.{accepted, asked_of as checked_of, found_
 use Rattle.block_path.specs.declared.route.Route.{Route}
 use Rattle.block_path.specs.Routes.{host_size, is_crc, passage, wire_lba, with_guard}
 use Rattle.block_path.specs.WayOut.{adapter_finds_out, sent}
-use Rattle.whole_run.proofs.CalmWays.{onto_medium, onto_wire}
-use Rattle.whole_run.proofs.TupleFrames.{finds_in_frame, finds_none}
+use Rattle.walk_laws.proofs.CalmWays.{onto_medium, onto_wire}
+use Rattle.walk_laws.proofs.TupleFrames.{finds_in_frame, finds_none}
 use Rattle.lab_laws.specs.Passing.{BlockPasses}
 use Rattle.small_laws.proofs.Tests.{never}
 use Rattle.small_laws.proofs.Lists.{behind_long}

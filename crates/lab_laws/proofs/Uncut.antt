@@ -32,12 +32,12 @@ use Rattle.dix_adapter.specs.Ways.{blocks_told, shapes_of}
 use Rattle.stack_ops.specs.declared.op.Op.{Op}
 use Rattle.stack_ops.specs.declared.op.Op.TheVariants.{Fetch, FetchPi, Fill, Overwrite, Put, Seal, Show, Wait, Write, WritePi}
 use Rattle.stack_ops.specs.declared.reply.Reply.{Reply}
-use Rattle.whole_run.specs.CalmRun.{AllFit, Fits}
-use Rattle.whole_run.specs.Settings.{Setting}
+use Rattle.walk_laws.specs.CalmRun.{AllFit, Fits}
+use Rattle.walk_laws.specs.Settings.{Setting}
 use Rattle.run_laws.specs.BackedRun.{IsBacked}
 use Rattle.run_laws.specs.Records.{recorded}
-use Rattle.run_follows.specs.Falls.{Falls, falling, over_falls, stores_or}
-use Rattle.run_follows.specs.Flips.{Flips, flip_op, with_flips}
+use Rattle.stack_walk_laws.specs.Falls.{Falls, falling, over_falls, stores_or}
+use Rattle.stack_walk_laws.specs.Flips.{Flips, flip_op, with_flips}
 use Rattle.stack_core.specs.Mediums.{medium_lines}
 use Rattle.stack_core.specs.OnRecord.{IsFormed, command_by}
 use Rattle.stack_ops.specs.Ops.{is_overwrite}
@@ -45,11 +45,11 @@ use Rattle.script_text.specs.Bindings.{binding_fault}
 use Rattle.script_text.specs.Language.{script_in}
 use Rattle.script_text.specs.declared.script.Script.{Script}
 use Rattle.script_laws.proofs.Keeping.{read_keeps}
-use Rattle.script_ground.proofs.Calm.{all-fit, calm-of}
-use Rattle.script_ground.proofs.OverUnits.{IsBoundOver, over}
-use Rattle.image_scripts.proofs.Passed.{known_from, told-stored}
+use Rattle.script_run_laws.proofs.Calm.{all-fit, calm-of}
+use Rattle.script_run_laws.proofs.OverUnits.{IsBoundOver, over}
+use Rattle.image_laws.proofs.Passed.{known_from, told-stored}
 use Rattle.rig_api.specs.State.{RigState}
-use Rattle.image_scripts.specs.Passed.{HasRun, Finished, HasFallen, failed_in, opening_of, setting_of, unit_of}
+use Rattle.image_laws.specs.Passed.{HasRun, Finished, HasFallen, failed_in, opening_of, setting_of, unit_of}
 use Rattle.vector_runs.specs.Unplayed.{first_overwrite, named, unplayed, unplayed_line}
 use Rattle.run_laws.proofs.Labelled.{each_both}
 use Rattle.lab_laws.specs.Passing.{IsNotCut, RunPasses, VectorsPass, WasTaken, width}

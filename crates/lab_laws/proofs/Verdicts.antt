@@ -23,11 +23,11 @@ use Rattle.volume_table.specs.Places.{place_in, volume_len}
 use Rattle.volume_table.specs.Tables.{IsOn}
 use Rattle.dix_adapter.specs.Ways.{cell_in}
 use Rattle.block_path.specs.Acts.{State}
-use Rattle.whole_run.specs.CalmRun.{AllFit, LiesInImage}
-use Rattle.whole_run.specs.Detectable.{bears}
-use Rattle.whole_run.specs.ScriptWalk.{replies_from, walk_from}
-use Rattle.whole_run.specs.Settings.{Block, Setting}
-use Rattle.whole_run.specs.UnderMap.{NoEscape, home}
+use Rattle.walk_laws.specs.CalmRun.{AllFit, LiesInImage}
+use Rattle.walk_laws.specs.Detectable.{bears}
+use Rattle.walk_laws.specs.ScriptWalk.{replies_from, walk_from}
+use Rattle.walk_laws.specs.Settings.{Block, Setting}
+use Rattle.walk_laws.specs.UnderMap.{NoEscape, home}
 use Rattle.run_laws.proofs.Found.{expected, passed, passes_if, unmasked}
 use Rattle.script_laws.specs.Keeping.{Each}
 use Rattle.flip_sweep.specs.Comes.{CameTo}

@@ -19,12 +19,12 @@ use Rattle.block_path.specs.Blocks.{fetched_cell, own_cell, own_frame, own_tuple
 use Rattle.block_path.specs.WayIn.{Delivers, Spoils, Stops, WayIn, way_in}
 use Rattle.block_path.specs.WayOut.{Fails, Refuses, Stores, WayOut, adapter_finds_out, mapped_out, sent, way_out}
 use Rattle.block_path.proofs.Cells.{AllBelow, gather_length}
-use Rattle.whole_run.specs.CalmRun.{LiesInImage}
-use Rattle.whole_run.specs.ScriptWalk.{act_of}
-use Rattle.whole_run.specs.Settings.{Block, Setting, route}
-use Rattle.whole_run.specs.Steps.{Alters, Reads, Seals, Sets, Shows, Step, Writes, WritesPi}
-use Rattle.whole_run.specs.UnderMap.{SuppliesNoEscape, home}
-use Rattle.whole_run.proofs.TupleFrames.{Small, below_append, below_drop, below_gather, below_replicate, below_scatter, below_take, four_below, tuple_below, tuple_is}
+use Rattle.walk_laws.specs.CalmRun.{LiesInImage}
+use Rattle.walk_laws.specs.ScriptWalk.{act_of}
+use Rattle.walk_laws.specs.Settings.{Block, Setting, route}
+use Rattle.walk_laws.specs.Steps.{Alters, Reads, Seals, Sets, Shows, Step, Writes, WritesPi}
+use Rattle.walk_laws.specs.UnderMap.{SuppliesNoEscape, home}
+use Rattle.walk_laws.proofs.TupleFrames.{Small, below_append, below_drop, below_gather, below_replicate, below_scatter, below_take, four_below, tuple_below, tuple_is}
 use Rattle.run_laws.proofs.Along.{set_cases}
 use Rattle.run_premises.proofs.Ways.{OfBytes, comes_bytes}
 use Rattle.lab_laws.proofs.Flipped.{Whole}

@@ -23,12 +23,12 @@ use Rattle.block_path.proofs.Cells.{gather_length}
 use Rattle.block_path.proofs.Sizes.{mapped_sizes, out_size}
 use Rattle.stack_ops.specs.declared.op.Op.{Op}
 use Rattle.volume_table.specs.Places.{volume_len}
-use Rattle.whole_run.specs.CalmRun.{AllFit, IsCalm}
-use Rattle.whole_run.specs.ScriptWalk.{act_of, acts_from, acts_of}
-use Rattle.whole_run.specs.Settings.{Setting, route}
-use Rattle.whole_run.specs.Steps.{Alters, Reads, Seals, Sets, Shows, Step, Writes, WritesPi, steps_of}
-use Rattle.whole_run.proofs.CalmRuns.{op_meets}
-use Rattle.whole_run.proofs.PlainSteps.{AllMeet, Meets}
+use Rattle.walk_laws.specs.CalmRun.{AllFit, IsCalm}
+use Rattle.walk_laws.specs.ScriptWalk.{act_of, acts_from, acts_of}
+use Rattle.walk_laws.specs.Settings.{Setting, route}
+use Rattle.walk_laws.specs.Steps.{Alters, Reads, Seals, Sets, Shows, Step, Writes, WritesPi, steps_of}
+use Rattle.walk_laws.proofs.CalmRuns.{op_meets}
+use Rattle.walk_laws.proofs.PlainSteps.{AllMeet, Meets}
 use Rattle.run_laws.specs.Records.{put_sent, sents}
 use Rattle.run_laws.proofs.Labelled.{each_both, tells_append}
 use Rattle.lab_laws.specs.Passing.{IsWhole, WalkPasses, WasTaken, width}

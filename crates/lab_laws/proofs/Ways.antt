@@ -19,9 +19,9 @@ use Rattle.block_path.specs.Blocks.{fetched_cell, stored_cell}
 use Rattle.block_path.specs.Routes.{by_target, medium_lba, moved, passage, wire_lba}
 use Rattle.block_path.specs.WayIn.{Delivers, Spoils, Stops, WayIn, adapter_finds_in, at_host, delivered_unless, from_device, from_wire, mapped_back, owner_finds, owner_says, received, verified, way_in}
 use Rattle.block_path.specs.WayOut.{Fails, Refuses, Stores, WayOut, adapter_finds_out, at_device, from_adapter, mapped_out, sent, to_wire, way_out}
-use Rattle.whole_run.specs.Detectable.{crossed}
-use Rattle.whole_run.specs.Settings.{Block, Setting, route}
-use Rattle.whole_run.specs.UnderMap.{home}
+use Rattle.walk_laws.specs.Detectable.{crossed}
+use Rattle.walk_laws.specs.Settings.{Block, Setting, route}
+use Rattle.walk_laws.specs.UnderMap.{home}
 use Rattle.run_laws.proofs.Layers.{checked, found_is, unmoved}
 
 -- the setting with these lines in place of its own

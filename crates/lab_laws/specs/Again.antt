@@ -23,7 +23,7 @@ use Rattle.dix_adapter.specs.Ways.{WentOut}
 use Rattle.vector_lines.specs.Printed.{out_of}
 use Rattle.vector_lines.specs.Texts.{list_in}
 use Rattle.vector_lines.specs.declared.line.VectorLine.{VectorLine}
-use Rattle.image_scripts.specs.Passed.{Facts, Finished}
+use Rattle.image_laws.specs.Passed.{Facts, Finished}
 use Rattle.vector_runs.specs.Answered.{HasAnswered}
 use Rattle.vector_runs.specs.Done.{answers_over, room_of, units_over}
 use Rattle.vector_runs.specs.ListText.{list_text}

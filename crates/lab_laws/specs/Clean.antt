@@ -12,19 +12,19 @@ use Rattle.volume_table.specs.Places.{place_in, volume_len}
 use Rattle.volume_table.specs.Tables.{Table}
 use Rattle.volume_table.specs.declared.entry.Entry.{Entry}
 use Rattle.dix_adapter.specs.Ways.{blocks_told, cell_in, shapes_of}
-use Rattle.whole_run.specs.PlainMap.{as_expected}
-use Rattle.whole_run.specs.Settings.{Setting}
-use Rattle.whole_run.specs.UnderMap.{AreClean, IsClean}
+use Rattle.walk_laws.specs.PlainMap.{as_expected}
+use Rattle.walk_laws.specs.Settings.{Setting}
+use Rattle.walk_laws.specs.UnderMap.{AreClean, IsClean}
 use Rattle.run_laws.specs.ShownRun.{DevicesAreClean}
 use Rattle.script_text.specs.declared.script.Script.{Script}
-use Rattle.image_scripts.specs.Passed.{setting_told, HasTable}
+use Rattle.image_laws.specs.Passed.{setting_told, HasTable}
 use Rattle.image_blocks.specs.Places.{whole_in}
 use Rattle.image_blocks.specs.declared.stretch.Stretch.{Stretch}
 use Rattle.image_text.specs.Dumps.{imported, imported_block}
 use Rattle.image_text.specs.Ends.{HasTaken, KeepsOutside}
 use Rattle.image_text.specs.declared.layout.Layout.TheVariants.{Plain}
-use Rattle.image_scripts.specs.Over.{FitsImage, blocks_in, setting_over, volume_over}
-use Rattle.image_scripts.specs.Over as over
+use Rattle.image_laws.specs.Over.{FitsImage, blocks_in, setting_over, volume_over}
+use Rattle.image_laws.specs.Over as over
 
 -- What a plain import makes of a user's own data, as the premises of a run have it.
 

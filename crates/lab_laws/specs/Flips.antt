@@ -11,15 +11,15 @@ use Rattle.stack_ops.specs.declared.op.Op.TheVariants as op
 use Rattle.stack_ops.specs.declared.reply.Reply.{Reply}
 use Rattle.target_answer.specs.Headers.{is_layout}
 use Rattle.target_answer.specs.Image.{formatted}
-use Rattle.whole_run.specs.UnderMap.{NoEscape}
+use Rattle.walk_laws.specs.UnderMap.{NoEscape}
 use Rattle.stack_ops.specs.Ops.{first_virt}
 use Rattle.run_premises.specs.Forms.{escapes_none, op_of}
 use Rattle.script_laws.specs.Keeping.{Each}
-use Rattle.image_scripts.specs.Passed.{IsSound, devices_of}
+use Rattle.image_laws.specs.Passed.{IsSound, devices_of}
 use Rattle.volume_table.specs.Faults.{table_fault}
 use Rattle.volume_table.specs.Places.{place_in}
 use Rattle.script_text.specs.Bindings.{binding_fault}
-use Rattle.image_scripts.specs.Over.{opening_over, setting_over, volume_over}
+use Rattle.image_laws.specs.Over.{opening_over, setting_over, volume_over}
 use Rattle.flip_sweep.specs.Comes.{came_to}
 use Rattle.flip_sweep.specs.Flips.{own_fault, sites_of}
 use Rattle.flip_sweep.specs.Swept.{Sweep, verdict_at}

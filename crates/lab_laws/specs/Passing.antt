@@ -28,14 +28,14 @@ use Rattle.dix_adapter.specs.Carried.{any_bad, frame_sent, sends}
 use Rattle.dix_adapter.specs.Groups.{IsCarriedGroup, blocks_in, size}
 use Rattle.dix_adapter.specs.Ways.{WentOut}
 use Rattle.stack_ops.specs.declared.op.Op.{Op}
-use Rattle.whole_run.specs.CalmRun.{AllFit, IsCalm}
-use Rattle.whole_run.specs.ScriptWalk.{acts_from}
-use Rattle.whole_run.specs.Settings.{Setting}
+use Rattle.walk_laws.specs.CalmRun.{AllFit, IsCalm}
+use Rattle.walk_laws.specs.ScriptWalk.{acts_from}
+use Rattle.walk_laws.specs.Settings.{Setting}
 use Rattle.run_laws.specs.Records.{sents}
 use Rattle.rig_api.specs.State.{RigState}
 use Rattle.script_text.specs.Language.{script_in}
 use Rattle.script_text.specs.declared.script.Script.{Script}
-use Rattle.image_scripts.specs.Passed.{Facts, HasRun, Finished}
+use Rattle.image_laws.specs.Passed.{Facts, HasRun, Finished}
 use Rattle.vector_runs.specs.Played.{HasPlayed}
 use Rattle.vector_runs.specs.Unplayed.{unplayed}
 use Rattle.vector_runs.specs.declared.playing.Played.TheVariants as played

@@ -11,13 +11,14 @@ use test_table::{Judge, cut, has};
 
 /// The images that rows go over, and the lines of the row that is read.
 #[derive(Drop)]
-pub(crate) struct Table {
+pub struct Table {
     images: Images,
     lines: Vec<String>,
 }
 
 impl Table {
-    pub(crate) fn new(alloc: Global) -> Table {
+    /// Over images of nothing.
+    pub fn new(alloc: Global) -> Table {
         Table {
             images: Images {
                 first: Vec::new(alloc),

@@ -1,124 +1,93 @@
--- The verdicts of `explain` without an image.
+-- What `explain` without an image comes to.
 use Rattle.std.proofs.Common.{ℕ, ◌≡◌, ◌+◌, ◌≤◌, ◌⊎◌, inl, inr, Bool, true, cond, List, [], ◌++◌, length, Option, Some, None, Result, Ok, Err, refl, sym, ap, subst, ◌∙◌, arith, append-nil, length-append}
-use Rattle.std.specs.Prelude.{IfOk, nat_lt}
+use Rattle.std.specs.Prelude.{nat_lt}
 use Rattle.std.specs.declared.alloc.AllocError.{AllocError}
 use Rattle.std.proofs.lemmas.Bool.Decides.{nat_tests}
+use Rattle.call_refusal.specs.declared.refusal.Refusal.TheVariants as stop
+use Rattle.call_verdict.specs.Verdicts.{Cause, Done, Refused, Verdict, WholeOrWants, Written, verdict_status}
+use Rattle.call_verdict.specs.declared.status.Status.{Status}
+use Rattle.call_verdict.specs.declared.status.Status.TheVariants as status
 use Rattle.dix_base.specs.Stores.{StoreState}
-use Rattle.dix_base.specs.Told.{Calm, IsAtEnd, Took}
+use Rattle.dix_base.specs.Told.{Calm, IsAtEnd, Rose, Took}
 use Rattle.dix_base.proofs.Counts.{never_rose}
-use Rattle.fault_marks.specs.Texts.{marked_text, right_text}
-use Rattle.lab_run.specs.declared.command.Command.{Command}
 use Rattle.lab_run.specs.declared.command.Command.TheVariants.{Judge}
+use Rattle.rig_api.specs.State.{RigState}
+use Rattle.run_command.proofs.Refusing.{within}
+use Rattle.run_words.proofs.Marking.{over, too_long}
 use Rattle.script_lines.specs.declared.kind.ScriptKind.TheVariants.{TooMany}
 use Rattle.script_text.specs.Language.{lines_read, nothing_read, script_in}
 use Rattle.script_text.specs.declared.fault.ScriptFault.{ScriptFault}
 use Rattle.script_text.specs.declared.script.Script.{Script}
 use Rattle.script_words.specs.Cuts.{lines_of}
-use Rattle.source_text.specs.Reading.{IsOver, IsWhole, most_bytes}
+use Rattle.source_text.specs.Reading.{IsOver, IsWhole, TookAtMost, most_bytes}
 use Rattle.source_text.proofs.Taking.{most_is}
-use Rattle.lab_run.specs.Grammar.{command_in}
 use Rattle.lab_run.specs.Calls.{Facts, on_input}
-use Rattle.lab_run.specs.Judging.{CauseNotJudged, HasJudged, HasScriptFault, JudgesText}
-use Rattle.lab_run.specs.Saying.{IsTold, Says}
-use Rattle.lab_run.specs.Texts.{refusal_text, status_of}
-use Rattle.lab_run.specs.Verdict.{BrokeOff, Cause, CauseByCommand, CauseRan, Compared, Ended, Exported, Helped, Imported, Judged, Keeps, KeepsImage, KeepsSource, Listed, Marked, Ran, Refused, Shown, Verdict, Versioned, Written, verdict_status, verdict_text}
+use Rattle.lab_run.specs.Commands.{Came}
+use Rattle.lab_run.specs.Judging.{CauseUnread, IsSaid, Judged, Judges, Says, WasJudged, judge_work, judged_status, judged_text}
+use Rattle.lab_run.specs.Telling.{RefusesInput}
+use Rattle.lab_run.specs.Texts.{lab, no_memory}
 use Rattle.lab_run.specs.declared.judging.Said.{Said}
 use Rattle.lab_run.specs.declared.refusal.Refusal.{Refusal}
 use Rattle.lab_run.specs.declared.refusal.Refusal.TheVariants as refusal
-use Rattle.lab_run.specs.declared.status.Status.{Status}
-use Rattle.lab_run.specs.declared.status.Status.TheVariants as status
-use Rattle.lab_run.proofs.Endings.{ended_refused, keeps_rig}
-use Rattle.rig_api.specs.State.{RigState}
-use Rattle.run_command.proofs.Refusing.{within}
-use Rattle.run_words.proofs.Marking.{over, too_long}
 
-kept : (words : List (List ℕ)) (h : StoreState) (left left' : Option (List ℕ)) (reads reads' : ℕ) (rig : RigState) (second : StoreState) → command_in words ≡ Some Judge → reads ≤ reads' → Keeps (on_input words h h left left' reads reads' rig second)
-kept words h left left' reads reads' rig second e r =
-    let f = on_input words h h left left' reads reads' rig second in
+-- ---- a text is judged, or isn't
+
+given_by : (reads : Result Script ScriptFault) (text : List ℕ) (left left' : Option (List ℕ)) → IsWhole text left left' → script_in text ≡ reads → WasJudged (record { text = text; reads = reads }) left left'
+given_by (Ok script) text left left' w e = record { given = w; reads = e }
+given_by (Err bad) text left left' w e = record { given = (w.0, inl w.1); reads = e }
+
+-- a text that was read to its end
+pub said_whole : (s : Said) (text : List ℕ) (left left' : Option (List ℕ)) (reads reads' : ℕ) → reads ≤ reads' → IsWhole text left left' → Says (script_in text) text (Ok s) → Judges (Ok s) left left' reads reads'
+said_whole s text left left' reads reads' k w says = record {
+  came = record { judged = record { text = text; reads = script_in text }; was = given_by (script_in text) text left left' w refl; status_is = says.0; text_is = says.1 };
+  count = k;
+}
+
+-- a text that is too long, which isn't kept
+pub said_over : (s : Said) (left left' : Option (List ℕ)) (reads reads' : ℕ) → reads ≤ reads' → IsOver left left' → ((text : List ℕ) → Says (Err (record { line = 0; kind = TooMany })) text (Ok s)) → Judges (Ok s) left left' reads reads'
+said_over s left left' reads reads' k long says =
+    let text = long.0 in
+    let bad : ScriptFault = record { line = 0; kind = TooMany } in
     record {
-      source = subst (λ (c : Option Command). KeepsSource c f) (sym e) r;
-      rig = keeps_rig (command_in words) f refl;
-      second = inl refl;
-      image = subst (λ (c : Option Command). KeepsImage c f) (sym e) refl;
-      openings = inl (refl, refl);
-      count = omega arith;
+      came = record { judged = record { text = text; reads = Err bad }; was = record { given = (long.1, inr long.2); reads = too_long text long.2 }; status_is = (says text).0; text_is = (says text).1 };
+      count = k;
     }
+
+unjudged : (r x : Refusal) (left left' : Option (List ℕ)) (reads reads' : ℕ) → reads ≤ reads' → x ≡ r → CauseUnread r left left' reads reads' → Judges (Err x) left left' reads reads'
+unjudged r x left left' reads reads' k e c = record { came = subst (λ (y : Refusal). CauseUnread y left left' reads reads') (sym e) c; count = k }
+
+-- want of memory for what is said
+pub spared_whole : (x : Refusal) (text : List ℕ) (left left' : Option (List ℕ)) (reads reads' : ℕ) → reads ≤ reads' → x ≡ no_memory → IsWhole text left left' → Judges (Err x) left left' reads reads'
+spared_whole x text left left' reads reads' k e w = unjudged no_memory x left left' reads reads' k e (within text left left' w)
+
+pub spared_over : (x : Refusal) (left left' : Option (List ℕ)) (reads reads' : ℕ) → reads ≤ reads' → x ≡ no_memory → IsOver left left' → Judges (Err x) left left' reads reads'
+spared_over x left left' reads reads' k e w = unjudged no_memory x left left' reads reads' k e (over left left' w)
+
+-- the source failed
+pub unread : (left left' : Option (List ℕ)) (reads reads' : ℕ) → reads ≤ reads' → Rose reads reads' → TookAtMost most_bytes left left' → Judges (Err (refusal.Stopped stop.ReadFault)) left left' reads reads'
+unread left left' reads reads' k r t = record { came = (r, t); count = k }
+
+pub spared : (left left' : Option (List ℕ)) (reads reads' : ℕ) → reads ≤ reads' → TookAtMost (most_bytes + 1) left left' → Judges (Err no_memory) left left' reads reads'
+spared left left' reads reads' k t = record { came = t; count = k }
 
 -- ---- a call
 
-pub unjudged : (words : List (List ℕ)) (h : StoreState) (left left' : Option (List ℕ)) (reads reads' : ℕ) (rig : RigState) (second : StoreState) (r : Refusal) (taken taken' : Option (List ℕ)) (o n : ℕ) (result : Status) →
-    command_in words ≡ Some Judge → reads ≤ reads' → CauseNotJudged r (on_input words h h left left' reads reads' rig second) → Written (status_of r) (refusal_text r) taken taken' o n result → Ended (on_input words h h left left' reads reads' rig second) taken taken' o n result
-unjudged words h left left' reads reads' rig second r taken taken' o n result e k cause w =
-    let f = on_input words h h left left' reads reads' rig second in
-    ended_refused f r taken taken' o n result (subst (λ (c : Option Command). CauseByCommand c r f) (sym e) cause) (kept words h left left' reads reads' rig second e k) w
-
-said_right : (words : List (List ℕ)) (h : StoreState) (left left' : Option (List ℕ)) (reads reads' : ℕ) (rig : RigState) (second : StoreState) (taken taken' : Option (List ℕ)) (o n : ℕ) (result : Status) (text : List ℕ) (want : Result Script ScriptFault) (s : Status) (said : List ℕ) →
-    command_in words ≡ Some Judge → reads ≤ reads' → IsWhole text left left' → script_in text ≡ want → Says want s said text → Written s said taken taken' o n result → Ended (on_input words h h left left' reads reads' rig second) taken taken' o n result
-said_right words h left left' reads reads' rig second taken taken' o n result text (Ok script) s said e k whole reads_so says w = record {
-  verdict = Judged script;
-  cause = record { named = e; text = text; whole = whole; reads = reads_so; untouched = refl };
-  written = inl (subst (λ (x : Status). Written x (right_text script) taken taken' o n result) says.0 (subst (λ (x : List ℕ). Written s x taken taken' o n result) says.1 w));
-  kept = kept words h left left' reads reads' rig second e k;
-}
-said_right words h left left' reads reads' rig second taken taken' o n result text (Err bad) s said e k whole reads_so says w = record {
-  verdict = Marked text bad;
-  cause = record { named = e; taken = whole.0; stopped = inl whole.1; reads = reads_so; untouched = refl };
-  written = inl (subst (λ (x : Status). Written x (marked_text text bad) taken taken' o n result) says.0 (subst (λ (x : List ℕ). Written s x taken taken' o n result) says.1 w));
-  kept = kept words h left left' reads reads' rig second e k;
+pub judged : (words : List (List ℕ)) (h : StoreState) (left left' : Option (List ℕ)) (reads reads' : ℕ) (rig : RigState) (second : StoreState) (said : Said) (text : List ℕ) (taken taken' : Option (List ℕ)) (o n : ℕ) (s : Status) → Judges (Ok said) left left' reads reads' → text ≡ said.text.items → Written said.status text taken taken' o n s →
+    Came (Some Judge) (Ok s) (on_input words h h left left' reads reads' rig second) taken taken' o n
+judged words h left left' reads reads' rig second said text taken taken' o n s j e w = record {
+  comes = (j.came.judged, j.came.was, subst (λ (x : Status). Written x (judged_text j.came.judged.text j.came.judged.reads) taken taken' o n s) j.came.status_is (subst (λ (x : List ℕ). Written said.status x taken taken' o n s) (e ∙ j.came.text_is) w));
+  kept = record { source = j.count; rig = refl; first = refl; second = refl };
 }
 
--- a text that was read to its end
-pub told_whole : (words : List (List ℕ)) (h : StoreState) (left left' : Option (List ℕ)) (reads reads' : ℕ) (rig : RigState) (second : StoreState) (taken taken' : Option (List ℕ)) (o n : ℕ) (result : Status) (text : List ℕ) (said : Result Said AllocError) →
-    command_in words ≡ Some Judge → reads ≤ reads' → IsWhole text left left' → IfOk said (λ x. Says (script_in text) x.status x.text.items text) → IsTold said taken taken' o n result → Ended (on_input words h h left left' reads reads' rig second) taken taken' o n result
-told_whole words h left left' reads reads' rig second taken taken' o n result text (Ok x) e k whole says w =
-    said_right words h left left' reads reads' rig second taken taken' o n result text (script_in text) x.status x.text.items e k whole refl says w
-told_whole words h left left' reads reads' rig second taken taken' o n result text (Err x) e k whole says w =
-    unjudged words h left left' reads reads' rig second refusal.Memory taken taken' o n result e k (within text left left' whole, refl) w
+pub refuses : (words : List (List ℕ)) (h : StoreState) (left left' : Option (List ℕ)) (reads reads' : ℕ) (rig : RigState) (second : StoreState) (r : Refusal) (taken : Option (List ℕ)) (o : ℕ) → Judges (Err r) left left' reads reads' → Came (Some Judge) (Err r) (on_input words h h left left' reads reads' rig second) taken taken o o
+refuses words h left left' reads reads' rig second r taken o j = record { comes = (j.came, refl, refl); kept = record { source = j.count; rig = refl; first = refl; second = refl } }
 
--- a text that is too long, which isn't kept
-pub told_over : (words : List (List ℕ)) (h : StoreState) (left left' : Option (List ℕ)) (reads reads' : ℕ) (rig : RigState) (second : StoreState) (taken taken' : Option (List ℕ)) (o n : ℕ) (result : Status) (said : Result Said AllocError) →
-    command_in words ≡ Some Judge → reads ≤ reads' → IsOver left left' → ((text : List ℕ) → IfOk said (λ x. Says (Err (record { line = 0; kind = TooMany })) x.status x.text.items text)) → IsTold said taken taken' o n result →
-    Ended (on_input words h h left left' reads reads' rig second) taken taken' o n result
-told_over words h left left' reads reads' rig second taken taken' o n result (Ok x) e k long says w =
-    let text = long.0 in
-    let bad : ScriptFault = record { line = 0; kind = TooMany } in
-    let s = says text in
-    record {
-      verdict = Marked text bad;
-      cause = record { named = e; taken = long.1; stopped = inr long.2; reads = too_long text long.2; untouched = refl };
-      written = inl (subst (λ (y : Status). Written y (marked_text text bad) taken taken' o n result) s.0 (subst (λ (y : List ℕ). Written x.status y taken taken' o n result) s.1 w));
-      kept = kept words h left left' reads reads' rig second e k;
-    }
-told_over words h left left' reads reads' rig second taken taken' o n result (Err x) e k long says w =
-    unjudged words h left left' reads reads' rig second refusal.Memory taken taken' o n result e k (over left left' long, refl) w
+-- ---- texts that are told
 
--- ---- what follows from a verdict with its cause
-
-untouched_refused : (r : Refusal) (f : Facts) → CauseNotJudged r f → f.first_after ≡ f.first
-untouched_refused refusal.ReadFault f c = c.2
-untouched_refused refusal.Memory f c = c.1
-untouched_refused _ f c = absurd c
-
-memory_refused : (r : Refusal) (f : Facts) → CauseNotJudged r f → Calm f.reads f.reads_after → status_of r ≡ status.Memory
-memory_refused refusal.ReadFault f c k = absurd (never_rose f.reads f.reads_after k c.0)
-memory_refused refusal.Memory f c k = refl
-memory_refused _ f c k = absurd c
-
-as_judge : (f : Facts) (r : Refusal) → command_in f.words ≡ Some Judge → CauseByCommand (command_in f.words) r f → CauseNotJudged r f
-as_judge f r e c = subst (λ (x : Option Command). CauseByCommand x r f) e c
-
-untouched_by : (f : Facts) (v : Verdict) → command_in f.words ≡ Some Judge → Cause v f → f.first_after ≡ f.first
-untouched_by f (Refused r) e c = untouched_refused r f (as_judge f r e c)
-untouched_by f Helped e c = let k = sym c ∙ e in absurd (cc)
-untouched_by f Versioned e c = let k = sym c ∙ e in absurd (cc)
-untouched_by f (Listed us) e c = let k = sym c.named ∙ e in absurd (cc)
-untouched_by f (Shown us at blocks) e c = let k = sym c.named ∙ e in absurd (cc)
-untouched_by f (Compared p ones twos) e c = let k = sym c.named ∙ e in absurd (cc)
-untouched_by f (Exported us at layout blocks) e c = let k = sym c.named ∙ e in absurd (cc)
-untouched_by f (Imported us at count layout) e c = let k = sym c.named ∙ e in absurd (cc)
-untouched_by f (Judged script) e c = c.untouched
-untouched_by f (Marked text bad) e c = c.untouched
-untouched_by f (Ran w) e c = absurd (subst (λ (y : Option Command). CauseRan y w f) e c)
+for_memory : (r : Refusal) (f : Facts) → CauseUnread r f.left f.left_after f.reads f.reads_after → Calm f.reads f.reads_after → lab.status_of r ≡ status.Memory
+for_memory (refusal.Stopped stop.ReadFault) f c k = absurd (never_rose f.reads f.reads_after k c.0)
+for_memory (refusal.Stopped stop.Memory) f c k = refl
+for_memory _ f c k = absurd c
 
 -- what was taken of a told source that is at its end is all that it told
 all_taken : (text all : List ℕ) (old new : Option (List ℕ)) → old ≡ Some all → Took text old new → IsAtEnd new → text ≡ all
@@ -145,60 +114,28 @@ long_taken text all (Some held) (Some left) e t l =
 not_both : (x : Result Script ScriptFault) (script : Script) (bad : ScriptFault) → x ≡ Ok script → x ≡ Err bad → ⊥
 not_both x script bad a b = let k : ◌≡◌ {A = Result Script ScriptFault} (Ok script) (Err bad) = sym a ∙ b in absurd (cc)
 
-not_marked : (f : Facts) (text all : List ℕ) (bad : ScriptFault) (script : Script) → HasScriptFault text bad f → f.left ≡ Some all → script_in all ≡ Ok script → IsAtEnd f.left_after ⊎ (length text ≡ most_bytes + 1) → ⊥
-not_marked f text all bad script c l s (inl k) =
-    not_both (script_in all) script bad s (ap script_in (sym (all_taken text all f.left f.left_after l c.taken k)) ∙ c.reads)
-not_marked f text all bad script c l s (inr k) = not_both (script_in all) script (record { line = 0; kind = TooMany }) s (long_taken text all f.left f.left_after l c.taken k)
+no_fault : (f : Facts) (text all : List ℕ) (bad : ScriptFault) (script : Script) → f.left ≡ Some all → script_in all ≡ Ok script → script_in text ≡ Err bad → Took text f.left f.left_after → IsAtEnd f.left_after ⊎ (length text ≡ most_bytes + 1) → ⊥
+no_fault f text all bad script l s e t (inl k) = not_both (script_in all) script bad s (ap script_in (sym (all_taken text all f.left f.left_after l t k)) ∙ e)
+no_fault f text all bad script l s e t (inr k) = not_both (script_in all) script (record { line = 0; kind = TooMany }) s (long_taken text all f.left f.left_after l t k)
 
-not_judged : (f : Facts) (all : List ℕ) (bad : ScriptFault) (script : Script) → HasJudged script f → f.left ≡ Some all → script_in all ≡ Err bad → ⊥
-not_judged f all bad script c l s =
-    not_both (script_in all) script bad (ap script_in (sym (all_taken c.text all f.left f.left_after l c.whole.0 c.whole.1)) ∙ c.reads) s
+no_script : (f : Facts) (text all : List ℕ) (bad : ScriptFault) (script : Script) → f.left ≡ Some all → script_in all ≡ Err bad → script_in text ≡ Ok script → IsWhole text f.left f.left_after → ⊥
+no_script f text all bad script l s e w = not_both (script_in all) script bad (ap script_in (sym (all_taken text all f.left f.left_after l w.0 w.1)) ∙ e) s
 
--- the status is the verdict's
-as_said : (f : Facts) (old new : Option (List ℕ)) (o n : ℕ) (result : Status) (v : Verdict) → command_in f.words ≡ Some Judge → Cause v f → Written (verdict_status v) (verdict_text v) old new o n result ⊎ BrokeOff v f old new result → Calm o n → result ≡ verdict_status v
-as_said f old new o n result v e c (inl (inl w)) k = w.0
-as_said f old new o n result v e c (inl (inr w)) k = absurd (never_rose o n k w.1)
-as_said f old new o n result (Refused r) e c (inr w) k = absurd w
-as_said f old new o n result Helped e c (inr w) k = absurd w
-as_said f old new o n result Versioned e c (inr w) k = absurd w
-as_said f old new o n result (Listed us) e c (inr w) k = absurd w
-as_said f old new o n result (Shown us at blocks) e c (inr w) k = let z = sym c.named ∙ e in absurd (cc)
-as_said f old new o n result (Compared p ones twos) e c (inr w) k = let z = sym c.named ∙ e in absurd (cc)
-as_said f old new o n result (Exported us at layout blocks) e c (inr w) k = let z = sym c.named ∙ e in absurd (cc)
-as_said f old new o n result (Imported us at count layout) e c (inr w) k = absurd w
-as_said f old new o n result (Judged script) e c (inr w) k = absurd w
-as_said f old new o n result (Marked text bad) e c (inr w) k = absurd w
-as_said f old new o n result (Ran x) e c (inr w) k = absurd w
+wrong_by : (f : Facts) (text : List ℕ) (reads : Result Script ScriptFault) (all : List ℕ) (bad : ScriptFault) → WasJudged (record { text = text; reads = reads }) f.left f.left_after → f.left ≡ Some all → script_in all ≡ Err bad → RefusesInput (judged_status reads)
+wrong_by f text (Ok script) all bad c l s = absurd (no_script f text all bad script l s c.reads c.given)
+wrong_by f text (Err other) all bad c l s = inl refl
 
-wrong_by : (f : Facts) (v : Verdict) (all : List ℕ) (bad : ScriptFault) → command_in f.words ≡ Some Judge → Cause v f → f.left ≡ Some all → script_in all ≡ Err bad → Calm f.reads f.reads_after → (verdict_status v ≡ status.Input) ⊎ (verdict_status v ≡ status.Memory)
-wrong_by f (Refused r) all bad e c l s k = inr (memory_refused r f (as_judge f r e c) k)
-wrong_by f Helped all bad e c l s k = let z = sym c ∙ e in absurd (cc)
-wrong_by f Versioned all bad e c l s k = let z = sym c ∙ e in absurd (cc)
-wrong_by f (Listed us) all bad e c l s k = let z = sym c.named ∙ e in absurd (cc)
-wrong_by f (Shown us at blocks) all bad e c l s k = let z = sym c.named ∙ e in absurd (cc)
-wrong_by f (Compared p ones twos) all bad e c l s k = let z = sym c.named ∙ e in absurd (cc)
-wrong_by f (Exported us at layout blocks) all bad e c l s k = let z = sym c.named ∙ e in absurd (cc)
-wrong_by f (Imported us at count layout) all bad e c l s k = let z = sym c.named ∙ e in absurd (cc)
-wrong_by f (Judged script) all bad e c l s k = absurd (not_judged f all bad script c l s)
-wrong_by f (Marked text other) all bad e c l s k = inl refl
-wrong_by f (Ran w) all bad e c l s k = absurd (subst (λ (y : Option Command). CauseRan y w f) e c)
+right_by : (f : Facts) (text : List ℕ) (reads : Result Script ScriptFault) (all : List ℕ) (script : Script) → WasJudged (record { text = text; reads = reads }) f.left f.left_after → f.left ≡ Some all → script_in all ≡ Ok script → WholeOrWants (judged_status reads)
+right_by f text (Ok other) all script c l s = inl refl
+right_by f text (Err bad) all script c l s = absurd (no_fault f text all bad script l s c.reads c.given.0 c.given.1)
 
-right_by : (f : Facts) (v : Verdict) (all : List ℕ) (script : Script) → command_in f.words ≡ Some Judge → Cause v f → f.left ≡ Some all → script_in all ≡ Ok script → Calm f.reads f.reads_after → (verdict_status v ≡ status.Whole) ⊎ (verdict_status v ≡ status.Memory)
-right_by f (Refused r) all script e c l s k = inr (memory_refused r f (as_judge f r e c) k)
-right_by f Helped all script e c l s k = let z = sym c ∙ e in absurd (cc)
-right_by f Versioned all script e c l s k = let z = sym c ∙ e in absurd (cc)
-right_by f (Listed us) all script e c l s k = let z = sym c.named ∙ e in absurd (cc)
-right_by f (Shown us at blocks) all script e c l s k = let z = sym c.named ∙ e in absurd (cc)
-right_by f (Compared p ones twos) all script e c l s k = let z = sym c.named ∙ e in absurd (cc)
-right_by f (Exported us at layout blocks) all script e c l s k = let z = sym c.named ∙ e in absurd (cc)
-right_by f (Imported us at count layout) all script e c l s k = let z = sym c.named ∙ e in absurd (cc)
-right_by f (Judged other) all script e c l s k = inl refl
-right_by f (Marked text bad) all script e c l s k = absurd (not_marked f text all bad script c l s c.stopped)
-right_by f (Ran w) all script e c l s k = absurd (subst (λ (y : Option Command). CauseRan y w f) e c)
+wrong : (f : Facts) (v : Verdict Refusal Judged) → Cause lab judge_work v f → (all : List ℕ) (bad : ScriptFault) → f.left ≡ Some all → script_in all ≡ Err bad → Calm f.reads f.reads_after → RefusesInput (verdict_status lab judge_work v)
+wrong f (Refused r) c all bad l s k = inr (for_memory r f c k)
+wrong f (Done x) c all bad l s k = wrong_by f x.text x.reads all bad c l s
 
-pub judges_text : (f : Facts) (old new : Option (List ℕ)) (o n : ℕ) (result : Status) → Ended f old new o n result → command_in f.words ≡ Some Judge → JudgesText f o n result
-judges_text f old new o n result ended e = record {
-  untouched = untouched_by f ended.verdict e ended.cause;
-  wrong = λ text bad l s k w. subst (λ (x : Status). (x ≡ status.Input) ⊎ (x ≡ status.Memory)) (sym (as_said f old new o n result ended.verdict e ended.cause ended.written w)) (wrong_by f ended.verdict text bad e ended.cause l s k);
-  right = λ text script l s k w. subst (λ (x : Status). (x ≡ status.Whole) ⊎ (x ≡ status.Memory)) (sym (as_said f old new o n result ended.verdict e ended.cause ended.written w)) (right_by f ended.verdict text script e ended.cause l s k);
-}
+right : (f : Facts) (v : Verdict Refusal Judged) → Cause lab judge_work v f → (all : List ℕ) (script : Script) → f.left ≡ Some all → script_in all ≡ Ok script → Calm f.reads f.reads_after → WholeOrWants (verdict_status lab judge_work v)
+right f (Refused r) c all script l s k = inr (for_memory r f c k)
+right f (Done x) c all script l s k = right_by f x.text x.reads all script c l s
+
+pub judges : (f : Facts) (v : Verdict Refusal Judged) → Cause lab judge_work v f → judge_work.Answers f (verdict_status lab judge_work v)
+judges f v c = record { wrong = λ text bad l s k. wrong f v c text bad l s k; right = λ text script l s k. right f v c text script l s k }

@@ -1,10 +1,11 @@
 mod Carrying
-mod Endings
-mod Dumping
 mod Differing
+mod Dumping
+mod Explains
 mod FewWords
 mod Judges
-mod Vectoring
 mod Named
+mod Openings
+mod Shows
 mod Sweeps
-mod Explains
+mod Vectoring

@@ -7,7 +7,7 @@ use Rattle.lab_run.specs.Grammar.{PlaceAhead, alone, alone_behind, behind_image,
 use Rattle.lab_run.specs.Places.{place_in}
 use Rattle.lab_run.specs.declared.command.Command.{Command}
 use Rattle.lab_run.specs.declared.command.Command.TheVariants.{Help, Version, ShowUnits, ShowBlocks, Diff, Export, Import, Vectors, Judge, Explain, Sweep}
-use Rattle.lab_run.specs.declared.layout.Layout.{Layout}
+use Rattle.image_text.specs.declared.layout.Layout.{Layout}
 use Rattle.lab_run.specs.declared.place.PlaceWord.{PlaceWord}
 use Rattle.script_words.specs.Hexes.{byte_in}
 use Rattle.target_answer.specs.Headers.{is_layout}

@@ -1,52 +1,14 @@
-use Rattle.std.specs.Prelude.{ℕ, ◌⊎◌, Bool, true, false, List, [], ◌∷◌, Option, Some, None, Result}
+use Rattle.std.specs.Prelude.{ℕ, List, [], ◌∷◌, Option, Result}
 use Rattle.dix_base.specs.Stores.{StoreState}
 use Rattle.image_blocks.specs.Places.{part_in, whole_in}
 use Rattle.image_blocks.specs.declared.stretch.PlaceFault.{PlaceFault}
 use Rattle.image_blocks.specs.declared.stretch.Stretch.{Stretch}
-use Rattle.image_text.specs.declared.layout.Layout.{Layout as DumpLayout}
-use Rattle.image_text.specs.declared.layout.Layout.TheVariants as dump
-use Rattle.image_rig.specs.Heads.{called}
-use Rattle.lab_run.specs.declared.command.Command.{Command}
-use Rattle.lab_run.specs.declared.command.Command.TheVariants.{Help, Version, ShowUnits, ShowBlocks, Diff, Export, Import, Vectors, Judge, Explain, Sweep}
-use Rattle.lab_run.specs.declared.layout.Layout.{Layout}
-use Rattle.lab_run.specs.declared.layout.Layout.TheVariants as word
 use Rattle.lab_run.specs.declared.place.PlaceWord.{PlaceWord}
 use Rattle.lab_run.specs.declared.place.PlaceWord.TheVariants.{Device, Blocks}
-use Rattle.rig_api.specs.Telling.{Opened, Stayed}
 use Rattle.rig_api.specs.State.{RigState}
 use Rattle.target_answer.specs.declared.units.UnitSpec.{UnitSpec}
 
 -- What a call of the program speaks of.
-
--- Whether a command uses the second store: `diff` alone does.
-abbrev pub uses_second : Option Command → Bool
-uses_second None = false
-uses_second (Some Help) = false
-uses_second (Some Version) = false
-uses_second (Some ShowUnits) = false
-uses_second (Some (ShowBlocks place)) = false
-uses_second (Some (Diff one other)) = true
-uses_second (Some (Export place layout)) = false
-uses_second (Some (Import place layout)) = false
-uses_second (Some Vectors) = false
-uses_second (Some Judge) = false
-uses_second (Some Explain) = false
-uses_second (Some (Sweep byte units)) = false
-
--- Whether a command uses the rig: `vectors` and `explain IMAGE` do.
-abbrev pub uses_rig : Option Command → Bool
-uses_rig None = false
-uses_rig (Some Help) = false
-uses_rig (Some Version) = false
-uses_rig (Some ShowUnits) = false
-uses_rig (Some (ShowBlocks place)) = false
-uses_rig (Some (Diff one other)) = false
-uses_rig (Some (Export place layout)) = false
-uses_rig (Some (Import place layout)) = false
-uses_rig (Some Vectors) = true
-uses_rig (Some Judge) = false
-uses_rig (Some Explain) = true
-uses_rig (Some (Sweep byte units)) = false
 
 -- the second image that the words of a `diff` name
 abbrev pub second_in : List (List ℕ) → List ℕ
@@ -60,16 +22,6 @@ second_in (verb ∷ image ∷ place ∷ second ∷ words) = second
 abbrev pub stretch_in : List UnitSpec → PlaceWord → Result Stretch PlaceFault
 stretch_in us (Device dev) = whole_in us dev
 stretch_in us (Blocks dev first count) = part_in us dev first count
-
--- the layout of a dump as the words have it, and as its blocks are taken
-abbrev pub laid_as : Layout → DumpLayout
-laid_as word.Interleaved = dump.Interleaved
-laid_as word.Plain = dump.Plain
-laid_as word.Tuples = dump.Tuples
-
--- The store was opened by this name, or not at all.
-abbrev pub OpenedOnce : List ℕ → StoreState → StoreState → Type 0
-OpenedOnce name old new = Stayed (called old) (called new) ⊎ Opened name (called old) (called new)
 
 -- what a call speaks of: its words, and its source, its rig and its two stores before and after
 pub record Facts : Type 0 where

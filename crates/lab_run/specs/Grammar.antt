@@ -7,7 +7,7 @@ use Rattle.lab_run.specs.Layouts.{layout_in}
 use Rattle.lab_run.specs.Places.{place_in}
 use Rattle.lab_run.specs.declared.command.Command.{Command}
 use Rattle.lab_run.specs.declared.command.Command.TheVariants.{Help, Version, ShowUnits, ShowBlocks, Diff, Export, Import, Vectors, Judge, Explain, Sweep}
-use Rattle.lab_run.specs.declared.layout.Layout.{Layout}
+use Rattle.image_text.specs.declared.layout.Layout.{Layout}
 use Rattle.lab_run.specs.declared.place.PlaceWord.{PlaceWord}
 
 -- The grammar of the program's words. Names of images, numbers and units are those of `dix`.

@@ -1,47 +1,85 @@
-use Rattle.std.specs.Prelude.{ℕ, ◌≡◌, ◌⊎◌, ◌+◌, List, length, Some, Ok, Err}
+use Rattle.std.specs.Prelude.{ℕ, ◌≡◌, ◌⊎◌, ◌+◌, ◌≤◌, List, length, Option, Some, Result, Ok, Err, IfOk, MatchResult}
+use Rattle.std.specs.declared.alloc.AllocError.{AllocError}
 use Rattle.dix_base.specs.Told.{Calm, IsAtEnd, Rose, Took}
-use Rattle.lab_run.specs.declared.command.Command.TheVariants.{Judge}
+use Rattle.call_refusal.specs.declared.refusal.Refusal.TheVariants as stop
+use Rattle.call_verdict.specs.Verdicts.{Work, WholeOrWants}
+use Rattle.call_verdict.specs.declared.status.Status.{Status}
+use Rattle.call_verdict.specs.declared.status.Status.TheVariants as status
+use Rattle.fault_marks.specs.Texts.{marked_text, right_text}
 use Rattle.script_text.specs.Language.{script_in}
 use Rattle.script_text.specs.declared.fault.ScriptFault.{ScriptFault}
 use Rattle.script_text.specs.declared.script.Script.{Script}
 use Rattle.source_text.specs.Reading.{IsWhole, TookAtMost, most_bytes}
-use Rattle.lab_run.specs.Grammar.{command_in}
 use Rattle.lab_run.specs.Calls.{Facts}
+use Rattle.lab_run.specs.Telling.{RefusesInput}
+use Rattle.lab_run.specs.Texts.{lab}
+use Rattle.lab_run.specs.declared.judging.Said.{Said}
 use Rattle.lab_run.specs.declared.refusal.Refusal.{Refusal}
 use Rattle.lab_run.specs.declared.refusal.Refusal.TheVariants as refusal
-use Rattle.lab_run.specs.declared.status.Status.{Status}
-use Rattle.lab_run.specs.declared.status.Status.TheVariants as status
 
--- What judging a script comes to.
+-- ---- explain: what the script of the source holds was counted, or its first fault was marked
 
--- The source gave the text of this script, and was then at its end. No image was touched.
-pub record HasJudged (script : Script) (f : Facts) : Type 0 where
-  pub named : command_in f.words ≡ Some Judge
+-- a text, and what it reads as
+pub record Judged : Type 0 where
   pub text : List ℕ
-  pub whole : IsWhole text f.left f.left_after
-  pub reads : script_in text ≡ Ok script
-  pub untouched : f.first_after ≡ f.first
+  pub reads : Result Script ScriptFault
 
--- The source gave this text, whose first fault this is, and was then at its end, or gave one byte more than a script may have. No image was touched.
-pub record HasScriptFault (text : List ℕ) (bad : ScriptFault) (f : Facts) : Type 0 where
-  pub named : command_in f.words ≡ Some Judge
-  pub taken : Took text f.left f.left_after
-  pub stopped : IsAtEnd f.left_after ⊎ (length text ≡ most_bytes + 1)
-  pub reads : script_in text ≡ Err bad
-  pub untouched : f.first_after ≡ f.first
+-- the status of a text that reads so
+abbrev pub judged_status : Result Script ScriptFault → Status
+judged_status (Ok script) = status.Whole
+judged_status (Err bad) = status.Input
 
--- Why a source gives no text to be judged, and what is left then. No image was touched.
-abbrev pub CauseNotJudged : Refusal → Facts → Type 0
-CauseNotJudged refusal.ReadFault f = Rose f.reads f.reads_after × TookAtMost most_bytes f.left f.left_after × (f.first_after ≡ f.first)
-CauseNotJudged refusal.Memory f = TookAtMost (most_bytes + 1) f.left f.left_after × (f.first_after ≡ f.first)
-CauseNotJudged _ f = ⊥
+-- what is written of it: the counts of a right script, or the text with its first fault marked
+abbrev pub judged_text : (text : List ℕ) → Result Script ScriptFault → List ℕ
+judged_text text (Ok script) = right_text script
+judged_text text (Err bad) = marked_text text bad
 
--- The script of the source has a fault, the first.
-abbrev pub IsScriptAtFault : Facts → Type 0
-IsScriptAtFault f = (text : List ℕ) × (bad : ScriptFault) × HasScriptFault text bad f
+-- The source gave the text and was then at its end; of one with a fault it may have given no more than one byte more than a script may have.
+abbrev pub IsGiven : (text : List ℕ) → Result Script ScriptFault → (left left_after : Option (List ℕ)) → Type 0
+IsGiven text (Ok script) left left_after = IsWhole text left left_after
+IsGiven text (Err bad) left left_after = Took text left left_after × (IsAtEnd left_after ⊎ (length text ≡ most_bytes + 1))
 
--- A call that judges a script touches no image. A text that is told and has a fault gives 3, or want of memory, if neither source nor sink fails; that of a right script gives 0, or want of memory.
-pub record JudgesText (f : Facts) (o n : ℕ) (result : Status) : Type 0 where
-  pub untouched : f.first_after ≡ f.first
-  pub wrong : (text : List ℕ) (bad : ScriptFault) → f.left ≡ Some text → script_in text ≡ Err bad → Calm f.reads f.reads_after → Calm o n → (result ≡ status.Input) ⊎ (result ≡ status.Memory)
-  pub right : (text : List ℕ) (script : Script) → f.left ≡ Some text → script_in text ≡ Ok script → Calm f.reads f.reads_after → Calm o n → (result ≡ status.Whole) ⊎ (result ≡ status.Memory)
+-- The source gave this text, which reads so.
+pub record WasJudged (x : Judged) (left left_after : Option (List ℕ)) : Type 0 where
+  pub given : IsGiven x.text x.reads left left_after
+  pub reads : script_in x.text ≡ x.reads
+
+-- Why a source gives no text to be judged, and what is left then.
+abbrev pub CauseUnread : Refusal → (left left_after : Option (List ℕ)) → (reads reads_after : ℕ) → Type 0
+CauseUnread (refusal.Stopped stop.ReadFault) left left_after reads reads_after = Rose reads reads_after × TookAtMost most_bytes left left_after
+CauseUnread (refusal.Stopped stop.Memory) left left_after reads reads_after = TookAtMost (most_bytes + 1) left left_after
+CauseUnread _ left left_after reads reads_after = ⊥
+
+-- A text that is told and has a fault gives 3, or want of memory, if the source doesn't fail; that of a right script gives 0, or want of memory.
+pub record JudgesText (f : Facts) (s : Status) : Type 0 where
+  pub wrong : (text : List ℕ) (bad : ScriptFault) → f.left ≡ Some text → script_in text ≡ Err bad → Calm f.reads f.reads_after → RefusesInput s
+  pub right : (text : List ℕ) (script : Script) → f.left ≡ Some text → script_in text ≡ Ok script → Calm f.reads f.reads_after → WholeOrWants s
+
+-- its record
+abbrev pub judge_work : Work lab
+judge_work = record {
+  Yield = Judged;
+  WasDone = λ x f. WasJudged x f.left f.left_after;
+  status = λ x. judged_status x.reads;
+  text = λ x. judged_text x.text x.reads;
+  WasRefused = λ r f. CauseUnread r f.left f.left_after f.reads f.reads_after;
+  Answers = JudgesText;
+}
+
+-- ---- what its parts hand on
+
+-- What is said of a text that reads so.
+abbrev pub Says : Result Script ScriptFault → (text : List ℕ) → Result Said AllocError → Type 0
+Says reads text said = IfOk said (λ s. (s.status ≡ judged_status reads) × (s.text.items ≡ judged_text text reads))
+
+-- The source gave a text, of which this is said.
+pub record IsSaid (s : Said) (left left_after : Option (List ℕ)) : Type 0 where
+  pub judged : Judged
+  pub was : WasJudged judged left left_after
+  pub status_is : s.status ≡ judged_status judged.reads
+  pub text_is : s.text.items ≡ judged_text judged.text judged.reads
+
+-- A text of the source was judged; or it gave none, for a cause, or there was no memory. No count falls.
+pub record Judges (result : Result Said Refusal) (left left_after : Option (List ℕ)) (reads reads_after : ℕ) : Type 0 where
+  pub came : MatchResult result (λ s. IsSaid s left left_after) (λ r. CauseUnread r left left_after reads reads_after)
+  pub count : reads ≤ reads_after

@@ -1,7 +1,7 @@
 use Rattle.std.specs.Prelude.{ℕ, if◌then◌else◌, List, codes, Option, Some, None}
 use Rattle.std.specs.Str.{bytes_eq}
-use Rattle.lab_run.specs.declared.layout.Layout.{Layout}
-use Rattle.lab_run.specs.declared.layout.Layout.TheVariants.{Interleaved, Plain, Tuples}
+use Rattle.image_text.specs.declared.layout.Layout.{Layout}
+use Rattle.image_text.specs.declared.layout.Layout.TheVariants.{Interleaved, Plain, Tuples}
 
 -- the layout that a word names
 abbrev pub layout_in : List ℕ → Option Layout

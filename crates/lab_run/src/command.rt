@@ -5,8 +5,9 @@ ghost use Rattle.std.specs.Str.{bytes_eq};
 ghost use Rattle.unit_words.specs.Words.{word_bytes};
 ghost use Rattle.lab_run.specs.Grammar.{alone, behind_image, command_by, command_in, diff_of, explain_of, export_of, flip_in, image_and_place, import_of, laid_in, layout_alone, show_of, shown, sweep_of, vectors_of};
 
-use crate::layout::{Layout, layout_of};
+use crate::layout::layout_of;
 use crate::place::{PlaceWord, place_of};
+use image_text::Layout;
 use script_words::byte;
 use unit_words::{UnitList, is_name, laid_out};
 

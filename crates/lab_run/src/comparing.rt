@@ -1,22 +1,21 @@
 //! Comparing places of two images.
 
-ghost use Rattle.std.specs.Prelude.{◌≡◌, ℕ, List, Option, Some, eqb};
-ghost use Rattle.unit_words.specs.Words.{word_bytes};
+ghost use Rattle.call_verdict.specs.Verdicts.{IsPassedOn};
+ghost use Rattle.std.specs.Prelude.{◌≡◌, ℕ, List, Option, Some, eqb, IfOk};
 ghost use Rattle.image_blocks.specs.Images.{units_open};
 ghost use Rattle.image_blocks.specs.Places.{IsStretch, spec_of};
 ghost use Rattle.lab_run.specs.declared.command.Command.{Command};
-ghost use Rattle.lab_run.specs.Grammar.{command_in};
-ghost use Rattle.lab_run.specs.Calls.{on_both, second_in};
-ghost use Rattle.lab_run.specs.Verdict.{Ended, compared_status};
 ghost use Rattle.rig_api.specs.State.{RigState};
+ghost use Rattle.unit_words.specs.Words.{word_bytes};
+ghost use Rattle.lab_run.specs.Calls.{on_both, second_in};
+ghost use Rattle.lab_run.specs.Commands.{Came};
+ghost use Rattle.lab_run.specs.Comparing.{compared_status};
 
-use crate::PlaceWord;
-use crate::program::{refuse, status_for};
+use crate::finding::{Found, find};
+use crate::place::PlaceWord;
 use crate::refusal::Refusal;
-use crate::showing::stretch_of;
-use crate::status::Status;
+use call_verdict::{Status, status_for};
 use dix_base::{Sink, Store};
-use image_blocks::{Image, Stretch, open_image};
 use image_text::{DiffFault, diff_blocks};
 use std::alloc::Global;
 use unit_words::image_of;
@@ -32,13 +31,13 @@ fn second_of(words: &[String]) -> &str
 }
 
 /// Whether the blocks of two places have the same size.
-fn are_one_size(image: &Image, at: Stretch, other: &Image, to: Stretch) -> bool
-    requires place { IsStretch (units_open image.now) at }
-    requires other { IsStretch (units_open other.now) to }
-    ensures { result ≡ eqb (spec_of (units_open image.now) at.dev).size (spec_of (units_open other.now) to.dev).size }
+fn are_one_size(one: &Found, other: &Found) -> bool
+    requires one { IsStretch (units_open one.now.image) one.now.at }
+    requires other { IsStretch (units_open other.now.image) other.now.at }
+    ensures { result ≡ eqb (spec_of (units_open one.now.image) one.now.at.dev).size (spec_of (units_open other.now.image) other.now.at.dev).size }
 {
-    let unit = image.units()[at.dev as usize];
-    let other_unit = other.units()[to.dev as usize];
+    let unit = one.image.units()[one.at.dev as usize];
+    let other_unit = other.image.units()[other.at.dev as usize];
     unit.size == other_unit.size
 }
 
@@ -63,38 +62,35 @@ pub(crate) fn diff<A: Store, B: Store, O: Sink>(
     first: &mut A,
     second: &mut B,
     out: &mut O,
-) -> Status
-    requires { command_in (word_bytes words.now) ≡ Some (Command.Diff one other) }
-    ensures { (left : Option (List ℕ)) (reads : ℕ) (rig : RigState) → Ended (on_both (word_bytes words.now) (A.state first.old) (A.state first.new) (B.state second.old) (B.state second.new)
-        left reads rig) (O.taken out.old) (O.taken out.new) (O.faults out.old) (O.faults out.new) result }
+) -> Result<Status, Refusal>
+    ensures came { (left : Option (List ℕ)) (reads : ℕ) (rig : RigState) → Came (Some (Command.Diff one other)) result
+        (on_both (word_bytes words.now) (A.state first.old) (A.state first.new) (B.state second.old) (B.state second.new) left reads rig)
+        (O.taken out.old) (O.taken out.new) (O.faults out.old) (O.faults out.new) }
+    ensures handed { IfOk result (λ status. IsPassedOn status (O.passed out.new) (O.taken out.new)) }
 {
-    let mut room = match vec![in alloc; 0u8; 2 * SIDE] {
-        Ok(room) => room,
-        Err(_) => return refuse(out, Refusal::Memory),
+    let mut room = vec![in alloc; 0u8; 2 * SIDE]?;
+    let here = find(alloc, first, image_of(words), one)?;
+    let there = match find(alloc, second, second_of(words), other) {
+        Ok(there) => there,
+        Err(unfound) => return Err(Refusal::of_second(unfound)),
     };
-    let image = match open_image(alloc, first, image_of(words)) {
-        Ok(image) => image,
-        Err(fault) => return refuse(out, Refusal::of(fault)),
-    };
-    let at = match stretch_of(&image, one) {
-        Ok(at) => at,
-        Err(fault) => return refuse(out, Refusal::Place(fault)),
-    };
-    let beside = match open_image(alloc, second, second_of(words)) {
-        Ok(beside) => beside,
-        Err(fault) => return refuse(out, Refusal::of_second(fault)),
-    };
-    let to = match stretch_of(&beside, other) {
-        Ok(to) => to,
-        Err(fault) => return refuse(out, Refusal::SecondPlace(fault)),
-    };
-    if !are_one_size(&image, at, &beside, to) {
-        return refuse(out, Refusal::OtherSize);
+    if !are_one_size(&here, &there) {
+        return Err(Refusal::OtherSize);
     }
-    if at.count != to.count {
-        return refuse(out, Refusal::OtherCount);
+    if here.at.count != there.at.count {
+        return Err(Refusal::OtherCount);
     }
-    status_of(diff_blocks(first, &image, at, second, &beside, to, &mut room, out))
+    let ended = diff_blocks(
+        first,
+        &here.image,
+        here.at,
+        second,
+        &there.image,
+        there.at,
+        &mut room,
+        out,
+    );
+    Ok(status_of(ended))
 }
 
 /// So many bytes of blocks are read at once of each side, at most. Two rooms as long as `ROOM` would take a megabyte,

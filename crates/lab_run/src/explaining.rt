@@ -1,19 +1,18 @@
 //! Explaining the run of a script.
 
-ghost use Rattle.std.specs.Prelude.{◌≡◌, ◌≤◌, Some, drop, length};
+ghost use Rattle.std.specs.Prelude.{◌≡◌, ◌≤◌, Some, drop, length, IfOk};
 ghost use Rattle.unit_words.specs.Words.{word_bytes};
+ghost use Rattle.call_verdict.specs.Verdicts.{IsPassedOn, Written, done_status};
 ghost use Rattle.dix_base.specs.Stores.{StoreState};
 ghost use Rattle.lab_run.specs.declared.command.Command.{Command};
 ghost use Rattle.run_words.specs.Sites.{Guides};
 ghost use Rattle.run_words.specs.Texts.{explained_by};
 ghost use Rattle.run_command.specs.Texts.{has_bad};
-ghost use Rattle.lab_run.specs.Grammar.{command_in};
 ghost use Rattle.lab_run.specs.Calls.{on_rig};
-ghost use Rattle.lab_run.specs.Verdict.{Ended, Written, done_status};
+ghost use Rattle.lab_run.specs.Commands.{Came};
 
-use crate::program::{finish, status_for};
-use crate::status::Status;
-use crate::stopping::stop;
+use crate::refusal::Refusal;
+use call_verdict::{Status, finish, status_for};
 use dix_base::{Failed, Sink, Source};
 use rig_api::Rig;
 use run_words::{Explained, Unexplained, explain_source, print_explained};
@@ -24,9 +23,10 @@ use unit_words::image_of;
 fn tell_run<R: Rig, O: Sink>(out: &mut O, told: &Explained, rig: &R) -> Status
     requires records { told.now.run.first ≤ length (R.state rig.now).log }
     requires guides { Guides told.now.guide told.now.run.stack.replies.items }
-    ensures { Written (done_status (has_bad told.now.run.stack.replies.items))
+    ensures written { Written (done_status (has_bad told.now.run.stack.replies.items))
         (explained_by told.now.guide.sites.items told.now.guide.entries (drop told.now.run.first (R.state rig.now).log) told.now.run.stack.replies.items)
         (O.taken out.old) (O.taken out.new) (O.faults out.old) (O.faults out.new) result }
+    ensures handed { IsPassedOn result (O.passed out.new) (O.taken out.new) }
 {
     match print_explained(out, told, rig) {
         Ok(()) => status_for(told.run.has_bad()),
@@ -41,16 +41,15 @@ pub(crate) fn explain<S: Source, R: Rig, O: Sink>(
     input: &mut S,
     rig: &mut R,
     out: &mut O,
-) -> Status
-    requires { command_in (word_bytes words.now) ≡ Some Command.Explain }
-    ensures { let old = R.state rig.old in
-        let new = R.state rig.new in
-        (first second : StoreState) → Ended (on_rig (word_bytes words.now) (S.left input.old) (S.left input.new) (S.faults input.old) (S.faults input.new) old new first second)
-        (O.taken out.old) (O.taken out.new) (O.faults out.old) (O.faults out.new) result }
+) -> Result<Status, Refusal>
+    ensures came { (first second : StoreState) → Came (Some Command.Explain) result
+        (on_rig (word_bytes words.now) (S.left input.old) (S.left input.new) (S.faults input.old) (S.faults input.new) (R.state rig.old) (R.state rig.new) first second)
+        (O.taken out.old) (O.taken out.new) (O.faults out.old) (O.faults out.new) }
+    ensures handed { IfOk result (λ status. IsPassedOn status (O.passed out.new) (O.taken out.new)) }
 {
     match explain_source(alloc, image_of(words), input, rig) {
-        Ok(told) => tell_run(out, &told, rig),
-        Err(Unexplained::Marked(said)) => finish(out, &said, Status::Input),
-        Err(Unexplained::Refused(reason)) => stop(out, reason),
+        Ok(told) => Ok(tell_run(out, &told, rig)),
+        Err(Unexplained::Marked(said)) => Ok(finish(out, &said, Status::Input)),
+        Err(Unexplained::Refused(reason)) => Err(Refusal::Stopped(reason)),
     }
 }

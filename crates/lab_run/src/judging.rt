@@ -1,22 +1,20 @@
 //! Judging a script.
 
-ghost use Rattle.std.specs.Prelude.{◌≡◌, ℕ, Err, IfOk, List, Ok, Some};
+ghost use Rattle.call_verdict.specs.Verdicts.{IsPassedOn};
+ghost use Rattle.std.specs.Prelude.{◌≡◌, ℕ, Err, List, Ok, Some, IfOk};
 ghost use Rattle.dix_base.specs.Stores.{StoreState};
-ghost use Rattle.script_lines.specs.declared.kind.ScriptKind.{ScriptKind};
-ghost use Rattle.unit_words.specs.Words.{word_bytes};
 ghost use Rattle.lab_run.specs.declared.command.Command.{Command};
-ghost use Rattle.script_text.specs.Language.{script_in};
-ghost use Rattle.lab_run.specs.Grammar.{command_in};
-ghost use Rattle.lab_run.specs.Calls.{on_input};
-ghost use Rattle.fault_marks.specs.Texts.{marked_text};
-ghost use Rattle.lab_run.specs.Saying.{IsTold, Says};
-ghost use Rattle.lab_run.specs.Verdict.{Ended};
 ghost use Rattle.rig_api.specs.State.{RigState};
+ghost use Rattle.script_lines.specs.declared.kind.ScriptKind.{ScriptKind};
+ghost use Rattle.script_text.specs.Language.{script_in};
+ghost use Rattle.unit_words.specs.Words.{word_bytes};
+ghost use Rattle.lab_run.specs.Calls.{on_input};
+ghost use Rattle.lab_run.specs.Commands.{Came};
+ghost use Rattle.lab_run.specs.Judging.{Judges, Says};
 
-use crate::program::{finish, refuse};
 use crate::refusal::Refusal;
-use crate::status::Status;
-use call_refusal::TOO_LONG;
+use call_refusal::{Refusal as Stop, TOO_LONG};
+use call_verdict::{Status, finish};
 use dix_base::{Sink, Source};
 use fault_marks::{marked_text, right_text};
 use script_laws::a_read_script_keeps_the_rules;
@@ -34,7 +32,7 @@ pub(crate) struct Said {
 /// What is said of a text with this fault, or want of memory.
 fn of_fault(alloc: Global, text: &[u8], fault: ScriptFault) -> Result<Said, AllocError>
     requires { script_in text.now ≡ Err fault }
-    ensures { IfOk result (λ s. Says (script_in text.now) s.status s.text.items text.now) }
+    ensures { Says (script_in text.now) text.now result }
 {
     Ok(Said {
         text: marked_text(alloc, text, fault)?,
@@ -45,7 +43,7 @@ fn of_fault(alloc: Global, text: &[u8], fault: ScriptFault) -> Result<Said, Allo
 /// What is said of the text of this script, or want of memory.
 fn of_script(alloc: Global, text: &[u8], script: &Script) -> Result<Said, AllocError>
     requires { script_in text.now ≡ Ok script.now }
-    ensures { IfOk result (λ s. Says (script_in text.now) s.status s.text.items text.now) }
+    ensures { Says (script_in text.now) text.now result }
 {
     a_read_script_keeps_the_rules(text, script);
     Ok(Said {
@@ -56,7 +54,7 @@ fn of_script(alloc: Global, text: &[u8], script: &Script) -> Result<Said, AllocE
 
 /// What is said of a text, or want of memory.
 fn said_of(alloc: Global, text: &[u8]) -> Result<Said, AllocError>
-    ensures { IfOk result (λ s. Says (script_in text.now) s.status s.text.items text.now) }
+    ensures { Says (script_in text.now) text.now result }
 {
     match read_script(alloc, text) {
         Ok(script) => of_script(alloc, text, &script),
@@ -72,7 +70,7 @@ fn said_of(alloc: Global, text: &[u8]) -> Result<Said, AllocError>
 
 /// What is said of a text that is too long, which isn't kept, or want of memory.
 fn said_of_long(alloc: Global) -> Result<Said, AllocError>
-    ensures { (text : List ℕ) → IfOk result (λ s. Says (Err (record { line = 0; kind = ScriptKind.TooMany })) s.status s.text.items text) }
+    ensures { (text : List ℕ) → Says (Err (record { line = 0; kind = ScriptKind.TooMany })) text result }
 {
     Ok(Said {
         text: marked_text(alloc, &[], TOO_LONG)?,
@@ -80,13 +78,15 @@ fn said_of_long(alloc: Global) -> Result<Said, AllocError>
     })
 }
 
-/// Writes what is said, or that there is no memory.
-fn tell<O: Sink>(out: &mut O, said: Result<Said, AllocError>) -> Status
-    ensures { IsTold said (O.taken out.old) (O.taken out.new) (O.faults out.old) (O.faults out.new) result }
+/// What is said of the text that the source gives.
+fn judged<S: Source>(alloc: Global, input: &mut S) -> Result<Said, Refusal>
+    ensures { Judges result (S.left input.old) (S.left input.new) (S.faults input.old) (S.faults input.new) }
 {
-    match said {
-        Ok(said) => finish(out, &said.text, said.status),
-        Err(_) => refuse(out, Refusal::Memory),
+    match read_all(alloc, input) {
+        Ok(text) => Ok(said_of(alloc, &text)?),
+        Err(Unread::TooMany) => Ok(said_of_long(alloc)?),
+        Err(Unread::Failed) => Err(Refusal::Stopped(Stop::ReadFault)),
+        Err(Unread::Memory) => Err(Refusal::MEMORY),
     }
 }
 
@@ -96,17 +96,13 @@ pub(crate) fn judge<S: Source, O: Sink>(
     words: &[String],
     input: &mut S,
     out: &mut O,
-) -> Status
-    requires { command_in (word_bytes words.now) ≡ Some Command.Judge }
-    ensures { (h : StoreState) (rig : RigState) (second : StoreState)
-        → Ended (on_input (word_bytes words.now) h h (S.left input.old) (S.left input.new) (S.faults input.old) (S.faults input.new) rig second)
-        (O.taken out.old) (O.taken out.new) (O.faults out.old) (O.faults out.new) result }
+) -> Result<Status, Refusal>
+    ensures came { (h : StoreState) (rig : RigState) (second : StoreState) → Came (Some Command.Judge) result
+        (on_input (word_bytes words.now) h h (S.left input.old) (S.left input.new) (S.faults input.old) (S.faults input.new) rig second)
+        (O.taken out.old) (O.taken out.new) (O.faults out.old) (O.faults out.new) }
+    ensures handed { IfOk result (λ status. IsPassedOn status (O.passed out.new) (O.taken out.new)) }
 {
     let _words = words;
-    match read_all(alloc, input) {
-        Ok(text) => tell(out, said_of(alloc, &text)),
-        Err(Unread::TooMany) => tell(out, said_of_long(alloc)),
-        Err(Unread::Failed) => refuse(out, Refusal::ReadFault),
-        Err(Unread::Memory) => refuse(out, Refusal::Memory),
-    }
+    let said = judged(alloc, input)?;
+    Ok(finish(out, &said.text, said.status))
 }

@@ -3,16 +3,7 @@
 ghost use Rattle.std.specs.Prelude.{◌≡◌};
 ghost use Rattle.lab_run.specs.Layouts.{layout_in};
 
-/// What a dump has of each block.
-#[derive(Clone, Copy, Debug, PartialEq, Eq)]
-pub enum Layout {
-    /// Its data, and its tuple behind them where it has one.
-    Interleaved,
-    /// Its data alone.
-    Plain,
-    /// Its tuple alone.
-    Tuples,
-}
+use image_text::Layout;
 
 /// The layout that a word names.
 pub fn layout_of(word: &[u8]) -> Option<Layout>

@@ -8,6 +8,8 @@ mod comparing;
 mod dumps;
 mod explaining;
 mod exporting;
+mod finding;
+mod from;
 mod importing;
 mod judging;
 mod layout;
@@ -16,16 +18,15 @@ mod playing;
 mod program;
 mod refusal;
 mod showing;
-mod status;
-mod stopping;
 mod sweeping;
+mod usage;
 
+pub use call_verdict::{Status, refuse};
 pub use command::{Command, command_of};
-pub use layout::{Layout, layout_of};
+pub use layout::layout_of;
 pub use place::{PlaceWord, place_of};
-pub use program::{refuse, run};
+pub use program::run;
 pub use refusal::Refusal;
-pub use status::Status;
 
 /// The most blocks of a place.
 pub const MOST_COUNT: u64 = 65_536;

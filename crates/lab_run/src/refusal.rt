@@ -1,9 +1,11 @@
 //! Why a call of the program comes to nothing.
 
-ghost use Rattle.std.specs.Prelude.{◌≡◌, ◌≤◌, length};
-ghost use Rattle.lab_run.specs.Texts.{refusal_of, refusal_text, second_refusal_of, status_of};
+ghost use Rattle.std.specs.Prelude.{◌≡◌, ◌≤◌, ◌++◌, codes, length};
+ghost use Rattle.lab_run.specs.Texts.{refusal_text, status_of};
 
-use crate::status::Status;
+use crate::usage::USAGE;
+use call_refusal::Refusal as Stop;
+use call_verdict::{Reason, Status};
 use image_blocks::PlaceFault;
 use report_text::{Line, add, add_number};
 use rig_api::RigFault;
@@ -13,8 +15,8 @@ use rig_api::RigFault;
 pub enum Refusal {
     /// The words are not in the grammar.
     Words,
-    /// The image's head has this fault: `BadMagic`, `BadHeader` or `BadLength`.
-    Image(RigFault),
+    /// The command is refused: for its image or its source, or want of memory.
+    Stopped(Stop),
     /// The image hasn't the place of the words.
     Place(PlaceFault),
     /// A dump of tuples alone, of a unit that has none.
@@ -31,87 +33,51 @@ pub enum Refusal {
     Short(u32),
     /// The dump goes on behind its last piece.
     Long,
-    /// The store failed.
-    RigFault,
-    /// The source failed.
-    ReadFault,
-    /// Want of memory.
-    Memory,
 }
 
 impl Refusal {
-    /// The refusal of an image that isn't opened.
-    pub(crate) fn of(fault: RigFault) -> Refusal
-        ensures { result ≡ refusal_of fault }
-    {
-        match fault {
-            RigFault::BadMagic => Refusal::Image(RigFault::BadMagic),
-            RigFault::BadHeader => Refusal::Image(RigFault::BadHeader),
-            RigFault::BadLength => Refusal::Image(RigFault::BadLength),
-            RigFault::Failed => Refusal::RigFault,
-            RigFault::Memory => Refusal::Memory,
-        }
-    }
+    /// Want of memory.
+    pub const MEMORY: Refusal = Refusal::Stopped(Stop::Memory);
 
-    /// The refusal of a second image that isn't opened.
-    pub(crate) fn of_second(fault: RigFault) -> Refusal
-        ensures { result ≡ second_refusal_of fault }
-    {
-        match fault {
-            RigFault::BadMagic => Refusal::SecondImage(RigFault::BadMagic),
-            RigFault::BadHeader => Refusal::SecondImage(RigFault::BadHeader),
-            RigFault::BadLength => Refusal::SecondImage(RigFault::BadLength),
-            RigFault::Failed => Refusal::RigFault,
-            RigFault::Memory => Refusal::Memory,
-        }
-    }
+    /// The rig failed, or may not be called.
+    pub const RIG_FAULT: Refusal = Refusal::Stopped(Stop::RigFault);
+}
 
-    /// The status of the refusal.
-    pub(crate) fn status(self) -> Status
-        ensures { result ≡ status_of self }
+impl Reason for Refusal {
+    ghost ends = { λ r. status_of r };
+
+    ghost says = { λ r. refusal_text r };
+
+    fn status(&self) -> Status
+        ensures { result ≡ status_of self.now }
     {
-        match self {
+        match *self {
             Refusal::Words => Status::Words,
-            Refusal::Image(_) => Status::Image,
-            Refusal::Place(_) => Status::Image,
-            Refusal::NoTuples => Status::Image,
-            Refusal::SecondImage(_) => Status::Image,
-            Refusal::SecondPlace(_) => Status::Image,
-            Refusal::OtherSize => Status::Image,
-            Refusal::OtherCount => Status::Image,
-            Refusal::Short(_) => Status::Input,
-            Refusal::Long => Status::Input,
-            Refusal::RigFault => Status::RigFault,
-            Refusal::ReadFault => Status::ReadFault,
-            Refusal::Memory => Status::Memory,
+            Refusal::Stopped(stop) => stop.status(),
+            Refusal::Place(_) | Refusal::NoTuples => Status::Image,
+            Refusal::SecondImage(_) | Refusal::SecondPlace(_) => Status::Image,
+            Refusal::OtherSize | Refusal::OtherCount => Status::Image,
+            Refusal::Short(_) | Refusal::Long => Status::Input,
         }
     }
 
-    /// The line that is written for the refusal.
-    pub(crate) fn line(self) -> Line
-        ensures { result.items ≡ refusal_text self }
+    fn line(&self) -> Line
+        ensures { result.items ≡ refusal_text self.now }
     {
-        match self {
+        match *self {
             Refusal::Words => plain_line(USAGE),
-            Refusal::Image(fault) => image_line(fault),
-            Refusal::Place(fault) => place_line(fault),
+            Refusal::Stopped(stop) => stop.line(),
+            Refusal::Place(fault) => named_line(b"place ", fault.name().as_bytes()),
             Refusal::NoTuples => plain_line(b"layout NoTuples\n"),
-            Refusal::SecondImage(fault) => second_image_line(fault),
-            Refusal::SecondPlace(fault) => second_place_line(fault),
+            Refusal::SecondImage(fault) => named_line(b"second image ", fault.name().as_bytes()),
+            Refusal::SecondPlace(fault) => named_line(b"second place ", fault.name().as_bytes()),
             Refusal::OtherSize => plain_line(b"places OtherSize\n"),
             Refusal::OtherCount => plain_line(b"places OtherCount\n"),
             Refusal::Short(pieces) => short_line(pieces),
             Refusal::Long => plain_line(b"dump long\n"),
-            Refusal::RigFault => plain_line(b"rig fault\n"),
-            Refusal::ReadFault => plain_line(b"read fault\n"),
-            Refusal::Memory => plain_line(b"no memory\n"),
         }
     }
 }
-
-/// The line of words that are not in the grammar.
-const USAGE: &[u8] =
-    b"usage: dixlab show IMAGE [PLACE], diff IMAGE PLACE IMAGE PLACE, export IMAGE PLACE LAYOUT, import IMAGE PLACE LAYOUT, vectors IMAGE, explain [IMAGE], sweep BYTE T:BLOCKS.., --help, --version\n";
 
 fn plain_line(text: &[u8]) -> Line
     requires { length text.now ≤ 256 }
@@ -122,42 +88,15 @@ fn plain_line(text: &[u8]) -> Line
     line
 }
 
-fn image_line(fault: RigFault) -> Line
-    ensures { result.items ≡ refusal_text (Refusal.Image fault) }
+/// What is at fault, and the name of the fault.
+fn named_line(what: &[u8], name: &[u8]) -> Line
+    requires what { length what.now ≤ 16 }
+    requires name { length name.now ≤ 16 }
+    ensures { result.items ≡ what.now ++ (name.now ++ codes "\n") }
 {
     let mut line = Line::new();
-    add(&mut line, b"image ");
-    add(&mut line, fault.name().as_bytes());
-    add(&mut line, b"\n");
-    line
-}
-
-fn place_line(fault: PlaceFault) -> Line
-    ensures { result.items ≡ refusal_text (Refusal.Place fault) }
-{
-    let mut line = Line::new();
-    add(&mut line, b"place ");
-    add(&mut line, fault.name().as_bytes());
-    add(&mut line, b"\n");
-    line
-}
-
-fn second_image_line(fault: RigFault) -> Line
-    ensures { result.items ≡ refusal_text (Refusal.SecondImage fault) }
-{
-    let mut line = Line::new();
-    add(&mut line, b"second image ");
-    add(&mut line, fault.name().as_bytes());
-    add(&mut line, b"\n");
-    line
-}
-
-fn second_place_line(fault: PlaceFault) -> Line
-    ensures { result.items ≡ refusal_text (Refusal.SecondPlace fault) }
-{
-    let mut line = Line::new();
-    add(&mut line, b"second place ");
-    add(&mut line, fault.name().as_bytes());
+    add(&mut line, what);
+    add(&mut line, name);
     add(&mut line, b"\n");
     line
 }

@@ -1,18 +1,18 @@
 //! Sweeping a script.
 
-ghost use Rattle.std.specs.Prelude.{◌≡◌, Some};
+ghost use Rattle.call_verdict.specs.Verdicts.{IsPassedOn};
+ghost use Rattle.std.specs.Prelude.{◌≡◌, Some, IfOk};
 ghost use Rattle.unit_words.specs.Words.{word_bytes};
 ghost use Rattle.dix_base.specs.Stores.{StoreState};
 ghost use Rattle.rig_api.specs.State.{RigState};
 ghost use Rattle.lab_run.specs.declared.command.Command.{Command};
 ghost use Rattle.lab_run.specs.Grammar.{command_in};
 ghost use Rattle.lab_run.specs.Calls.{on_input};
+ghost use Rattle.lab_run.specs.Commands.{Came};
 ghost use Rattle.lab_run.specs.Swept.{halt_status};
-ghost use Rattle.lab_run.specs.Verdict.{Ended};
 
-use crate::program::status_for;
-use crate::status::Status;
-use crate::stopping::stop;
+use crate::refusal::Refusal;
+use call_verdict::{Status, status_for};
 use dix_base::{Sink, Source};
 use flip_sweep::{Halt, Unswept, sweep_script};
 use run_command::take_script;
@@ -38,20 +38,18 @@ pub(crate) fn sweep<S: Source, O: Sink>(
     units: &UnitList,
     input: &mut S,
     out: &mut O,
-) -> Status
+) -> Result<Status, Refusal>
     requires { command_in (word_bytes words.now) ≡ Some (Command.Sweep byte units.now) }
-    ensures { (h : StoreState) (rig : RigState) (second : StoreState)
-        → Ended (on_input (word_bytes words.now) h h (S.left input.old) (S.left input.new) (S.faults input.old) (S.faults input.new) rig second)
-        (O.taken out.old) (O.taken out.new) (O.faults out.old) (O.faults out.new) result }
+    ensures came { (h : StoreState) (rig : RigState) (second : StoreState) → Came (Some (Command.Sweep byte units.now)) result
+        (on_input (word_bytes words.now) h h (S.left input.old) (S.left input.new) (S.faults input.old) (S.faults input.new) rig second)
+        (O.taken out.old) (O.taken out.new) (O.faults out.old) (O.faults out.new) }
+    ensures handed { IfOk result (λ status. IsPassedOn status (O.passed out.new) (O.taken out.new)) }
 {
     let _words = words;
-    let script = match take_script(alloc, input) {
-        Ok(script) => script,
-        Err(refusal) => return stop(out, refusal),
-    };
+    let script = take_script(alloc, input)?;
     match sweep_script(alloc, byte, units.as_slice(), &script, out) {
-        Ok(unseen) => status_for(unseen),
-        Err(Unswept::Stopped(refusal)) => stop(out, refusal),
-        Err(Unswept::Halted(halt)) => halt_status(halt),
+        Ok(unseen) => Ok(status_for(unseen)),
+        Err(Unswept::Stopped(refusal)) => Err(Refusal::Stopped(refusal)),
+        Err(Unswept::Halted(halt)) => Ok(halt_status(halt)),
     }
 }

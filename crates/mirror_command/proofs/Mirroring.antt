@@ -21,8 +21,8 @@ use Rattle.mirror_volume.specs.Premises.{HoldsBytes, IsFormedMirror, IsOneGoodRu
 use Rattle.mirror_command.specs.Stages.{Broke, Finished, HasServedMirror, stage_of}
 use Rattle.mirror_command.specs.Verdict.{HasMirrored, IsBegun, StoppedMidway}
 use Rattle.mirror_command.specs.declared.mirrored.Mirrored.{Mirrored}
-use Rattle.mirror_walk.specs.Repair.{WalkedRepair}
-use Rattle.mirror_walk.specs.declared.marks.Marks.{Marks}
+use Rattle.mirror_laws.specs.Repair.{WalkedRepair}
+use Rattle.mirror_laws.specs.declared.marks.Marks.{Marks}
 use Rattle.stack_ops.specs.declared.reply.Reply.{Reply}
 
 -- the rig has the devices that were asked

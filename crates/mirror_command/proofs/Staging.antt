@@ -12,13 +12,13 @@ use Rattle.stack_ops.specs.declared.op.Op.TheVariants.{Fetch, FetchPi, Fill, Ove
 use Rattle.stack_ops.specs.declared.reply.Reply.{Reply}
 use Rattle.volume_table.specs.declared.device.DeviceInfo.{DeviceInfo}
 use Rattle.volume_table.specs.Tables.{Table}
-use Rattle.whole_run.specs.Past.{steps_from}
+use Rattle.walk_laws.specs.Past.{steps_from}
 use Rattle.script_text.specs.declared.script.Script.{Script}
 use Rattle.run_command.specs.Passed.{table_of, RoseBy, medium_lines}
 use Rattle.run_command.specs.Layers.{NamesFaults}
-use Rattle.mirror_walk.specs.Mirror.{Mirror as Walk, count_of, done, mirror_opened, replies_from}
-use Rattle.mirror_walk.specs.Repair.{WalkedRepair, mirror_repair}
-use Rattle.mirror_walk.specs.declared.marks.Marks.{Marks}
+use Rattle.mirror_laws.specs.Mirror.{Mirror as Walk, count_of, done, mirror_opened, replies_from}
+use Rattle.mirror_laws.specs.Repair.{WalkedRepair, mirror_repair}
+use Rattle.mirror_laws.specs.declared.marks.Marks.{Marks}
 use Rattle.mirror_volume.specs.declared.mirror.Mirror.{Mirror}
 use Rattle.std.specs.declared.alloc.AllocError.{AllocError}
 use Rattle.mirror_volume.specs.declared.repair.Repair.{Repair as Done}

@@ -8,9 +8,9 @@ use Rattle.stack_ops.specs.declared.reply.Reply.{Reply}
 use Rattle.script_text.specs.declared.script.Script.{Script}
 use Rattle.run_command.specs.Passed.{table_of, RoseBy, medium_lines}
 use Rattle.run_command.specs.Layers.{NamesFaults}
-use Rattle.mirror_walk.specs.declared.marks.Marks.{Marks}
-use Rattle.mirror_walk.specs.Mirror.{Mirror as Walk, mirror_replies, mirror_walk}
-use Rattle.mirror_walk.specs.Repair.{WalkedRepair, mirror_repair}
+use Rattle.mirror_laws.specs.declared.marks.Marks.{Marks}
+use Rattle.mirror_laws.specs.Mirror.{Mirror as Walk, mirror_replies, mirror_walk}
+use Rattle.mirror_laws.specs.Repair.{WalkedRepair, mirror_repair}
 use Rattle.mirror_volume.specs.declared.mirror.Mirror.{Mirror}
 use Rattle.mirror_volume.specs.Passed.{AllBacked, AllOwn, GoOn, LegRun, NamesNoMedium, RanLegs, all_mediums, all_records, IsRepairOf, RepairBy, stretches_in, OpAsks, OpBy, OpRan, OpTells, Sides, StandsAt, half_of, mirror_setting, op_at}
 use Rattle.mirror_volume.specs.Enough.{opening_over}

@@ -17,7 +17,7 @@ use Rattle.run_command.specs.Verdict.{CauseUntaken, Facts, HasBadVolume, HasRead
 use Rattle.call_refusal.specs.declared.refusal.Refusal.{Refusal}
 use Rattle.call_refusal.specs.declared.refusal.Refusal.TheVariants as refusal
 use Rattle.mirror_script.specs.MirrorFaults.{mirror_fault}
-use Rattle.mirror_walk.specs.Mirror.{fresh}
+use Rattle.mirror_laws.specs.Mirror.{fresh}
 use Rattle.mirror_volume.specs.Plans.{IsMirror}
 use Rattle.mirror_volume.specs.Passed.{NamesNoMedium, IsBoundMirror, half_of}
 use Rattle.mirror_volume.specs.declared.mirror.Mirror.{Mirror}

@@ -28,6 +28,7 @@ pub fn print_mirrored<O: Sink>(out: &mut O, run: &Mirrored) -> Result<(), Failed
     ensures part { OnErr result (AppendedSome (mirror_text run.now.mirror.replies.items run.now.repair.repaired run.now.repair.lost) (O.taken out.old) (O.taken out.new)) }
     ensures cause { OnErr result (Rose (O.faults out.old) (O.faults out.new)) }
     ensures count { O.faults out.old ≤ O.faults out.new }
+    ensures handed { OnOk result (O.passed out.new ≡ O.taken out.new) }
 {
     print_report(out, run.mirror.replies())?;
     write_out(out, repair_line(run.repair).as_slice())

@@ -12,13 +12,13 @@ use Rattle.block_path.specs.Serial.{plain, plain_tells}
 use Rattle.block_path.specs.WayIn.{Delivers, Spoils, Stops, WayIn, delivered_of, way_in}
 use Rattle.block_path.specs.WayOut.{Fails, Refuses, Stores, WayOut, stored_of, way_out}
 use Rattle.block_path.specs.declared.route.Route.{Route}
-use Rattle.whole_run.specs.Past.{Brought}
-use Rattle.whole_run.specs.ScriptWalk.{act_of}
-use Rattle.whole_run.specs.Settings.{Block, Setting, route}
-use Rattle.whole_run.specs.Steps.{Reads, Step, Writes, each_from}
-use Rattle.mirror_walk.specs.OnLegs.{data_read, landed_by, stored_at, why_of, whys_read, whys_written, written}
-use Rattle.mirror_walk.specs.Repair.{reading, writing}
-use Rattle.mirror_walk.proofs.ReadByLegs.{finds as why_in}
+use Rattle.walk_laws.specs.Past.{Brought}
+use Rattle.walk_laws.specs.ScriptWalk.{act_of}
+use Rattle.walk_laws.specs.Settings.{Block, Setting, route}
+use Rattle.walk_laws.specs.Steps.{Reads, Step, Writes, each_from}
+use Rattle.mirror_laws.specs.OnLegs.{data_read, landed_by, stored_at, why_of, whys_read, whys_written, written}
+use Rattle.mirror_laws.specs.Repair.{reading, writing}
+use Rattle.mirror_laws.proofs.ReadByLegs.{finds as why_in}
 use Rattle.mirror_volume.proofs.Turns.{scattered}
 use Rattle.run_laws.proofs.Turns.{turn_length}
 

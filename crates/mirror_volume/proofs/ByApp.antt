@@ -16,11 +16,11 @@ use Rattle.block_path.specs.Serial.{plain, plain_tells}
 use Rattle.block_path.specs.WayIn.{Delivers, Spoils, Stops, WayIn, at_host, comes_in, delivered_of, delivered_unless, from_device, from_wire, mapped_back, owner_finds, verified}
 use Rattle.block_path.specs.declared.route.Route.{Route}
 use Rattle.block_path.proofs.Cells.{scatter_append}
-use Rattle.whole_run.specs.ScriptWalk.{act_of}
-use Rattle.whole_run.specs.Settings.{Block, Setting, route}
-use Rattle.whole_run.specs.Steps.{Reads, Step, each_from}
-use Rattle.mirror_walk.specs.OnLegs.{data_read, landed_by, why_of, whys_read}
-use Rattle.mirror_walk.specs.Repair.{reading}
+use Rattle.walk_laws.specs.ScriptWalk.{act_of}
+use Rattle.walk_laws.specs.Settings.{Block, Setting, route}
+use Rattle.walk_laws.specs.Steps.{Reads, Step, each_from}
+use Rattle.mirror_laws.specs.OnLegs.{data_read, landed_by, why_of, whys_read}
+use Rattle.mirror_laws.specs.Repair.{reading}
 use Rattle.mirror_volume.specs.Legs.{by_app, tuple_landed, tuples_read}
 use Rattle.mirror_volume.proofs.Blocks.{Alike}
 use Rattle.mirror_volume.proofs.Turns.{scattered}

@@ -1,10 +1,10 @@
 -- A read by its runs on both legs is what comes of each block.
 use Rattle.std.proofs.Common.{◌≡◌, ◌<◌, ℕ, suc, ◌+◌, Bool, true, false, not, ◌&&◌, ◌||◌, if◌then◌else◌, is_none, is_some, List, [], ◌∷◌, length, map, get_or, replicate, Option, None, Result, Ok, Err, refl, ap, ◌∙◌, arith}
 use Rattle.bio_core.specs.declared.fate.Why.{Why}
-use Rattle.whole_run.specs.Steps.{each_from}
-use Rattle.mirror_walk.specs.declared.marks.Marks.{Marks}
-use Rattle.mirror_walk.specs.Mirror.{fresh, marks_of}
-use Rattle.mirror_walk.specs.OnLegs.{come, landed_by, or_other, why_of}
+use Rattle.walk_laws.specs.Steps.{each_from}
+use Rattle.mirror_laws.specs.declared.marks.Marks.{Marks}
+use Rattle.mirror_laws.specs.Mirror.{fresh, marks_of}
+use Rattle.mirror_laws.specs.OnLegs.{come, landed_by, or_other, why_of}
 use Rattle.mirror_volume.specs.Asked.{first_listed, fresh_on0, last_listed, rest_wanted}
 use Rattle.mirror_volume.proofs.Painting.{chosen}
 

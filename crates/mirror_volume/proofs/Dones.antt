@@ -11,9 +11,9 @@ use Rattle.page_pool.proofs.Placing.{length-places_in}
 use Rattle.page_pool.proofs.Spreads.{range-all}
 use Rattle.stack_ops.specs.declared.op.Op.TheVariants.{Fetch, Write}
 use Rattle.stack_ops.specs.declared.reply.Reply.{Reply}
-use Rattle.whole_run.specs.ScriptWalk.{bad_from, whole_or_bad}
+use Rattle.walk_laws.specs.ScriptWalk.{bad_from, whole_or_bad}
 use Rattle.script_text.specs.declared.script.Script.{Script}
-use Rattle.mirror_walk.specs.declared.marks.Marks.{Marks}
+use Rattle.mirror_laws.specs.declared.marks.Marks.{Marks}
 use Rattle.mirror_volume.specs.declared.piece.Piece.{Piece}
 use Rattle.mirror_volume.specs.Asked.{IsReadOf, ReadBy, ReadOnBoth}
 use Rattle.mirror_volume.specs.LegRuns.{AllOwn, LegRun}

@@ -12,17 +12,17 @@ use Rattle.stack_ops.specs.declared.op.Op.TheVariants.{Fetch}
 use Rattle.stack_ops.specs.declared.reply.Reply.{Reply}
 use Rattle.stack_ops.specs.declared.reply.Reply.TheVariants.{Silent}
 use Rattle.volume_table.specs.declared.device.DeviceInfo.{DeviceInfo}
-use Rattle.whole_run.specs.Past.{steps_from}
-use Rattle.whole_run.specs.Settings.{Setting}
-use Rattle.whole_run.specs.Steps.{body_of, steps_of}
-use Rattle.whole_run.specs.UnderMap.{home}
+use Rattle.walk_laws.specs.Past.{steps_from}
+use Rattle.walk_laws.specs.Settings.{Setting}
+use Rattle.walk_laws.specs.Steps.{body_of, steps_of}
+use Rattle.walk_laws.specs.UnderMap.{home}
 use Rattle.dix_adapter.specs.Ways.{blocks_told}
 use Rattle.script_stack.proofs.Octets.{block_octets}
 use Rattle.script_text.specs.declared.script.Script.{Script}
-use Rattle.mirror_walk.specs.Mirror.{Mirror as Walk, count_of, done, mirror_opened, mirror_walk, replies_from}
-use Rattle.mirror_walk.specs.OneGood.{AreBytes, HoldsProper, IsMirrorRun, IsRepaired, ReadsLast, last_of, on_leg}
-use Rattle.mirror_walk.specs.Repair.{WalkedRepair, mirror_repair}
-use Rattle.mirror_walk.specs.declared.marks.Marks.{Marks}
+use Rattle.mirror_laws.specs.Mirror.{Mirror as Walk, count_of, done, mirror_opened, mirror_walk, replies_from}
+use Rattle.mirror_laws.specs.OneGood.{AreBytes, HoldsProper, IsMirrorRun, IsRepaired, ReadsLast, last_of, on_leg}
+use Rattle.mirror_laws.specs.Repair.{WalkedRepair, mirror_repair}
+use Rattle.mirror_laws.specs.declared.marks.Marks.{Marks}
 use Rattle.mirror_volume.specs.OnOps.{Sides}
 use Rattle.mirror_volume.specs.Standing.{IsMirrorOver, IsRepairedAs, StandsAt, half_of, mirror_setting, walked}
 use Rattle.mirror_volume.specs.Enough.{AllReadLast, HasReadLast, WasEnough, opening_over}

@@ -18,16 +18,16 @@ use Rattle.dix_adapter.specs.Ways.{blocks_told, shapes_of}
 use Rattle.block_path.specs.Acts.{State}
 use Rattle.stack_ops.specs.declared.op.Op.TheVariants.{Fetch}
 use Rattle.stack_ops.specs.declared.reply.Reply.{Reply}
-use Rattle.whole_run.specs.ScriptWalk.{bad_from, whole_or_bad}
-use Rattle.whole_run.specs.Settings.{Block, Setting}
-use Rattle.whole_run.specs.Steps.{each_from}
+use Rattle.walk_laws.specs.ScriptWalk.{bad_from, whole_or_bad}
+use Rattle.walk_laws.specs.Settings.{Block, Setting}
+use Rattle.walk_laws.specs.Steps.{each_from}
 use Rattle.script_text.specs.declared.script.Script.{Script}
 use Rattle.mirror_volume.specs.LegsPassed.{table_of}
-use Rattle.mirror_walk.specs.Mirror.{fresh, marks_of}
-use Rattle.mirror_walk.specs.OnLegs.{all_landed, come, comes_from, landed_by, why_of}
-use Rattle.mirror_walk.specs.Repair.{reading}
-use Rattle.mirror_walk.specs.declared.marks.Marks.{Marks}
-use Rattle.mirror_walk.proofs.ReadByLegs.{reads_by_legs}
+use Rattle.mirror_laws.specs.Mirror.{fresh, marks_of}
+use Rattle.mirror_laws.specs.OnLegs.{all_landed, come, comes_from, landed_by, why_of}
+use Rattle.mirror_laws.specs.Repair.{reading}
+use Rattle.mirror_laws.specs.declared.marks.Marks.{Marks}
+use Rattle.mirror_laws.proofs.ReadByLegs.{reads_by_legs}
 use Rattle.mirror_volume.specs.declared.piece.Piece.{Piece}
 use Rattle.mirror_volume.specs.Inner.{first_label, first_virt}
 use Rattle.mirror_volume.specs.MirrorScript.{IsPiece}

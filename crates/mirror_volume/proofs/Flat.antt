@@ -2,7 +2,7 @@
 use Rattle.std.proofs.Common.{◌≡◌, ◌<◌, ℕ, zero, suc, ◌+◌, ◌*◌, List, [], ◌∷◌, ◌++◌, length, replicate, take, drop, refl, sym, ap, ◌∙◌, arith, append_assoc}
 use Rattle.std.proofs.lemmas.List.{drop_at, length-append, length-replicate, replicate-append-replicate, take_all, take_at}
 use Rattle.page_pool.specs.Cells.{flat}
-use Rattle.whole_run.specs.Steps.{each_from}
+use Rattle.walk_laws.specs.Steps.{each_from}
 use Rattle.mirror_volume.specs.Asked.{pasted}
 
 -- each block has so many bytes

@@ -11,21 +11,21 @@ use Rattle.volume_table.specs.Places.{place_in, volume_len}
 use Rattle.volume_table.specs.declared.device.DeviceInfo.{DeviceInfo}
 use Rattle.block_path.specs.Acts.{State}
 use Rattle.block_path.specs.Routes.{target}
-use Rattle.mirror_walk.specs.declared.marks.Marks.{Marks}
+use Rattle.mirror_laws.specs.declared.marks.Marks.{Marks}
 use Rattle.script_text.specs.declared.script.Script.{Script}
 use Rattle.script_laws.specs.Keeping.{Each, IsOp as KeepsRules}
 use Rattle.script_stack.proofs.Passed.{cell-there, are-bytes}
 use Rattle.script_stack.specs.Causes.{table_of}
-use Rattle.whole_run.specs.CalmRun.{LiesInImage}
-use Rattle.whole_run.specs.Detectable.{detectable}
-use Rattle.whole_run.specs.Settings.{Setting}
-use Rattle.whole_run.specs.UnderMap.{AreClean, NoneEscapes, address_of, home}
+use Rattle.walk_laws.specs.CalmRun.{LiesInImage}
+use Rattle.walk_laws.specs.Detectable.{detectable}
+use Rattle.walk_laws.specs.Settings.{Setting}
+use Rattle.walk_laws.specs.UnderMap.{AreClean, NoneEscapes, address_of, home}
 use Rattle.run_laws.specs.ShownRun.{DevicesAreClean}
 use Rattle.stack_ops.specs.Ops.{is_overwrite}
-use Rattle.mirror_premises.specs.Passed.{supplies_none}
-use Rattle.mirror_walk.specs.OneGood.{AreBytes, OneGood, script_asks}
-use Rattle.mirror_premises.specs.Forms.{is_good_on_legs, spares_other_leg}
-use Rattle.mirror_premises.specs.FormedMirror.{AllPutBytes, HasFormedLegs, HasStillLegs, PutsBytes, ServesLast}
+use Rattle.mirror_form_laws.specs.Passed.{supplies_none}
+use Rattle.mirror_laws.specs.OneGood.{AreBytes, OneGood, script_asks}
+use Rattle.mirror_form_laws.specs.Forms.{is_good_on_legs, spares_other_leg}
+use Rattle.mirror_form_laws.specs.FormedMirror.{AllPutBytes, HasFormedLegs, HasStillLegs, PutsBytes, ServesLast}
 use Rattle.mirror_volume.proofs.Ground.{fits, legs, made-over, sizes}
 use Rattle.mirror_volume.specs.Standing.{IsMirrorOver, IsRepairedAs, half_of, mirror_setting}
 use Rattle.mirror_volume.specs.Enough.{AllReadLast, WasEnough, opening_over}
@@ -33,7 +33,7 @@ use Rattle.mirror_volume.specs.Premises.{HoldsBytes, IsFormedMirror, IsOneGoodRu
 use Rattle.mirror_volume.proofs.Enough.{enough-by}
 use Rattle.mirror_volume.proofs.Premises.{all-bound, checked-over, dif-on, has-cells, lies-on}
 use Rattle.small_laws.proofs.Numbers.{even_size as even}
-use Rattle.script_premises.proofs.Formed.{lines-bytes}
+use Rattle.script_form_laws.proofs.Formed.{lines-bytes}
 
 -- what the laws of the form say
 abbrev pub FormLaw : Type 0

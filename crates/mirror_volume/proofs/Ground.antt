@@ -6,13 +6,13 @@ use Rattle.volume_table.specs.declared.device.DeviceInfo.{DeviceInfo}
 use Rattle.volume_table.specs.Places.{place_in}
 use Rattle.volume_table.specs.Tables.{MadeFor}
 use Rattle.dix_adapter.specs.Ways.{blocks_told, shapes_of}
-use Rattle.whole_run.specs.Settings.{Setting}
+use Rattle.walk_laws.specs.Settings.{Setting}
 use Rattle.script_text.specs.declared.script.Script.{Script}
 use Rattle.mirror_volume.proofs.LegsPassed.{told-long, one-each, over-units}
 use Rattle.mirror_volume.specs.LegsPassed.{table_of, all_blocks}
-use Rattle.mirror_walk.specs.LegByLeg.{DeliversWhole, HasLegs}
-use Rattle.mirror_walk.specs.Sizes.{HasSizes}
-use Rattle.mirror_walk.proofs.Sizes.{delivers_whole}
+use Rattle.mirror_laws.specs.LegByLeg.{DeliversWhole, HasLegs}
+use Rattle.mirror_laws.specs.Sizes.{HasSizes}
+use Rattle.mirror_laws.proofs.Sizes.{delivers_whole}
 use Rattle.mirror_volume.specs.MirrorScript.{IsMirrorScript}
 use Rattle.mirror_volume.proofs.Asked.{asked}
 use Rattle.mirror_volume.proofs.Renumbered.{still}

@@ -5,9 +5,9 @@ use Rattle.std.proofs.Math.Nat.{add-mul}
 use Rattle.bio_core.specs.declared.fate.Why.{Why}
 use Rattle.page_pool.specs.Cells.{flat}
 use Rattle.pi_tuple.specs.Tuples.{tuple_in}
-use Rattle.whole_run.specs.Past.{Brought}
+use Rattle.walk_laws.specs.Past.{Brought}
 use Rattle.script_text.specs.declared.script.Script.{Script}
-use Rattle.mirror_walk.specs.Stretches.{Need}
+use Rattle.mirror_laws.specs.Stretches.{Need}
 use Rattle.mirror_volume.specs.declared.piece.Piece.{Piece}
 use Rattle.mirror_volume.specs.Inner.{pages_for}
 use Rattle.mirror_volume.specs.declared.repair.Seen.{Seen}

@@ -10,10 +10,10 @@ use Rattle.stack_ops.specs.declared.op.Op.{Op}
 use Rattle.stack_ops.specs.declared.reply.BadBlock.{BadBlock}
 use Rattle.stack_ops.specs.declared.reply.Reply.{Reply}
 use Rattle.stack_ops.specs.declared.reply.Reply.TheVariants.{Silent}
-use Rattle.whole_run.specs.ScriptWalk.{bad_from, request_reply, whole_or_bad}
-use Rattle.whole_run.specs.Settings.{Setting}
-use Rattle.whole_run.specs.Steps.{Step, each_from}
-use Rattle.whole_run.proofs.InSteps.{each_length}
+use Rattle.walk_laws.specs.ScriptWalk.{bad_from, request_reply, whole_or_bad}
+use Rattle.walk_laws.specs.Settings.{Setting}
+use Rattle.walk_laws.specs.Steps.{Step, each_from}
+use Rattle.walk_laws.proofs.InSteps.{each_length}
 use Rattle.run_laws.specs.TakenWalk.{taken_act, taken_acts, taken_reply, taken_replies}
 use Rattle.mirror_volume.specs.LegRuns.{AreBelow, Fits, LastFits}
 

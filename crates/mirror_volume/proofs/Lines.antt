@@ -14,12 +14,12 @@ use Rattle.stack_ops.specs.declared.reply.Reply.TheVariants.{Bad, Medium, Shown,
 use Rattle.mirror_volume.specs.LegsPassed.{RoseBy, listed_mediums, medium_lines}
 use Rattle.volume_table.specs.declared.device.DeviceInfo.{DeviceInfo}
 use Rattle.volume_table.specs.Tables.{Table}
-use Rattle.whole_run.specs.ScriptWalk.{bad_from, whole_or_bad}
+use Rattle.walk_laws.specs.ScriptWalk.{bad_from, whole_or_bad}
 use Rattle.block_path.specs.Senses.{is_medium_why}
 use Rattle.script_text.specs.declared.script.Script.{Script}
-use Rattle.mirror_walk.specs.Mirror.{neither}
-use Rattle.mirror_walk.specs.OnLegs.{listed_written}
-use Rattle.mirror_walk.specs.declared.marks.Marks.{Marks}
+use Rattle.mirror_laws.specs.Mirror.{neither}
+use Rattle.mirror_laws.specs.OnLegs.{listed_written}
+use Rattle.mirror_laws.specs.declared.marks.Marks.{Marks}
 use Rattle.mirror_volume.specs.Asked.{first_listed, found_after, fresh_on0, last_listed, pasted, rest_wanted, stretches}
 use Rattle.mirror_volume.specs.LegRuns.{LegRun, RanLegs, all_mediums, found_by, found_in, noted, replies_of}
 use Rattle.mirror_volume.specs.OnOps.{FetchedBy, OpBy, OpRan, OpTells, Sides, WroteBy}

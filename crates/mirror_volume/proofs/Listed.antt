@@ -9,11 +9,11 @@ use Rattle.stack_ops.specs.declared.op.Op.TheVariants.{Fetch, FetchPi, Fill, Ove
 use Rattle.stack_ops.specs.declared.reply.BadBlock.{BadBlock}
 use Rattle.stack_ops.specs.declared.reply.Reply.{Reply}
 use Rattle.stack_ops.specs.declared.reply.Reply.TheVariants.{Bad, Medium, Shown, Silent, Whole}
-use Rattle.whole_run.specs.ScriptWalk.{bad_from, whole_or_bad}
+use Rattle.walk_laws.specs.ScriptWalk.{bad_from, whole_or_bad}
 use Rattle.script_text.specs.declared.script.Script.{Script}
-use Rattle.mirror_walk.specs.Mirror.{neither}
-use Rattle.mirror_walk.specs.OnLegs.{listed_written}
-use Rattle.mirror_walk.specs.declared.marks.Marks.{Marks}
+use Rattle.mirror_laws.specs.Mirror.{neither}
+use Rattle.mirror_laws.specs.OnLegs.{listed_written}
+use Rattle.mirror_laws.specs.declared.marks.Marks.{Marks}
 use Rattle.mirror_volume.specs.Asked.{first_listed, found_after, last_listed, pasted}
 use Rattle.mirror_volume.specs.LegRuns.{LegRun, found_by, found_in, noted, replies_of}
 use Rattle.mirror_volume.specs.OnOps.{FetchedBy, OpBy, Sides, WroteBy}

@@ -13,16 +13,16 @@ use Rattle.target_answer.specs.Target.{Stored}
 use Rattle.stack_ops.specs.declared.reply.Reply.{Reply}
 use Rattle.volume_table.specs.Tables.{MadeFor, Table}
 use Rattle.dix_adapter.specs.Ways.{blocks_told, shapes_of}
-use Rattle.whole_run.specs.Past.{Brought, brought_by}
-use Rattle.whole_run.specs.Settings.{Block, Setting}
-use Rattle.whole_run.specs.Steps.{each_from}
-use Rattle.whole_run.proofs.InSteps.{each_length}
+use Rattle.walk_laws.specs.Past.{Brought, brought_by}
+use Rattle.walk_laws.specs.Settings.{Block, Setting}
+use Rattle.walk_laws.specs.Steps.{each_from}
+use Rattle.walk_laws.proofs.InSteps.{each_length}
 use Rattle.script_text.specs.declared.script.Script.{Script}
 use Rattle.mirror_volume.specs.LegsPassed.{HasWalked, AreStored}
-use Rattle.mirror_walk.specs.OnLegs.{data_read, landed_by, why_of, whys_read}
-use Rattle.mirror_walk.specs.Repair.{good, reading}
-use Rattle.mirror_walk.proofs.Pieces.{each_shift}
-use Rattle.mirror_walk.proofs.WriteByLegs.{each_same}
+use Rattle.mirror_laws.specs.OnLegs.{data_read, landed_by, why_of, whys_read}
+use Rattle.mirror_laws.specs.Repair.{good, reading}
+use Rattle.mirror_laws.proofs.Pieces.{each_shift}
+use Rattle.mirror_laws.proofs.WriteByLegs.{each_same}
 use Rattle.mirror_volume.specs.declared.piece.Piece.{Piece}
 use Rattle.mirror_volume.specs.Inner.{first_label, first_virt, pages_for, read_pi_script}
 use Rattle.mirror_volume.specs.Legs.{ReadPiOnLeg, blocks_of, by_app, mirror_setting, tuple_landed, tuples_read}

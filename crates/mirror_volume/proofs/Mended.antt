@@ -2,13 +2,13 @@
 use Rattle.std.proofs.Common.{ℕ, zero, suc, ◌≡◌, ◌+◌, ◌-◌, ◌*◌, ◌<◌, Bool, true, List, [], ◌∷◌, ◌++◌, Option, Some, None, drop, get_or, length, min, take, append_assoc, append-nil, refl, ap, subst, sym, ◌∙◌, arith, add-zero}
 use Rattle.std.proofs.lemmas.List.{length-take-le, take_more}
 use Rattle.bio_core.specs.declared.fate.Why.{Why}
-use Rattle.whole_run.specs.Past.{Brought}
+use Rattle.walk_laws.specs.Past.{Brought}
 use Rattle.script_text.specs.declared.script.Script.{Script}
-use Rattle.mirror_walk.specs.Mirror.{is_none, marks_of}
+use Rattle.mirror_laws.specs.Mirror.{is_none, marks_of}
 use Rattle.std.specs.Prelude.{set, is_none as none_of}
 use Rattle.std.specs.Int.{from_bool}
-use Rattle.mirror_walk.specs.Stretches.{Fine, Lost, Need, On0, On1, accepted_of, lost_of, marks_mended}
-use Rattle.mirror_walk.specs.declared.marks.Marks.{Marks}
+use Rattle.mirror_laws.specs.Stretches.{Fine, Lost, Need, On0, On1, accepted_of, lost_of, marks_mended}
+use Rattle.mirror_laws.specs.declared.marks.Marks.{Marks}
 use Rattle.mirror_volume.specs.Inner.{read_pi_script, write_script}
 use Rattle.mirror_volume.specs.Asked.{AreOf, fresh_on0, stretches}
 use Rattle.mirror_volume.specs.LegRuns.{LegRun, found_by, replies_of}

@@ -7,13 +7,13 @@ use Rattle.target_answer.specs.declared.units.UnitSpec.{UnitSpec}
 use Rattle.volume_table.specs.Tables.{Table}
 use Rattle.dix_adapter.specs.Ways.{blocks_told, shapes_of}
 use Rattle.block_path.specs.Blocks.{stored_cell}
-use Rattle.whole_run.specs.Past.{Brought}
-use Rattle.whole_run.specs.Settings.{Block, Setting, route}
+use Rattle.walk_laws.specs.Past.{Brought}
+use Rattle.walk_laws.specs.Settings.{Block, Setting, route}
 use Rattle.script_text.specs.declared.script.Script.{Script}
 use Rattle.mirror_volume.specs.LegsPassed.{HasWalked, none_fails, setting_of}
-use Rattle.mirror_walk.specs.OnLegs.{brought_each, stored_at, why_of, whys_written, written}
-use Rattle.mirror_walk.specs.Repair.{steady, writing}
-use Rattle.mirror_walk.specs.Stretches.{Fine, Lost, Need, On0, On1, due, due_data, whys_due}
+use Rattle.mirror_laws.specs.OnLegs.{brought_each, stored_at, why_of, whys_written, written}
+use Rattle.mirror_laws.specs.Repair.{steady, writing}
+use Rattle.mirror_laws.specs.Stretches.{Fine, Lost, Need, On0, On1, due, due_data, whys_due}
 use Rattle.mirror_volume.specs.declared.piece.Piece.{Piece}
 use Rattle.mirror_volume.specs.Inner.{first_label, first_virt, pages_for, write_script}
 use Rattle.mirror_volume.specs.Legs.{blocks_of}

@@ -31,18 +31,18 @@ use Rattle.block_path.specs.WayIn.{at_host, delivered_of, delivered_unless, from
 use Rattle.block_path.specs.WayOut.{stored_of}
 use Rattle.block_path.specs.declared.route.Route.{Route}
 use Rattle.block_path.proofs.Sizes.{in_size, mapped_sizes}
-use Rattle.whole_run.specs.ScriptWalk.{bad_from, replies_from, walk_from, whole_or_bad}
-use Rattle.whole_run.specs.Settings.{Block, Setting, block_of, route}
-use Rattle.whole_run.specs.Steps.{body_of}
-use Rattle.whole_run.proofs.CalmRuns.{room as block_ends}
+use Rattle.walk_laws.specs.ScriptWalk.{bad_from, replies_from, walk_from, whole_or_bad}
+use Rattle.walk_laws.specs.Settings.{Block, Setting, block_of, route}
+use Rattle.walk_laws.specs.Steps.{body_of}
+use Rattle.walk_laws.proofs.CalmRuns.{room as block_ends}
 use Rattle.run_laws.proofs.Layers.{unmoved}
 use Rattle.run_laws.specs.Suited.{IsAtTarget}
 use Rattle.script_text.specs.declared.script.Script.{Script}
 use Rattle.script_stack.specs.Passed.{AreStored, blocks_told, cell_in, shapes_of}
 use Rattle.script_stack.proofs.Passed.{TargetSuits, told-long}
 use Rattle.script_stack.specs.Followed.{HasWalked, opening_of}
-use Rattle.mirror_walk.specs.OnLegs.{data_read}
-use Rattle.mirror_walk.specs.Repair.{reading}
+use Rattle.mirror_laws.specs.OnLegs.{data_read}
+use Rattle.mirror_laws.specs.Repair.{reading}
 use Rattle.mirror_volume.specs.declared.piece.Piece.{Piece}
 use Rattle.mirror_volume.specs.Inner.{first_label, first_virt, own_faults, page_segs, pages_for, puts, read_script, write_script}
 use Rattle.mirror_volume.specs.Legs.{ReadOnLeg, WroteOnLeg, blocks_of, mirror_setting}

@@ -11,16 +11,16 @@ use Rattle.block_path.specs.Serial.{plain}
 use Rattle.stack_ops.specs.declared.op.Op.{Op}
 use Rattle.stack_ops.specs.declared.op.Op.TheVariants.{Wait}
 use Rattle.stack_ops.specs.declared.reply.Reply.{Reply}
-use Rattle.whole_run.specs.Past.{steps_from}
-use Rattle.whole_run.specs.ScriptWalk.{reply_of}
-use Rattle.whole_run.specs.Settings.{Setting}
+use Rattle.walk_laws.specs.Past.{steps_from}
+use Rattle.walk_laws.specs.ScriptWalk.{reply_of}
+use Rattle.walk_laws.specs.Settings.{Setting}
 use Rattle.script_text.specs.declared.script.Script.{Script}
 use Rattle.mirror_volume.specs.LegsPassed.{table_of, none_fails, opening_of, setting_of, AreStored}
-use Rattle.mirror_walk.specs.Mirror.{Mirror, blocks_in, count_of, done, mirror_opened, replies_from}
-use Rattle.mirror_walk.specs.LegByLeg.{after_op, answers_of}
-use Rattle.mirror_walk.specs.declared.marks.Marks.{Marks}
-use Rattle.mirror_walk.proofs.OtherOps.{one_more_op}
-use Rattle.mirror_walk.proofs.Stale.{AllOnOne, all_fresh, steps_one}
+use Rattle.mirror_laws.specs.Mirror.{Mirror, blocks_in, count_of, done, mirror_opened, replies_from}
+use Rattle.mirror_laws.specs.LegByLeg.{after_op, answers_of}
+use Rattle.mirror_laws.specs.declared.marks.Marks.{Marks}
+use Rattle.mirror_laws.proofs.OtherOps.{one_more_op}
+use Rattle.mirror_laws.proofs.Stale.{AllOnOne, all_fresh, steps_one}
 use Rattle.mirror_volume.specs.LegRuns.{LegRun}
 use Rattle.mirror_volume.specs.OnOps.{OpBy, OpWalked, Sides}
 use Rattle.mirror_volume.specs.Standing.{IsBoundMirror, IsMirrorOver, StandsAt, half_of, mirror_setting, op_at, walked}

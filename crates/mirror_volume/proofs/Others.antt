@@ -28,16 +28,16 @@ use Rattle.stack_ops.specs.declared.op.Op.{Op}
 use Rattle.stack_ops.specs.declared.op.Op.TheVariants.{Fetch, FetchPi, Fill, Overwrite, Put, Seal, Show, Wait, Write, WritePi}
 use Rattle.stack_ops.specs.declared.reply.Reply.{Reply}
 use Rattle.stack_ops.specs.declared.reply.Reply.TheVariants.{Shown}
-use Rattle.whole_run.specs.ScriptWalk.{changed, source_of}
-use Rattle.whole_run.specs.Settings.{Setting}
+use Rattle.walk_laws.specs.ScriptWalk.{changed, source_of}
+use Rattle.walk_laws.specs.Settings.{Setting}
 use Rattle.script_text.specs.declared.script.Script.{Script}
 use Rattle.script_text.specs.Ops.{data_fault}
 use Rattle.script_text.specs.Segments.{is_inside}
 use Rattle.mirror_volume.proofs.LegsPassed.{device-is, known-in, lies, one-stands, no_fault, found_inside}
 use Rattle.mirror_volume.specs.LegsPassed.{table_of, IsStackOp, op_fault}
-use Rattle.mirror_walk.specs.Mirror.{Mirror, blocks_in, marks_of}
-use Rattle.mirror_walk.specs.LegByLeg.{Leaves}
-use Rattle.mirror_walk.proofs.OtherOps.{no_request}
+use Rattle.mirror_laws.specs.Mirror.{Mirror, blocks_in, marks_of}
+use Rattle.mirror_laws.specs.LegByLeg.{Leaves}
+use Rattle.mirror_laws.proofs.OtherOps.{no_request}
 use Rattle.mirror_volume.specs.LegRuns.{AllWalked, LegRun}
 use Rattle.mirror_volume.specs.OnOps.{OpBy, OpWalked, Sets, Sides}
 use Rattle.mirror_volume.specs.Standing.{IsMirrorOver, half_of, mirror_setting}

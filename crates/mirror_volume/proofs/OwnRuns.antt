@@ -18,8 +18,8 @@ use Rattle.volume_table.specs.declared.device.DeviceInfo.{DeviceInfo}
 use Rattle.stack_ops.specs.declared.op.Op.{Op}
 use Rattle.stack_ops.specs.declared.op.Op.TheVariants.{Fetch, FetchPi, Write}
 use Rattle.stack_ops.specs.declared.reply.Reply.{Reply}
-use Rattle.whole_run.specs.Settings.{Setting, block_of}
-use Rattle.whole_run.specs.Steps.{Reads, Writes, body_of, frame_at}
+use Rattle.walk_laws.specs.Settings.{Setting, block_of}
+use Rattle.walk_laws.specs.Steps.{Reads, Writes, body_of, frame_at}
 use Rattle.run_laws.specs.Records.{recorded}
 use Rattle.run_laws.specs.TakenWalk.{taken_acts, taken_replies, taken_reply}
 use Rattle.script_text.specs.declared.script.Script.{Script}

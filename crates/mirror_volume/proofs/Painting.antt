@@ -1,8 +1,8 @@
 -- What is asked stretch by stretch is asked of each wanted block.
 use Rattle.std.proofs.Common.{◌≡◌, ℕ, zero, suc, ◌+◌, ◌-◌, Bool, true, false, if◌then◌else◌, List, [], ◌∷◌, ◌++◌, length, drop, refl, sym, ap, ◌∙◌, arith}
 use Rattle.std.proofs.lemmas.List.{append_assoc, drop_at, length-append, take_at}
-use Rattle.whole_run.specs.Steps.{each_from}
-use Rattle.whole_run.proofs.InSteps.{each_length}
+use Rattle.walk_laws.specs.Steps.{each_from}
+use Rattle.walk_laws.proofs.InSteps.{each_length}
 use Rattle.mirror_volume.specs.Asked.{ended, pasted, stretches, stretches_from}
 
 -- ---- a part in the middle

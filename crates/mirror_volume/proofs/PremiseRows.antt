@@ -14,14 +14,14 @@ use Rattle.block_path.specs.WayIn.{from_wire}
 use Rattle.block_path.specs.WayOut.{to_wire}
 use Rattle.dix_adapter.specs.Ways.{blocks_told}
 use Rattle.volume_table.specs.Faults.{table_fault}
-use Rattle.whole_run.specs.Past.{brought_by}
-use Rattle.whole_run.specs.Settings.{Setting}
-use Rattle.whole_run.specs.UnderMap.{IsClean, home}
+use Rattle.walk_laws.specs.Past.{brought_by}
+use Rattle.walk_laws.specs.Settings.{Setting}
+use Rattle.walk_laws.specs.UnderMap.{IsClean, home}
 use Rattle.run_laws.specs.ShownRun.{DevicesAreClean}
 use Rattle.script_text.specs.declared.script.Script.{Script}
 use Rattle.script_stack.specs.Causes.{table_of}
 use Rattle.mirror_volume.specs.LegsPassed.{mirror_fault}
-use Rattle.mirror_walk.specs.OneGood.{HasGoodLeg, IsUnnamed}
+use Rattle.mirror_laws.specs.OneGood.{HasGoodLeg, IsUnnamed}
 use Rattle.mirror_volume.specs.Standing.{half_of, mirror_setting}
 use Rattle.mirror_volume.specs.Rows.{devices, script, still_script, us}
 use Rattle.mirror_volume.specs.Premises.{IsFormedMirror, IsOneGoodRun, IsStillMirror}

@@ -11,7 +11,7 @@ use Rattle.stack_ops.specs.declared.op.Op.TheVariants.{Fetch, FetchPi, Fill, Ove
 use Rattle.volume_table.specs.declared.device.DeviceInfo.{DeviceInfo}
 use Rattle.volume_table.specs.Places.{volume_len}
 use Rattle.volume_table.specs.Tables.{Table}
-use Rattle.whole_run.specs.Settings.{Setting}
+use Rattle.walk_laws.specs.Settings.{Setting}
 use Rattle.run_laws.specs.ShownRun.{HasCells, IsChecked, LiesOn}
 use Rattle.script_text.specs.Bindings.{or_else}
 use Rattle.script_text.specs.Ops.{data_fault}
@@ -22,7 +22,7 @@ use Rattle.script_stack.proofs.Passed.{told-long, alone-of, tag-fits, cell-there
 use Rattle.script_stack.specs.Causes.{table_of}
 use Rattle.mirror_volume.specs.LegsPassed.{faults_fault, length_fault, mode_fault, names_blocks, op_fault}
 use Rattle.mirror_volume.proofs.Asked.{none_when}
-use Rattle.mirror_walk.specs.OneGood.{AllBind, Binds, IsMirrorRun}
+use Rattle.mirror_laws.specs.OneGood.{AllBind, Binds, IsMirrorRun}
 use Rattle.mirror_volume.proofs.Ground.{fits, legs}
 use Rattle.mirror_volume.proofs.Requests.{op-fits, overwrite-fits, request-fits}
 use Rattle.mirror_volume.specs.Standing.{IsMirrorOver, half_of, mirror_setting, op_at}

@@ -8,8 +8,8 @@ use Rattle.stack_ops.specs.declared.op.Op.{Op}
 use Rattle.stack_ops.specs.declared.reply.Reply.TheVariants.{Silent}
 use Rattle.stack_ops.specs.Footprints.{put_seg}
 use Rattle.block_path.specs.Acts.{State}
-use Rattle.whole_run.specs.ScriptWalk.{replies_from, walk_from}
-use Rattle.whole_run.specs.Settings.{Setting}
+use Rattle.walk_laws.specs.ScriptWalk.{replies_from, walk_from}
+use Rattle.walk_laws.specs.Settings.{Setting}
 use Rattle.mirror_volume.specs.Inner.{puts}
 use Rattle.mirror_volume.proofs.Turns.{scattered}
 

@@ -16,13 +16,13 @@ use Rattle.block_path.specs.Blocks.{fetched_cell, own_frame}
 use Rattle.block_path.specs.Routes.{target}
 use Rattle.block_path.specs.WayIn.{delivered_of, way_in}
 use Rattle.block_path.specs.WayOut.{stored_of}
-use Rattle.whole_run.specs.Past.{Brought}
-use Rattle.whole_run.specs.Settings.{Block, Setting, route}
+use Rattle.walk_laws.specs.Past.{Brought}
+use Rattle.walk_laws.specs.Settings.{Block, Setting, route}
 use Rattle.script_text.specs.Bindings.{is_shift, or_else, request_at}
 use Rattle.script_text.specs.declared.script.Script.{Script}
 use Rattle.mirror_volume.proofs.LegsPassed.{if-none, or-none}
 use Rattle.mirror_volume.specs.LegsPassed.{faults_fault, is_bad_line, is_past, length_fault, mirror_fault, mode_fault, ops_fault, Each}
-use Rattle.mirror_walk.specs.Repair.{reading, steady, writing}
+use Rattle.mirror_laws.specs.Repair.{reading, steady, writing}
 use Rattle.mirror_volume.specs.declared.piece.Piece.{Piece}
 use Rattle.mirror_volume.specs.Inner.{first_label, first_virt, own_faults, own_script, page_segs, pages_for, puts, read_pi_script, write_script}
 use Rattle.mirror_volume.specs.MirrorScript.{without_faults}

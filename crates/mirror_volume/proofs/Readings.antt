@@ -3,7 +3,7 @@ use Rattle.std.proofs.Common.{ℕ, suc, ◌≡◌, ◌*◌, Bool, true, List, []
 use Rattle.bio_core.specs.declared.fate.Why.{Why}
 use Rattle.page_pool.specs.Cells.{flat}
 use Rattle.script_text.specs.declared.script.Script.{Script}
-use Rattle.mirror_walk.specs.declared.marks.Marks.{Marks}
+use Rattle.mirror_laws.specs.declared.marks.Marks.{Marks}
 use Rattle.mirror_volume.specs.declared.piece.Piece.{Piece}
 use Rattle.mirror_volume.specs.Inner.{read_script}
 use Rattle.mirror_volume.specs.Asked.{AreOf, IsInside, IsReadOf, ReadBy, bytes_after, first_listed, found_after, fresh_on0, last_listed, part_of, pasted, rest_wanted, stretches}

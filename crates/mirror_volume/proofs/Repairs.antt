@@ -13,19 +13,19 @@ use Rattle.volume_table.specs.Tables.{Table}
 use Rattle.volume_table.specs.declared.device.DeviceInfo.{DeviceInfo}
 use Rattle.dix_adapter.specs.Ways.{blocks_told, shapes_of}
 use Rattle.stack_ops.specs.declared.reply.Reply.{Reply}
-use Rattle.whole_run.specs.Past.{brought_by}
-use Rattle.whole_run.specs.Settings.{Block, Setting}
-use Rattle.whole_run.specs.Steps.{each_from}
-use Rattle.whole_run.proofs.InSteps.{each_length}
+use Rattle.walk_laws.specs.Past.{brought_by}
+use Rattle.walk_laws.specs.Settings.{Block, Setting}
+use Rattle.walk_laws.specs.Steps.{each_from}
+use Rattle.walk_laws.proofs.InSteps.{each_length}
 use Rattle.script_text.specs.declared.script.Script.{Script}
 use Rattle.mirror_volume.specs.LegsPassed.{table_of, none_fails, setting_of, AreStored}
-use Rattle.mirror_walk.specs.Mirror.{fresh, is_none, marks_of}
-use Rattle.mirror_walk.specs.Repair.{WalkedRepair, good, mirror_repair, on_leg0, on_leg1, reading, repair_from, steady}
-use Rattle.mirror_walk.specs.Sizes.{KeepsSizes}
-use Rattle.mirror_walk.specs.Stretches.{Fine, Lost, Need, On0, On1, accepted_of, after_due, good0, good1, lost_of, marks_mended, needs}
-use Rattle.mirror_walk.specs.declared.marks.Marks.{Marks}
-use Rattle.mirror_walk.proofs.Sizes.{reading_size, steady_keeps, steady_sizes}
-use Rattle.mirror_walk.proofs.Stretches.{repair_join, steady_legs, stretch_is}
+use Rattle.mirror_laws.specs.Mirror.{fresh, is_none, marks_of}
+use Rattle.mirror_laws.specs.Repair.{WalkedRepair, good, mirror_repair, on_leg0, on_leg1, reading, repair_from, steady}
+use Rattle.mirror_laws.specs.Sizes.{KeepsSizes}
+use Rattle.mirror_laws.specs.Stretches.{Fine, Lost, Need, On0, On1, accepted_of, after_due, good0, good1, lost_of, marks_mended, needs}
+use Rattle.mirror_laws.specs.declared.marks.Marks.{Marks}
+use Rattle.mirror_laws.proofs.Sizes.{reading_size, steady_keeps, steady_sizes}
+use Rattle.mirror_laws.proofs.Stretches.{repair_join, steady_legs, stretch_is}
 use Rattle.mirror_volume.specs.declared.piece.Piece.{Piece}
 use Rattle.mirror_volume.specs.Inner.{first_label, first_virt, read_pi_script}
 use Rattle.mirror_volume.specs.MirrorScript.{IsMirrorScript, without_faults}

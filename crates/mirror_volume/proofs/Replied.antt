@@ -5,7 +5,7 @@ use Rattle.bio_core.specs.declared.fate.Why.{Why}
 use Rattle.stack_ops.specs.declared.reply.BadBlock.{BadBlock}
 use Rattle.stack_ops.specs.declared.reply.Reply.{Reply}
 use Rattle.stack_ops.specs.declared.reply.Reply.TheVariants.{Silent}
-use Rattle.whole_run.specs.ScriptWalk.{bad_from, whole_or_bad}
+use Rattle.walk_laws.specs.ScriptWalk.{bad_from, whole_or_bad}
 use Rattle.mirror_volume.specs.LegRuns.{found_by, found_in, noted}
 
 set-here : {X : Type 0} (before : List X) (x y : X) (after : List X) (k : ℕ) → length before ≡ k → set (before ++ (x ∷ after)) k y ≡ before ++ (y ∷ after)

@@ -5,7 +5,7 @@ use Rattle.target_answer.specs.Target.{Stored}
 use Rattle.volume_table.specs.declared.device.DeviceInfo.{DeviceInfo}
 use Rattle.script_text.specs.declared.script.Script.{Script}
 use Rattle.mirror_volume.proofs.LegsPassed.{blank-cells}
-use Rattle.mirror_walk.specs.Mirror.{fresh}
+use Rattle.mirror_laws.specs.Mirror.{fresh}
 use Rattle.mirror_volume.specs.OnOps.{Sides}
 use Rattle.mirror_volume.specs.Standing.{StandsAt, half_of}
 

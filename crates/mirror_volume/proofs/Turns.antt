@@ -7,7 +7,7 @@ use Rattle.page_pool.specs.Cells.{cell, gather, scatter}
 use Rattle.page_pool.specs.Places.{places_in, run}
 use Rattle.range_gate.specs.Cells.{cells_of, in_turn}
 use Rattle.range_gate.proofs.Turns.{take_turn, run_cells}
-use Rattle.whole_run.specs.Steps.{body_of}
+use Rattle.walk_laws.specs.Steps.{body_of}
 use Rattle.run_laws.proofs.Parts.{body_part}
 use Rattle.mirror_volume.specs.Inner.{page_segs}
 

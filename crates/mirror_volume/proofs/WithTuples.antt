@@ -10,15 +10,15 @@ use Rattle.rig_discovery.specs.Discovery.{info_of}
 use Rattle.stack_ops.specs.declared.reply.Reply.{Reply}
 use Rattle.volume_table.specs.Tables.{MadeFor, Table}
 use Rattle.block_path.specs.Acts.{State}
-use Rattle.whole_run.specs.ScriptWalk.{bad_from, whole_or_bad}
-use Rattle.whole_run.specs.Settings.{Block, Setting, block_of}
-use Rattle.whole_run.specs.Steps.{body_of, tuple_of}
+use Rattle.walk_laws.specs.ScriptWalk.{bad_from, whole_or_bad}
+use Rattle.walk_laws.specs.Settings.{Block, Setting, block_of}
+use Rattle.walk_laws.specs.Steps.{body_of, tuple_of}
 use Rattle.run_laws.proofs.Parts.{tuple_part}
 use Rattle.script_text.specs.declared.script.Script.{Script}
 use Rattle.script_stack.specs.Passed.{AreStored, blocks_told, shapes_of}
 use Rattle.script_stack.proofs.Passed.{TargetSuits}
 use Rattle.script_stack.specs.Followed.{HasWalked, opening_of}
-use Rattle.mirror_walk.specs.OnLegs.{data_read}
+use Rattle.mirror_laws.specs.OnLegs.{data_read}
 use Rattle.mirror_volume.specs.declared.piece.Piece.{Piece}
 use Rattle.mirror_volume.specs.Inner.{first_label, first_virt, own_faults, page_segs, pages_for, read_pi_script}
 use Rattle.mirror_volume.specs.Legs.{ReadPiOnLeg, blocks_of, mirror_setting, tuples_read}

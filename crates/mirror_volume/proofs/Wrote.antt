@@ -20,16 +20,16 @@ use Rattle.block_path.proofs.Cells.{gather_length}
 use Rattle.stack_ops.specs.declared.op.Op.{Op}
 use Rattle.stack_ops.specs.declared.op.Op.TheVariants.{Write}
 use Rattle.stack_ops.specs.declared.reply.Reply.{Reply}
-use Rattle.whole_run.specs.Past.{Brought}
-use Rattle.whole_run.specs.ScriptWalk.{bad_from, reply_of, whole_or_bad}
-use Rattle.whole_run.specs.Settings.{Block, Setting}
-use Rattle.whole_run.proofs.InSteps.{each_length}
+use Rattle.walk_laws.specs.Past.{Brought}
+use Rattle.walk_laws.specs.ScriptWalk.{bad_from, reply_of, whole_or_bad}
+use Rattle.walk_laws.specs.Settings.{Block, Setting}
+use Rattle.walk_laws.proofs.InSteps.{each_length}
 use Rattle.script_text.specs.declared.script.Script.{Script}
 use Rattle.mirror_volume.specs.LegsPassed.{table_of, HasWalked, none_fails, setting_of}
-use Rattle.mirror_walk.specs.Mirror.{Mirror}
-use Rattle.mirror_walk.specs.OnLegs.{blocks_on, brought_each, listed_written, marks_written, whys_written, written}
-use Rattle.mirror_walk.specs.LegByLeg.{after_op, answers_of}
-use Rattle.mirror_walk.proofs.WriteByLegs.{writes_by_legs}
+use Rattle.mirror_laws.specs.Mirror.{Mirror}
+use Rattle.mirror_laws.specs.OnLegs.{blocks_on, brought_each, listed_written, marks_written, whys_written, written}
+use Rattle.mirror_laws.specs.LegByLeg.{after_op, answers_of}
+use Rattle.mirror_laws.proofs.WriteByLegs.{writes_by_legs}
 use Rattle.mirror_volume.specs.declared.piece.Piece.{Piece}
 use Rattle.mirror_volume.specs.Inner.{pages_for, write_script}
 use Rattle.mirror_volume.specs.Legs.{WroteOnLeg}

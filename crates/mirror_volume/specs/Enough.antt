@@ -3,7 +3,7 @@ use Rattle.std.specs.Prelude.{ℕ, ◌≡◌, ◌+◌, ◌<◌, Bool, List, ◌�
 use Rattle.page_pool.specs.Cells.{flat, gather}
 use Rattle.stack_ops.specs.declared.reply.Reply.{Reply}
 use Rattle.stack_ops.specs.declared.reply.Reply.TheVariants.{Silent, Whole}
-use Rattle.whole_run.specs.Steps.{body_of}
+use Rattle.walk_laws.specs.Steps.{body_of}
 use Rattle.mirror_volume.specs.OnOps.{Sides}
 use Rattle.page_pool.specs.declared.segs.Seg.{Seg}
 use Rattle.target_answer.specs.Target.{Stored}
@@ -12,11 +12,11 @@ use Rattle.block_path.specs.Acts.{State}
 use Rattle.stack_ops.specs.declared.op.Op.{Op}
 use Rattle.stack_ops.specs.declared.op.Op.TheVariants.{Fetch}
 use Rattle.volume_table.specs.declared.device.DeviceInfo.{DeviceInfo}
-use Rattle.whole_run.specs.Past.{steps_from}
+use Rattle.walk_laws.specs.Past.{steps_from}
 use Rattle.script_text.specs.declared.script.Script.{Script}
 use Rattle.script_stack.specs.Followed.{opening_of}
-use Rattle.mirror_walk.specs.Mirror.{count_of}
-use Rattle.mirror_walk.specs.OneGood.{HoldsProper, ReadsLast, last_of, on_leg}
+use Rattle.mirror_laws.specs.Mirror.{count_of}
+use Rattle.mirror_laws.specs.OneGood.{HoldsProper, ReadsLast, last_of, on_leg}
 use Rattle.mirror_volume.specs.Standing.{half_of, mirror_setting}
 
 -- the cells with which a mirror begins over these units

@@ -1,7 +1,7 @@
 use Rattle.std.specs.Prelude.{ℕ, ◌≡◌, ◌*◌, List, length, Option}
 use Rattle.bio_core.specs.declared.fate.Why.{Why}
-use Rattle.whole_run.specs.Past.{Brought}
-use Rattle.mirror_walk.specs.declared.marks.Marks.{Marks}
+use Rattle.walk_laws.specs.Past.{Brought}
+use Rattle.mirror_laws.specs.declared.marks.Marks.{Marks}
 use Rattle.mirror_volume.specs.declared.repair.Held.{Held}
 use Rattle.mirror_volume.specs.declared.repair.Repair.{Repair}
 use Rattle.mirror_volume.specs.declared.repair.Seen.{Seen}

@@ -8,14 +8,14 @@ use Rattle.stack_ops.specs.declared.reply.Reply.{Reply}
 use Rattle.stack_ops.specs.declared.reply.Reply.TheVariants.{Silent}
 use Rattle.volume_table.specs.declared.device.DeviceInfo.{DeviceInfo}
 use Rattle.volume_table.specs.Tables.{Table}
-use Rattle.whole_run.specs.ScriptWalk.{bad_from, whole_or_bad}
-use Rattle.whole_run.specs.Settings.{Block, Setting}
+use Rattle.walk_laws.specs.ScriptWalk.{bad_from, whole_or_bad}
+use Rattle.walk_laws.specs.Settings.{Block, Setting}
 use Rattle.script_text.specs.declared.script.Script.{Script}
 use Rattle.script_text.specs.Bindings.{binding_fault}
 use Rattle.script_stack.specs.Passed.{SuitsStack, blocks_told, shapes_of}
 use Rattle.script_stack.specs.Followed.{none_fails, setting_of}
-use Rattle.mirror_walk.specs.OnLegs.{blocks_on, brought_each, data_read, whys_read, whys_written, written}
-use Rattle.mirror_walk.specs.Repair.{reading}
+use Rattle.mirror_laws.specs.OnLegs.{blocks_on, brought_each, data_read, whys_read, whys_written, written}
+use Rattle.mirror_laws.specs.Repair.{reading}
 use Rattle.mirror_volume.specs.declared.piece.Piece.{Piece}
 use Rattle.mirror_volume.specs.Inner.{first_label, first_virt, pages_for}
 use Rattle.page_pool.specs.declared.TheConstants.{PAGE}

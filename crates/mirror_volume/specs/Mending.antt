@@ -2,10 +2,10 @@ use Rattle.std.specs.Prelude.{ℕ, zero, suc, ◌≡◌, ◌+◌, ◌-◌, ◌*�
 use Rattle.bio_core.specs.declared.fate.Why.{Why}
 use Rattle.page_pool.specs.Cells.{flat}
 use Rattle.pi_tuple.specs.Tuples.{tuple_in}
-use Rattle.whole_run.specs.Past.{Brought}
+use Rattle.walk_laws.specs.Past.{Brought}
 use Rattle.script_text.specs.declared.script.Script.{Script}
-use Rattle.mirror_walk.specs.declared.marks.Marks.{Marks}
-use Rattle.mirror_walk.specs.Stretches.{Fine, Lost, Need, On0, On1, accepted_of, lost_of, marks_mended}
+use Rattle.mirror_laws.specs.declared.marks.Marks.{Marks}
+use Rattle.mirror_laws.specs.Stretches.{Fine, Lost, Need, On0, On1, accepted_of, lost_of, marks_mended}
 use Rattle.mirror_volume.specs.declared.piece.Piece.{Piece}
 use Rattle.mirror_volume.specs.Inner.{pages_for, read_pi_script, write_script}
 use Rattle.mirror_volume.specs.LegRuns.{LegRun, found_by, pool_of, replies_of}

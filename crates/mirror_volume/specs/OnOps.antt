@@ -8,10 +8,10 @@ use Rattle.stack_ops.specs.declared.op.Op.{Op}
 use Rattle.stack_ops.specs.declared.op.Op.TheVariants.{Fetch, FetchPi, Fill, Overwrite, Put, Seal, Show, Wait, Write, WritePi}
 use Rattle.stack_ops.specs.declared.reply.Reply.{Reply}
 use Rattle.stack_ops.specs.declared.reply.Reply.TheVariants.{Medium, Shown, Silent}
-use Rattle.whole_run.specs.ScriptWalk.{bad_from, whole_or_bad}
+use Rattle.walk_laws.specs.ScriptWalk.{bad_from, whole_or_bad}
 use Rattle.script_text.specs.declared.script.Script.{Script}
-use Rattle.mirror_walk.specs.declared.marks.Marks.{Marks}
-use Rattle.mirror_walk.specs.OnLegs.{listed_written, marks_written}
+use Rattle.mirror_laws.specs.declared.marks.Marks.{Marks}
+use Rattle.mirror_laws.specs.OnLegs.{listed_written, marks_written}
 use Rattle.mirror_volume.specs.declared.piece.Piece.{Piece}
 use Rattle.mirror_volume.specs.Inner.{write_script}
 use Rattle.dix_base.specs.Told.{Calm, Rose}

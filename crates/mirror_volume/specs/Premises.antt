@@ -5,16 +5,16 @@ use Rattle.pi_tuple.specs.declared.checks.PiType.TheVariants.{One}
 use Rattle.dix_adapter.specs.Ways.{blocks_told}
 use Rattle.target_answer.specs.Target.{Stored}
 use Rattle.volume_table.specs.declared.device.DeviceInfo.{DeviceInfo}
-use Rattle.whole_run.specs.Detectable.{detectable}
-use Rattle.whole_run.specs.Past.{brought_by}
-use Rattle.whole_run.specs.UnderMap.{NoneEscapes, home}
+use Rattle.walk_laws.specs.Detectable.{detectable}
+use Rattle.walk_laws.specs.Past.{brought_by}
+use Rattle.walk_laws.specs.UnderMap.{NoneEscapes, home}
 use Rattle.run_laws.specs.ShownRun.{DevicesAreClean}
 use Rattle.stack_ops.specs.Ops.{is_overwrite}
-use Rattle.mirror_premises.specs.Passed.{escapes_none}
+use Rattle.mirror_form_laws.specs.Passed.{escapes_none}
 use Rattle.script_text.specs.declared.script.Script.{Script}
 use Rattle.script_stack.specs.Causes.{table_of}
-use Rattle.mirror_walk.specs.OneGood.{OneGood, script_asks}
-use Rattle.mirror_premises.specs.Forms.{leaves_a_leg, shows_on_legs}
+use Rattle.mirror_laws.specs.OneGood.{OneGood, script_asks}
+use Rattle.mirror_form_laws.specs.Forms.{leaves_a_leg, shows_on_legs}
 use Rattle.mirror_volume.specs.Standing.{half_of, mirror_setting}
 use Rattle.mirror_volume.specs.Enough.{opening_over}
 

@@ -10,13 +10,13 @@ use Rattle.volume_table.specs.Places.{volume_len}
 use Rattle.dix_adapter.specs.Ways.{blocks_told, shapes_of}
 use Rattle.block_path.specs.Serial.{plain}
 use Rattle.stack_ops.specs.declared.reply.Reply.{Reply}
-use Rattle.whole_run.specs.Past.{steps_from}
-use Rattle.whole_run.specs.Settings.{Setting}
+use Rattle.walk_laws.specs.Past.{steps_from}
+use Rattle.walk_laws.specs.Settings.{Setting}
 use Rattle.script_text.specs.declared.script.Script.{Script}
 use Rattle.mirror_volume.specs.LegsPassed.{table_of, SizesAre, none_fails, opening_of, setting_of, AreStored, mirror_fault, Keeps}
-use Rattle.mirror_walk.specs.Mirror.{Mirror, count_of, done, mirror_opened, replies_from}
-use Rattle.mirror_walk.specs.Repair.{mirror_repair}
-use Rattle.mirror_walk.specs.declared.marks.Marks.{Marks}
+use Rattle.mirror_laws.specs.Mirror.{Mirror, count_of, done, mirror_opened, replies_from}
+use Rattle.mirror_laws.specs.Repair.{mirror_repair}
+use Rattle.mirror_laws.specs.declared.marks.Marks.{Marks}
 use Rattle.stack_ops.specs.declared.op.Op.{Op}
 use Rattle.stack_ops.specs.declared.op.Op.TheVariants.{Wait}
 use Rattle.mirror_volume.specs.LegRuns.{LegRun, NamesNoMedium, all_mediums}

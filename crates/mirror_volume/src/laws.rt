@@ -8,7 +8,7 @@ ghost use Rattle.stack_ops.specs.declared.reply.Reply.{Reply as AnyReply};
 ghost use Rattle.target_answer.specs.Target.{Stored};
 ghost use Rattle.volume_table.specs.declared.device.DeviceInfo.{DeviceInfo as AnyDevice};
 ghost use Rattle.script_text.specs.declared.script.Script.{Script as AnyScript};
-ghost use Rattle.mirror_walk.specs.declared.marks.Marks.{Marks as AnyMarks};
+ghost use Rattle.mirror_laws.specs.declared.marks.Marks.{Marks as AnyMarks};
 ghost use Rattle.mirror_volume.specs.Standing.{IsMirrorOver, IsRepairedAs, StandsAt};
 ghost use Rattle.mirror_volume.specs.OnOps.{Sides};
 ghost use Rattle.script_stack.specs.Causes.{table_of};
@@ -17,12 +17,12 @@ ghost use Rattle.mirror_volume.specs.Rows.{devices, script, still_script, us};
 ghost use Rattle.mirror_volume.specs.Enough.{AllReadLast, HasReadLast, WasEnough};
 ghost use Rattle.mirror_volume.specs.Premises.{HoldsBytes, IsFormedMirror, IsOneGoodRun, IsStillMirror};
 
-use mirror_premises::{
+use mirror_form_laws::{
     a_still_mirror_serves_the_last_write_under_any_protect_field,
     each_block_of_a_mirror_has_a_leg_by_its_form, faults_on_a_mirror_are_shown_by_their_form,
     no_write_on_a_mirror_supplies_an_escape_by_its_form,
 };
-use mirror_walk::{a_mirror_reads_the_last_write, a_repair_makes_both_legs_equal};
+use mirror_laws::{a_mirror_reads_the_last_write, a_repair_makes_both_legs_equal};
 
 /// A law, over a rig that tells its blocks: where each block has a leg on which nothing alters it, each read of a mirror's
 /// walk is whole and has the data that were last accepted. And of a mirror all of whose ops are done, and which was

@@ -155,6 +155,28 @@ pub(crate) fn read_piece<R: Rig>(
     copy_out(alloc, stack.pool(), 0, bytes)
 }
 
+/// Copies data out of pages, from the first one on, and their tuples out of those behind.
+fn copy_both(
+    alloc: Global,
+    pool: &PagePool,
+    bytes: &mut [u8],
+    tuples: &mut [u8],
+) -> Result<(), AllocError>
+    requires some { 1 ≤ length bytes.old }
+    requires tagged { 1 ≤ length tuples.old }
+    requires few { length bytes.old + length tuples.old < 2 ^ 32 }
+    requires lie { AllLieIn pool.now (page_segs 0 (pages_for (length bytes.old)) (length bytes.old)) }
+    requires behind { AllLieIn pool.now (page_segs (pages_for (length bytes.old)) (pages_for (length tuples.old)) (length tuples.old)) }
+    ensures copied { OnOk result ((bytes.new ≡ take (length bytes.old) (flat pool.now))
+        × (tuples.new ≡ take (length tuples.old) (drop (PAGE * pages_for (length bytes.old)) (flat pool.now)))) }
+    ensures long { length bytes.new ≡ length bytes.old }
+    ensures tuples_long { length tuples.new ≡ length tuples.old }
+{
+    let behind = pages_for(bytes.len() as u32);
+    copy_out(alloc, pool, 0, bytes)?;
+    copy_out(alloc, pool, behind, tuples)
+}
+
 /// Reads the blocks of the piece with their tuples.
 pub(crate) fn read_pi_piece<R: Rig>(
     alloc: Global,
@@ -183,7 +205,5 @@ pub(crate) fn read_pi_piece<R: Rig>(
     let own = read_pi_script(alloc, &plan.script, plan.half, piece)?;
     let stack = run_own(alloc, plan, own, used, rig)?;
     found_last(stack.replies(), found);
-    copy_out(alloc, stack.pool(), 0, bytes)?;
-    let behind = pages_for(piece.n * plan.script.block);
-    copy_out(alloc, stack.pool(), behind, tuples)
+    copy_both(alloc, stack.pool(), bytes, tuples)
 }

@@ -10,7 +10,7 @@ ghost use Rattle.volume_table.specs.Tables.{MadeFor, Table};
 ghost use Rattle.script_text.specs.declared.script.Script.{Script as AnyScript};
 ghost use Rattle.script_stack.specs.Passed.{AreStored, Keeps, shapes_of};
 ghost use Rattle.script_stack.specs.Followed.{HasWalked, none_fails, setting_of};
-ghost use Rattle.mirror_walk.specs.Repair.{steady};
+ghost use Rattle.mirror_laws.specs.Repair.{steady};
 ghost use Rattle.mirror_script.specs.MirrorFaults.{mirror_fault};
 ghost use Rattle.mirror_volume.specs.declared.piece.Piece.{Piece as AnyPiece};
 ghost use Rattle.mirror_volume.specs.Inner.{read_pi_script, read_script, write_script};

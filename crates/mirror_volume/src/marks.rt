@@ -1,11 +1,11 @@
 //! The marks of blocks that were written.
 
 ghost use Rattle.std.specs.Prelude.{◌≡◌, ◌+◌, ◌≤◌, length};
-ghost use Rattle.mirror_walk.specs.Mirror.{marked};
-ghost use Rattle.mirror_walk.specs.OnLegs.{marks_written};
+ghost use Rattle.mirror_laws.specs.Mirror.{marked};
+ghost use Rattle.mirror_laws.specs.OnLegs.{marks_written};
 
 use bio_core::Why;
-use mirror_walk::Marks;
+use mirror_laws::Marks;
 
 /// Both legs have the block.
 pub(crate) const FRESH: Marks = Marks {

@@ -17,7 +17,7 @@ use crate::repair::{STRETCH, repair_stretch};
 use crate::{
     Piece, a_repair_of_a_mirror_is_that_of_its_walk, an_op_of_a_mirror_goes_on_in_its_walk,
 };
-use mirror_walk::Marks;
+use mirror_laws::Marks;
 use page_pool::PagePool;
 use rig_api::Rig;
 use script_text::Script;

@@ -11,7 +11,7 @@ use crate::Piece;
 use crate::legs::{Plan, read_piece};
 use crate::stretches::stretches_of;
 use bio_core::Why;
-use mirror_walk::Marks;
+use mirror_laws::Marks;
 use rig_api::Rig;
 use std::alloc::{AllocError, Global};
 

@@ -16,7 +16,7 @@ use crate::legs::{Plan, read_pi_piece, write_piece};
 use crate::reading::fresh;
 use crate::stretches::stretches_of;
 use bio_core::Why;
-use mirror_walk::Marks;
+use mirror_laws::Marks;
 use pi_tuple::TUPLE;
 use rig_api::Rig;
 use std::alloc::{AllocError, Global};

@@ -1,9 +1,9 @@
 //! What a request replies.
 
 ghost use Rattle.std.specs.Prelude.{◌≡◌, ◌<◌, ◌^◌, IfOk, length};
-ghost use Rattle.whole_run.specs.ScriptWalk.{bad_from, whole_or_bad};
-ghost use Rattle.mirror_walk.specs.Mirror.{neither};
-ghost use Rattle.mirror_walk.specs.OnLegs.{listed_written};
+ghost use Rattle.walk_laws.specs.ScriptWalk.{bad_from, whole_or_bad};
+ghost use Rattle.mirror_laws.specs.Mirror.{neither};
+ghost use Rattle.mirror_laws.specs.OnLegs.{listed_written};
 ghost use Rattle.mirror_volume.specs.LegRuns.{AreBelow, Fits, LastFits, found_by, found_in, noted};
 
 use bio_core::Why;

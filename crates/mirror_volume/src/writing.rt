@@ -9,7 +9,7 @@ use crate::Piece;
 use crate::legs::{Plan, write_piece};
 use crate::marks::mark;
 use crate::replies::{list_by_both, request_reply};
-use mirror_walk::Marks;
+use mirror_laws::Marks;
 use rig_api::Rig;
 use stack_ops::Reply;
 use std::alloc::{AllocError, Global};

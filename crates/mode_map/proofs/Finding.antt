@@ -35,11 +35,11 @@ use Rattle.block_path.specs.WayIn.{Delivers, at_host, delivered_unless, from_dev
 use Rattle.block_path.specs.WayOut.{Stores, adapter_finds_out, at_device, from_adapter, mapped_out, sent, to_wire, way_out}
 use Rattle.block_path.proofs.Cells.{AllBelow, below}
 use Rattle.block_path.proofs.PathLaws.{never_zero}
-use Rattle.whole_run.specs.Settings.{Block, Setting, route}
-use Rattle.whole_run.specs.PlainMap.{MapEntry, all_pass, as_expected, entry_of, finds_of_app, handed, own_in, tag_of}
-use Rattle.whole_run.specs.UnderMap.{stored_as}
-use Rattle.whole_run.proofs.CalmWays.{IsProper, comes_home, goes, goes_bare, goes_on, here, loud, onto_wire, proper_entry, quiet, rtag_below, unmasked, wire, onto_medium, off_medium, off_wire, new_guard}
-use Rattle.whole_run.proofs.TupleFrames.{Small, data_is, finds_none, mapped_is}
+use Rattle.walk_laws.specs.Settings.{Block, Setting, route}
+use Rattle.walk_laws.specs.PlainMap.{MapEntry, all_pass, as_expected, entry_of, finds_of_app, handed, own_in, tag_of}
+use Rattle.walk_laws.specs.UnderMap.{stored_as}
+use Rattle.walk_laws.proofs.CalmWays.{IsProper, comes_home, goes, goes_bare, goes_on, here, loud, onto_wire, proper_entry, quiet, rtag_below, unmasked, wire, onto_medium, off_medium, off_wire, new_guard}
+use Rattle.walk_laws.proofs.TupleFrames.{Small, data_is, finds_none, mapped_is}
 use Rattle.mode_map.specs.Finders.{IsCleanBlock, ShowsIn, checks_stored, seen_in, finder, flip_of, flipped, is_served, seen_by, seen_in_read, seen_in_write, seen_on_way_in, seen_on_way_out}
 use Rattle.mode_map.specs.declared.finder.Seen.{Seen}
 use Rattle.mode_map.specs.declared.finder.Seen.TheVariants.{Adapter, Target, Owner as OfOwner}

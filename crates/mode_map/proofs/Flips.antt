@@ -12,7 +12,7 @@ use Rattle.fault_schedule.specs.AnyOrder.{xored-same}
 use Rattle.pi_tuple.specs.declared.checks.Check.{Check}
 use Rattle.target_answer.specs.Passing.{then_crossed}
 use Rattle.block_path.proofs.Cells.{AllBelow}
-use Rattle.whole_run.specs.Settings.{Block}
+use Rattle.walk_laws.specs.Settings.{Block}
 use Rattle.mode_map.specs.Finders.{flip_of, flipped}
 
 same-crossing : (at : Crossing) → is_same at at ≡ true

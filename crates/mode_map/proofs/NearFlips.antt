@@ -4,8 +4,8 @@ use Rattle.std.proofs.lemmas.Bool.{cases_lt}
 use Rattle.std.proofs.lemmas.List.{get_or_past}
 use Rattle.fault_schedule.specs.declared.fault.Crossing.{Crossing}
 use Rattle.guard_laws.proofs.Flips.{flip_shown, flip_shown_by_each}
-use Rattle.whole_run.specs.PlainMap.{MapEntry}
-use Rattle.whole_run.specs.Settings.{Setting}
+use Rattle.walk_laws.specs.PlainMap.{MapEntry}
+use Rattle.walk_laws.specs.Settings.{Setting}
 use Rattle.mode_map.specs.Finders.{IsCleanBlock, ShowsIn}
 use Rattle.mode_map.specs.NearFlips.{IsNearFlip}
 

@@ -24,8 +24,8 @@ use Rattle.block_path.specs.declared.route.Route.{Route}
 use Rattle.block_path.specs.Routes.{by_target, passage, target}
 use Rattle.block_path.specs.WayIn.{Delivers, adapter_finds_in, at_host, delivered_unless, from_device, from_wire, mapped_back, owner_finds, received, verified, way_in}
 use Rattle.block_path.specs.WayOut.{Stores, at_device, checked_out, from_adapter, to_wire}
-use Rattle.whole_run.proofs.CalmWays.{crossed_none, onto_medium, off_medium, off_wire}
-use Rattle.whole_run.proofs.TupleFrames.{Small, finds_in_frame}
+use Rattle.walk_laws.proofs.CalmWays.{crossed_none, onto_medium, off_medium, off_wire}
+use Rattle.walk_laws.proofs.TupleFrames.{Small, finds_in_frame}
 
 -- ---- alterations apart
 

@@ -16,9 +16,9 @@ use Rattle.block_path.specs.Routes.{host_type, passes, target}
 use Rattle.block_path.specs.WayIn.{Delivers, Spoils, Stops, WayIn, way_in}
 use Rattle.block_path.specs.WayOut.{Fails, Refuses, Stores, WayOut, way_out}
 use Rattle.block_path.specs.declared.mode.Mode.{Mode}
-use Rattle.whole_run.specs.Settings.{Block, Setting, route}
-use Rattle.whole_run.specs.PlainMap.{MapEntry, tag_of}
-use Rattle.whole_run.specs.UnderMap.{stored_as}
+use Rattle.walk_laws.specs.Settings.{Block, Setting, route}
+use Rattle.walk_laws.specs.PlainMap.{MapEntry, tag_of}
+use Rattle.walk_laws.specs.UnderMap.{stored_as}
 use Rattle.mode_map.specs.declared.finder.Seen.{Seen}
 use Rattle.mode_map.specs.declared.finder.Seen.TheVariants.{Adapter, Target, Owner as OfOwner}
 

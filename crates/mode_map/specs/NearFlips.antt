@@ -1,6 +1,6 @@
 use Rattle.std.specs.Prelude.{ℕ, ◌≢◌, ◌+◌, ◌<◌, ◌≤◌, List, [], ◌∷◌, length, slice_index}
 use Rattle.std.specs.List.{All}
-use Rattle.whole_run.specs.Settings.{Setting}
+use Rattle.walk_laws.specs.Settings.{Setting}
 
 -- One or two bytes of a block's data are xored, not both with FFh, and some with another byte than 0.
 pub record IsNearFlip (m : Setting) (off : ℕ) (bytes : List ℕ) : Type 0 where

@@ -3,8 +3,8 @@
 ghost use Rattle.std.specs.Prelude.{◌≡◌, ℕ, List, true, if◌then◌else◌, Some, None};
 ghost use Rattle.pi_tuple.specs.Finds.{is_zero};
 ghost use Rattle.integrity_payload.specs.declared.payload.Owner.{Owner};
-ghost use Rattle.whole_run.specs.Settings.{Block, Setting};
-ghost use Rattle.whole_run.specs.PlainMap.{MapEntry};
+ghost use Rattle.walk_laws.specs.Settings.{Block, Setting};
+ghost use Rattle.walk_laws.specs.PlainMap.{MapEntry};
 ghost use Rattle.mode_map.specs.Finders.{IsCleanBlock, ShowsIn, checks_stored, finder, is_served, seen_in};
 ghost use Rattle.mode_map.specs.NearFlips.{IsNearFlip};
 

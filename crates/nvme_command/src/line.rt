@@ -1,7 +1,6 @@
 //! One line.
 
 ghost use Rattle.std.specs.Prelude.{◌≡◌, ◌∷◌, ◌≤◌, [], IfErr, IfOk, length, option_map};
-ghost use Rattle.std.specs.Str.{bytes_eq};
 ghost use Rattle.script_lines.specs.declared.kind.ScriptKind.{ScriptKind};
 ghost use Rattle.script_lines.specs.Reading.{IsUnless};
 ghost use Rattle.nvme_command.specs.Lines.{IsGot, fill_word, line_form, meta_in, meta_word, sqe_in, sqe_word};
@@ -49,17 +48,11 @@ fn hex_bytes(alloc: Global, word: &[u8]) -> Result<Option<Vec<u8>>, AllocError>
     }
 }
 
-fn is_same(a: &[u8], b: &[u8]) -> bool
-    ensures { result ≡ bytes_eq a.now b.now }
-{
-    a == b
-}
-
 /// The metadata of a word: nothing for `-`, else the bytes that it spells.
 fn meta_in(alloc: Global, word: &[u8]) -> Result<Option<Vec<u8>>, AllocError>
     ensures { IfOk result (λ found. option_map (λ v. v.items) found ≡ meta_in word.now) }
 {
-    if is_same(word, b"-") {
+    if word == b"-".as_slice() {
         return Ok(Some(Vec::new(alloc)));
     }
     hex_bytes(alloc, word)

@@ -9,14 +9,15 @@ use test_table::{Judge, cut, small};
 
 /// The pages and the request, a queue, and a gate.
 #[derive(Drop)]
-pub(crate) struct Table {
+pub struct Table {
     scene: Scene,
     device: Device,
     crowd: Crowd,
 }
 
 impl Table {
-    pub(crate) fn new(alloc: Global) -> Result<Table, AllocError> {
+    /// Of fresh pages, an empty queue and an open gate.
+    pub fn new(alloc: Global) -> Result<Table, AllocError> {
         Ok(Table {
             scene: Scene::new(alloc)?,
             device: Device::new(alloc)?,

@@ -13,7 +13,7 @@ use Rattle.rig_api.specs.declared.rig.Outcome.{Outcome}
 use Rattle.rig_discovery.specs.Discovery.{Ends}
 use Rattle.volume_table.specs.declared.device.DeviceInfo.{DeviceInfo}
 use Rattle.block_path.specs.Senses.{is_medium_why, why_ended}
-use Rattle.whole_run.proofs.Named.{medium_is}
+use Rattle.walk_laws.proofs.Named.{medium_is}
 use Rattle.pi_scrub.specs.Faults.{all_faults, faults_from, faults_of, listed, stored_finding}
 use Rattle.pi_scrub.specs.Looks.{AreFit, Look, LookedPlace, all_entries, all_found, all_looked, all_places, entry_of, found_at, found_by, info_at, looked_at, place_of, places, settled}
 use Rattle.pi_scrub.specs.Scrubbed.{Looked, RoseBy, device_of, is_medium}

@@ -133,6 +133,7 @@ pub fn print_report<O: Sink>(out: &mut O, replies: &[Reply]) -> Result<(), Faile
     ensures part { OnErr result (AppendedSome (report replies.now) (O.taken out.old) (O.taken out.new)) }
     ensures cause { OnErr result (Rose (O.faults out.old) (O.faults out.new)) }
     ensures count { O.faults out.old ≤ O.faults out.new }
+    ensures handed { OnOk result (O.passed out.new ≡ O.taken out.new) }
 {
     write_report(out, replies)?;
     out.flush()

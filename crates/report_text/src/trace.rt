@@ -74,6 +74,7 @@ pub fn print_trace<O: Sink, R: Rig>(out: &mut O, rig: &R, from: u32) -> Result<(
     ensures part { OnErr result (AppendedSome (trace (drop from (R.state rig.now).log)) (O.taken out.old) (O.taken out.new)) }
     ensures cause { OnErr result (Rose (O.faults out.old) (O.faults out.new)) }
     ensures count { O.faults out.old ≤ O.faults out.new }
+    ensures handed { OnOk result (O.passed out.new ≡ O.taken out.new) }
 {
     write_trace(out, rig, from)?;
     out.flush()

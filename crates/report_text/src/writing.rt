@@ -1,6 +1,6 @@
 //! Writing texts whole.
 
-ghost use Rattle.std.specs.Prelude.{◌≤◌, OnErr, OnOk};
+ghost use Rattle.std.specs.Prelude.{◌≤◌, OnErr, OnOk, ◌≡◌};
 ghost use Rattle.hex.specs.Hex.{encode_lower};
 ghost use Rattle.dix_base.specs.Told.{Appended, AppendedSome, Rose};
 
@@ -33,6 +33,7 @@ pub fn write_out<O: Sink>(out: &mut O, text: &[u8]) -> Result<(), Failed>
     ensures part { OnErr result (AppendedSome text.now (O.taken out.old) (O.taken out.new)) }
     ensures cause { OnErr result (Rose (O.faults out.old) (O.faults out.new)) }
     ensures count { O.faults out.old ≤ O.faults out.new }
+    ensures handed { OnOk result (O.passed out.new ≡ O.taken out.new) }
 {
     write_all(out, text)?;
     out.flush()

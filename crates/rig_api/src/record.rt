@@ -3,12 +3,13 @@
 ghost use Rattle.std.specs.Prelude.{◌≡◌, ◌+◌, ◌*◌, ◌≤◌, ◌<◌, ◌^◌, Some, length, take};
 ghost use Rattle.rig_api.specs.Log.{capacity_by, capacity_len, frames_done, labels_of, moved_by, moved_of};
 ghost use Rattle.target_answer.specs.Frames.{sent_size};
-ghost use Rattle.target_answer.specs.Requests.{blocks_of, transferred};
+ghost use Rattle.target_answer.specs.Requests.{blocks_in, blocks_of, transferred};
+ghost use Rattle.cdb_codec.specs.Decoded.{decoded};
 ghost use Rattle.cdb_codec.specs.Passed.{TUPLE, LARGEST_BLOCK};
 
 use crate::{Outcome, Record};
 use arrayvec::ArrayVec;
-use cdb_codec::{Cdb, Rw};
+use cdb_codec::{Cdb, CdbFault, Rw};
 use fault_schedule::{Label, ShortBytes};
 use target_answer::{Request, request_of, sent_size};
 
@@ -63,25 +64,6 @@ fn moved_by<'a>(size: u32, request: Request, done: u32, out: &'a [u8], into: &'a
     }
 }
 
-/// What a record keeps of the bytes that an exchange moved, with a unit of this block size, at
-/// most 4,096: the frames of the blocks that are done, and of READ CAPACITY(16) all of `into`.
-pub fn moved_frames<'a>(
-    size: u32,
-    cdb: &[u8],
-    outcome: Outcome,
-    out: &'a [u8],
-    into: &'a [u8],
-) -> &'a [u8]
-    requires { size ≤ LARGEST_BLOCK }
-    ensures value { result.now ≡ moved_of size cdb.now outcome out.now into.now }
-    ensures bound { length result.now ≤ (size + TUPLE) * blocks_of cdb.now + capacity_len cdb.now (length into.now) }
-{
-    match Cdb::decode(cdb) {
-        Ok(command) => moved_by(size, request_of(command), outcome.done, out, into),
-        Err(_) => &[],
-    }
-}
-
 fn transferred(request: Request) -> u32
     ensures { result ≡ transferred request }
 {
@@ -93,22 +75,92 @@ fn transferred(request: Request) -> u32
     }
 }
 
-/// The number of blocks that a command block transfers: those of a read or a write.
-pub fn blocks_of(cdb: &[u8]) -> u32
-    ensures { result ≡ blocks_of cdb.now }
+fn blocks_in(command: Result<Cdb, CdbFault>) -> u32
+    ensures { result ≡ blocks_in command }
 {
-    match Cdb::decode(cdb) {
-        Ok(command) => transferred(request_of(command)),
+    match command {
+        Ok(cdb) => transferred(request_of(cdb)),
         Err(_) => 0,
     }
 }
 
-/// The labels that a record keeps: those of the blocks that are done and of the one where it
-/// ended.
-pub fn kept_labels<'a>(cdb: &[u8], outcome: Outcome, labels: &'a [Label]) -> &'a [Label]
-    ensures value { result.now ≡ labels_of cdb.now outcome labels.now }
-    ensures bound { length result.now ≤ blocks_of cdb.now }
+/// The number of blocks that a command block transfers: those of a read or a write.
+pub fn blocks_of(cdb: &[u8]) -> u32
+    ensures { result ≡ blocks_of cdb.now }
 {
-    let kept = (outcome.done as u64 + 1).min(blocks_of(cdb) as u64);
-    front(labels, kept as usize)
+    blocks_in(Cdb::decode(cdb))
+}
+
+/// An exchange that is over.
+#[derive(Clone, Copy)]
+pub struct Exchanged<'a> {
+    /// The device.
+    pub dev: u32,
+    /// The bytes of data in a block of its unit, at most 4,096.
+    pub size: u32,
+    /// The command block.
+    pub cdb: &'a [u8],
+    /// The command that stands in it, or its fault.
+    pub command: Result<Cdb, CdbFault>,
+    /// The labels of the blocks.
+    pub labels: &'a [Label],
+    /// How it ended.
+    pub outcome: Outcome,
+    /// What the host sent.
+    pub out: &'a [u8],
+    /// Where the host gets what the target sends, as it is afterwards.
+    pub into: &'a [u8],
+}
+
+/// What a record keeps of what went along with a command block.
+#[derive(Clone, Copy)]
+pub struct KeptParts<'a> {
+    /// The labels of the blocks that are done and of the one where the exchange ended.
+    pub labels: &'a [Label],
+    /// The frames of the blocks that are done, and of READ CAPACITY(16) all that was read.
+    pub moved: &'a [u8],
+}
+
+impl<'a> Exchanged<'a> {
+    fn labels(&self) -> &'a [Label]
+        requires command { self.now.command ≡ decoded self.now.cdb.now }
+        ensures value { result.now ≡ labels_of self.now.cdb.now self.now.outcome self.now.labels.now }
+        ensures bound { length result.now ≤ blocks_of self.now.cdb.now }
+    {
+        let kept = (self.outcome.done as u64 + 1).min(blocks_in(self.command) as u64);
+        front(self.labels, kept as usize)
+    }
+
+    fn moved(&self) -> &'a [u8]
+        requires command { self.now.command ≡ decoded self.now.cdb.now }
+        requires size { self.now.size ≤ LARGEST_BLOCK }
+        ensures value { result.now ≡ moved_of self.now.size self.now.cdb.now self.now.outcome self.now.out.now self.now.into.now }
+        ensures bound { length result.now ≤ (self.now.size + TUPLE) * blocks_of self.now.cdb.now + capacity_len self.now.cdb.now (length self.now.into.now) }
+    {
+        match self.command {
+            Ok(cdb) => moved_by(
+                self.size,
+                request_of(cdb),
+                self.outcome.done,
+                self.out,
+                self.into,
+            ),
+            Err(_) => &[],
+        }
+    }
+
+    /// What the record of the exchange keeps.
+    pub fn kept(&self) -> KeptParts<'a>
+        requires command { self.now.command ≡ decoded self.now.cdb.now }
+        requires size { self.now.size ≤ LARGEST_BLOCK }
+        ensures labels { result.labels.now ≡ labels_of self.now.cdb.now self.now.outcome self.now.labels.now }
+        ensures few { length result.labels.now ≤ blocks_of self.now.cdb.now }
+        ensures moved { result.moved.now ≡ moved_of self.now.size self.now.cdb.now self.now.outcome self.now.out.now self.now.into.now }
+        ensures bound { length result.moved.now ≤ (self.now.size + TUPLE) * blocks_of self.now.cdb.now + capacity_len self.now.cdb.now (length self.now.into.now) }
+    {
+        KeptParts {
+            labels: self.labels(),
+            moved: self.moved(),
+        }
+    }
 }

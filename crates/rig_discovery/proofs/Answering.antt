@@ -6,8 +6,8 @@ use Rattle.rig_api.specs.Log.{entry_of, moved_of}
 use Rattle.rig_api.specs.State.{Exchanged, RigState, Stays}
 use Rattle.rig_api.specs.Telling.{answer_of, at_front, spec_at, unit_at, with_blocks}
 use Rattle.rig_api.specs.declared.rig.Outcome.{Outcome}
-use Rattle.answered_record.specs.Answered.{Answers, answer_with}
-use Rattle.answered_record.proofs.Going.{answers_then}
+use Rattle.record_laws.specs.Answered.{Answers, answer_with}
+use Rattle.record_laws.proofs.Going.{answers_then}
 use Rattle.rig_discovery.specs.Discovery.{look}
 use Rattle.rig_discovery.proofs.Telling.{answered}
 

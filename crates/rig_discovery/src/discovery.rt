@@ -4,7 +4,7 @@ ghost use Rattle.std.specs.Prelude.{◌≡◌, ◌+◌, ◌^◌, List, IfSome, �
 ghost use Rattle.rig_api.specs.Log.{HasRoom};
 ghost use Rattle.rig_api.specs.Telling.{greatest_size, spec_at, specs_of};
 ghost use Rattle.rig_api.specs.State.{Stays};
-ghost use Rattle.answered_record.specs.Answered.{Answers};
+ghost use Rattle.record_laws.specs.Answered.{Answers};
 ghost use Rattle.rig_api.specs.Passed.{Stored};
 ghost use Rattle.rig_discovery.specs.Discovery.{LookAnswer, Ends, HasFault, HasFound, Spent, entry_of_look, info_of, told};
 

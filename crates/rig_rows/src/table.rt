@@ -12,7 +12,7 @@ use test_table::{Judge, cut};
 
 /// An image in memory, a front of its units, an image in a file, and the way of a block.
 #[derive(Drop)]
-pub(crate) struct Table {
+pub struct Table {
     images: Images,
     front: Option<NvmFront>,
     files: Files,
@@ -20,7 +20,8 @@ pub(crate) struct Table {
 }
 
 impl Table {
-    pub(crate) fn new(rt: HostRuntime) -> Table {
+    /// Over no image.
+    pub fn new(rt: HostRuntime) -> Table {
         Table {
             images: Images::new(rt.alloc()),
             front: None,

@@ -9,7 +9,7 @@ use Rattle.rig_api.specs.Telling.{IsStanding, Standing, specs_of, units_told}
 use Rattle.rig_api.specs.State.{RigState}
 use Rattle.rig_api.proofs.HeadLaws.{headed, all_specs}
 use Rattle.call_refusal.specs.Passed.{info_of}
-use Rattle.run_follows.specs.Passed.{blocks_told}
+use Rattle.stack_walk_laws.specs.Passed.{blocks_told}
 use Rattle.target_answer.specs.Frames.{joined}
 use Rattle.target_answer.specs.Target.{Stored}
 use Rattle.target_answer.proofs.FrameLaws.{joined_append}

@@ -10,22 +10,22 @@ use Rattle.integrity_payload.specs.declared.payload.Owner.TheVariants.{App}
 use Rattle.block_path.specs.Acts.{State}
 use Rattle.block_path.specs.Blocks.{Sent}
 use Rattle.block_path.specs.Moves.{hidden}
-use Rattle.run_follows.specs.Passed.{blocks_told}
+use Rattle.stack_walk_laws.specs.Passed.{blocks_told}
 use Rattle.rig_api.specs.Log.{LogEntry}
 use Rattle.target_answer.specs.Target.{Stored}
 use Rattle.stack_ops.specs.declared.op.Op.{Op}
 use Rattle.stack_ops.specs.declared.op.Op.TheVariants.{Write, WritePi}
 use Rattle.stack_ops.specs.declared.reply.Reply.{Reply}
 use Rattle.volume_table.specs.Tables.{Table}
-use Rattle.whole_run.specs.PlainMap.{finds_plainly}
-use Rattle.whole_run.specs.Settings.{Setting}
+use Rattle.walk_laws.specs.PlainMap.{finds_plainly}
+use Rattle.walk_laws.specs.Settings.{Setting}
 use Rattle.run_laws.specs.FallingReads.{HasRoom}
 use Rattle.run_laws.specs.FallingWrites.{finds_then}
-use Rattle.whole_run.specs.ReadsAs.{read_op}
+use Rattle.walk_laws.specs.ReadsAs.{read_op}
 use Rattle.run_laws.specs.StoreFaults.{IsFallingRun}
 use Rattle.run_laws.specs.Records.{recorded}
-use Rattle.run_follows.specs.AtTheEnd.{EndsAsFalling, IsWrittenOrFails, ReadsOrFails}
-use Rattle.run_follows.specs.Falls.{of_blocks}
+use Rattle.stack_walk_laws.specs.AtTheEnd.{EndsAsFalling, IsWrittenOrFails, ReadsOrFails}
+use Rattle.stack_walk_laws.specs.Falls.{of_blocks}
 use Rattle.script_text.specs.declared.script.Script.{Script}
 use Rattle.script_stack.proofs.Passed.{falling-run, room-of-read, room-of-write, IsBoundOver}
 use Rattle.run_command.specs.Fallen.{AllReadOrFail, AllWriteOrFail, HasServed}

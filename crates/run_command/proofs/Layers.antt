@@ -24,9 +24,9 @@ use Rattle.stack_ops.specs.declared.reply.BadBlock.{BadBlock}
 use Rattle.stack_ops.specs.declared.reply.Reply.TheVariants.{Silent}
 use Rattle.stack_ops.specs.Ops.{is_overwrite}
 use Rattle.stack_core.specs.Walking.{is_medium}
-use Rattle.whole_run.specs.ScriptWalk.{act_of, acts_of, bad_from, replies_from, reply_of, script_replies, shown_reply, whole_or_bad}
-use Rattle.whole_run.specs.Settings.{Block, Setting, route}
-use Rattle.whole_run.specs.Steps.{Alters, Reads, Seals, Sets, Shows, Step, Writes, WritesPi, steps_of}
+use Rattle.walk_laws.specs.ScriptWalk.{act_of, acts_of, bad_from, replies_from, reply_of, script_replies, shown_reply, whole_or_bad}
+use Rattle.walk_laws.specs.Settings.{Block, Setting, route}
+use Rattle.walk_laws.specs.Steps.{Alters, Reads, Seals, Sets, Shows, Step, Writes, WritesPi, steps_of}
 use Rattle.run_laws.specs.FallingReads.{falling_replies}
 use Rattle.run_laws.specs.StoreFaults.{failing, fallen, falling_walk, left_by, may_fall, or_fallen, over_failing}
 use Rattle.run_command.specs.Layers.{NamesFaults, NamesLayers, is_fault, is_finding}

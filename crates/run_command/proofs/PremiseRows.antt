@@ -18,13 +18,13 @@ use Rattle.rig_api.specs.Head.{head_fault, head_of}
 use Rattle.call_refusal.specs.Passed.{info_of}
 use Rattle.block_path.specs.WayIn.{from_wire}
 use Rattle.block_path.specs.WayOut.{to_wire}
-use Rattle.run_follows.specs.Passed.{blocks_told}
+use Rattle.stack_walk_laws.specs.Passed.{blocks_told}
 use Rattle.stack_ops.specs.declared.op.Op.TheVariants.{Fetch, Write}
 use Rattle.volume_table.specs.Faults.{table_fault}
 use Rattle.volume_table.specs.Tables.{Table}
 use Rattle.volume_table.specs.declared.device.DeviceInfo.{DeviceInfo}
 use Rattle.volume_table.specs.declared.entry.Entry.TheVariants.{Linear}
-use Rattle.whole_run.specs.UnderMap.{AreClean, IsClean}
+use Rattle.walk_laws.specs.UnderMap.{AreClean, IsClean}
 use Rattle.run_laws.specs.ShownRun.{DevicesAreClean}
 use Rattle.script_text.specs.Bindings.{binding_fault}
 use Rattle.script_text.specs.Language.{line_taken, script_in, taken}

@@ -3,10 +3,10 @@ use Rattle.std.proofs.Common.{◌≡◌, ◌<◌, List, map, sym, subst}
 use Rattle.std.specs.Prelude.{All}
 use Rattle.target_answer.specs.Target.{Stored}
 use Rattle.call_refusal.specs.Passed.{info_of}
-use Rattle.run_follows.specs.Passed.{blocks_told, shapes_of}
+use Rattle.stack_walk_laws.specs.Passed.{blocks_told, shapes_of}
 use Rattle.volume_table.specs.Tables.{Table}
 use Rattle.volume_table.specs.declared.device.DeviceInfo.{DeviceInfo}
-use Rattle.whole_run.specs.CalmRun.{IsCalmRun}
+use Rattle.walk_laws.specs.CalmRun.{IsCalmRun}
 use Rattle.run_laws.specs.ShownRun.{DevicesAreClean, IsShownRun}
 use Rattle.script_text.specs.declared.script.Script.{Script}
 use Rattle.script_stack.proofs.Passed.{calm-run, IsBoundOver, shown-run}

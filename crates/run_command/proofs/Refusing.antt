@@ -1,7 +1,7 @@
 -- From the refusal of a part to that of the call.
 use Rattle.std.proofs.Common.{ℕ, ◌≡◌, ◌⊎◌, inl, inr, ◌+◌, List, Option, Some, Result, Ok, Err, sym, ap, subst, arith}
 use Rattle.std.specs.Prelude.{IfErr, IfOk, MatchResult}
-use Rattle.answered_record.proofs.Going.{answers_room}
+use Rattle.record_laws.proofs.Going.{answers_room}
 use Rattle.image_commands.specs.Causes.{CauseUntold}
 use Rattle.script_lines.specs.declared.kind.ScriptKind.{ScriptKind}
 use Rattle.script_lines.specs.declared.kind.ScriptKind.TheVariants.{Memory as MemoryKind}

@@ -8,7 +8,7 @@ use Rattle.dix_base.specs.Told.{AreOctets}
 use Rattle.target_answer.specs.Target.{Stored}
 use Rattle.rig_api.specs.Log.{LogEntry, Room}
 use Rattle.rig_api.specs.State.{RigState}
-use Rattle.answered_record.specs.Answered.{Answers}
+use Rattle.record_laws.specs.Answered.{Answers}
 use Rattle.volume_table.specs.declared.device.DeviceInfo.{DeviceInfo}
 use Rattle.volume_table.specs.Tables.{Table}
 use Rattle.script_text.specs.declared.script.Script.{Script}
@@ -21,7 +21,7 @@ use Rattle.run_laws.specs.ToldRun.{told}
 use Rattle.stack_ops.specs.declared.reply.Reply.TheVariants.{Silent}
 use Rattle.script_stack.specs.Followed.{HasFallen, HasWalked, IsBackedBy, KnownBlocks, NoMediumLine, failed_in, none_fails, opening_of, setting_of, unit_of}
 use Rattle.stack_ops.specs.Ops.{is_overwrite}
-use Rattle.run_follows.specs.Falls.{of_blocks}
+use Rattle.stack_walk_laws.specs.Falls.{of_blocks}
 use Rattle.stack_core.specs.Going.{Went}
 use Rattle.script_stack.proofs.Ended.{BackedLaw, FallenLaw, IsOver, MediumLaw, ToldLaw, answered_by, backed_by, fallen_at, few_lines, sent_by, still_told, told_at, walked_at}
 use Rattle.script_stack.proofs.SendsBy.{AllLaw, FewLaw}
@@ -30,7 +30,7 @@ use Rattle.script_laws.specs.Keeping.{Keeps}
 use Rattle.script_stack.proofs.Passed.{IsBoundOver}
 use Rattle.call_refusal.specs.Passed.{info_of}
 use Rattle.script_stack.proofs.Octets.{blocks_octets}
-use Rattle.run_follows.specs.Passed.{blocks_told, shapes_of}
+use Rattle.stack_walk_laws.specs.Passed.{blocks_told, shapes_of}
 use Rattle.run_command.specs.Fallen.{HasServed}
 use Rattle.run_command.specs.Premises.{IsDetectableRun, IsFormedRun, IsPlainRun, IsQuietRun, opening_told, setting_told}
 use Rattle.run_command.specs.Layers.{NamesFaults, NamesLayers}
@@ -40,24 +40,24 @@ use Rattle.run_command.proofs.Layers.{names-faults, names-layers, none-medium}
 use Rattle.run_command.proofs.Premises.{detectable_run, plain_run}
 use Rattle.page_pool.specs.declared.segs.Seg.{Seg}
 use Rattle.integrity_payload.specs.declared.payload.Owner.{Owner}
-use Rattle.whole_run.specs.ReadsAs.{ReadsRightly, read_op}
+use Rattle.walk_laws.specs.ReadsAs.{ReadsRightly, read_op}
 use Rattle.run_laws.specs.ShownRun.{DevicesAreClean, IsShownRun}
-use Rattle.script_premises.specs.Passed.{escapes_none}
-use Rattle.script_premises.specs.FormedScript.{IsFormedOver, IsFormedScript}
-use Rattle.whole_run.specs.Detectable.{detectable}
-use Rattle.whole_run.specs.Past.{steps_from}
+use Rattle.script_form_laws.specs.Passed.{escapes_none}
+use Rattle.script_form_laws.specs.FormedScript.{IsFormedOver, IsFormedScript}
+use Rattle.walk_laws.specs.Detectable.{detectable}
+use Rattle.walk_laws.specs.Past.{steps_from}
 use Rattle.run_command.specs.Followed.{AllReadRightly, Followed, HasPlain, HasReadRightly, OnAnyRig, RunReadsRightly}
 use Rattle.block_path.specs.Acts.{State}
 use Rattle.block_path.specs.Moves.{hidden}
 use Rattle.stack_ops.specs.declared.op.Op.{Op}
 use Rattle.stack_ops.specs.declared.op.Op.TheVariants.{Fetch, FetchPi, Fill, Overwrite, Put, Seal, Show, Wait, Write, WritePi}
-use Rattle.run_follows.specs.AtTheEnd.{EndsAsFalling}
-use Rattle.run_follows.specs.Flips.{Flips, flip_op, with_flips}
-use Rattle.whole_run.specs.CalmRun.{IsCalmRun}
-use Rattle.whole_run.specs.PlainMap.{plain_map, plain_replies}
-use Rattle.whole_run.specs.ScriptWalk.{script_replies, script_walk}
-use Rattle.whole_run.specs.Settings.{Setting}
-use Rattle.whole_run.specs.UnderMap.{IsUnder, NoEscape, address_of, opened}
+use Rattle.stack_walk_laws.specs.AtTheEnd.{EndsAsFalling}
+use Rattle.stack_walk_laws.specs.Flips.{Flips, flip_op, with_flips}
+use Rattle.walk_laws.specs.CalmRun.{IsCalmRun}
+use Rattle.walk_laws.specs.PlainMap.{plain_map, plain_replies}
+use Rattle.walk_laws.specs.ScriptWalk.{script_replies, script_walk}
+use Rattle.walk_laws.specs.Settings.{Setting}
+use Rattle.walk_laws.specs.UnderMap.{IsUnder, NoEscape, address_of, opened}
 
 -- as a stack's walk begins on it
 abbrev pub armed_for : Script → RigState → RigState

@@ -4,20 +4,20 @@ use Rattle.page_pool.specs.Cells.{flat}
 use Rattle.page_pool.specs.declared.segs.Seg.{Seg}
 use Rattle.integrity_payload.specs.declared.payload.Owner.{Owner}
 use Rattle.block_path.specs.Acts.{State}
-use Rattle.run_follows.specs.Passed.{blocks_told}
+use Rattle.stack_walk_laws.specs.Passed.{blocks_told}
 use Rattle.rig_api.specs.Log.{LogEntry}
 use Rattle.target_answer.specs.Target.{Stored}
 use Rattle.stack_ops.specs.declared.op.Op.{Op}
 use Rattle.stack_ops.specs.declared.op.Op.TheVariants.{Write, WritePi}
 use Rattle.stack_ops.specs.declared.reply.Reply.{Reply}
 use Rattle.volume_table.specs.Tables.{Table}
-use Rattle.whole_run.specs.PlainMap.{finds_plainly}
-use Rattle.whole_run.specs.Settings.{Setting}
+use Rattle.walk_laws.specs.PlainMap.{finds_plainly}
+use Rattle.walk_laws.specs.Settings.{Setting}
 use Rattle.run_laws.specs.FallingWrites.{finds_then}
-use Rattle.whole_run.specs.ReadsAs.{read_op}
+use Rattle.walk_laws.specs.ReadsAs.{read_op}
 use Rattle.run_laws.specs.Records.{recorded}
-use Rattle.run_follows.specs.AtTheEnd.{EndsAsFalling, IsWrittenOrFails, ReadsOrFails}
-use Rattle.run_follows.specs.Falls.{Falls, of_blocks}
+use Rattle.stack_walk_laws.specs.AtTheEnd.{EndsAsFalling, IsWrittenOrFails, ReadsOrFails}
+use Rattle.stack_walk_laws.specs.Falls.{Falls, of_blocks}
 use Rattle.script_text.specs.declared.script.Script.{Script}
 use Rattle.run_command.specs.Premises.{opening_told, setting_told}
 use Rattle.page_pool.specs.declared.TheConstants.{PAGE}

@@ -2,26 +2,26 @@
 use Rattle.std.specs.Prelude.{ℕ, suc, ◌≡◌, ◌*◌, ◌<◌, List, [], ◌∷◌, ◌++◌, length, get_or, map, take, is_some, Some, All, false}
 use Rattle.std.specs.List.{list_any}
 use Rattle.dix_base.specs.Told.{Calm}
-use Rattle.answered_record.specs.Answered.{AreAnswersTo}
+use Rattle.record_laws.specs.Answered.{AreAnswersTo}
 use Rattle.stack_ops.specs.Ops.{is_overwrite}
 use Rattle.rig_api.specs.State.{RigState}
 use Rattle.script_text.specs.declared.script.Script.{Script}
 use Rattle.script_stack.specs.Followed.{HasFallen, HasWalked, IsBackedBy, KnownBlocks, NoMediumLine}
 use Rattle.script_stack.specs.Sends.{SendsFor}
 use Rattle.block_path.specs.Acts.{State}
-use Rattle.run_follows.specs.Passed.{blocks_told}
+use Rattle.stack_walk_laws.specs.Passed.{blocks_told}
 use Rattle.page_pool.specs.declared.segs.Seg.{Seg}
 use Rattle.page_pool.specs.Cells.{flat, gather}
 use Rattle.integrity_payload.specs.declared.payload.Owner.{Owner}
-use Rattle.whole_run.specs.ReadsAs.{ReadsAs, landing, listed_in, read_op}
+use Rattle.walk_laws.specs.ReadsAs.{ReadsAs, landing, listed_in, read_op}
 use Rattle.stack_ops.specs.declared.op.Op.{Op}
 use Rattle.stack_ops.specs.declared.reply.Reply.TheVariants.{Silent}
-use Rattle.whole_run.specs.FirstLayer.{first_layer, last_accepted}
-use Rattle.whole_run.specs.Past.{past_after, steps_from}
-use Rattle.whole_run.specs.ScriptWalk.{script_walk}
-use Rattle.whole_run.specs.PlainMap.{plain_map, plain_replies}
-use Rattle.whole_run.specs.Settings.{Setting, block_of}
-use Rattle.whole_run.specs.UnderMap.{opened, under}
+use Rattle.walk_laws.specs.FirstLayer.{first_layer, last_accepted}
+use Rattle.walk_laws.specs.Past.{past_after, steps_from}
+use Rattle.walk_laws.specs.ScriptWalk.{script_walk}
+use Rattle.walk_laws.specs.PlainMap.{plain_map, plain_replies}
+use Rattle.walk_laws.specs.Settings.{Setting, block_of}
+use Rattle.walk_laws.specs.UnderMap.{opened, under}
 use Rattle.stack_core.specs.Mediums.{RoseBy, medium_lines}
 use Rattle.stack_core.specs.Stacks.{GoesOn}
 use Rattle.stack_ops.specs.declared.reply.Reply.{Reply}

@@ -1,8 +1,8 @@
 -- Words of the crates below, for the crates above that stand on this one alone.
 pub use Rattle.image_commands.specs.Causes.{WasFormatted}
 pub use Rattle.image_commands.specs.Passed.{device_of}
-pub use Rattle.run_follows.specs.Falls.{of_blocks}
-pub use Rattle.run_follows.specs.Flips.{with_flips}
+pub use Rattle.stack_walk_laws.specs.Falls.{of_blocks}
+pub use Rattle.stack_walk_laws.specs.Flips.{with_flips}
 pub use Rattle.script_stack.specs.Causes.{table_of}
 pub use Rattle.script_stack.specs.Followed.{HasFallen, HasWalked, IsBackedBy, KnownBlocks, SizesAre, failed_in, none_fails, opening_of, setting_of, unit_of}
 pub use Rattle.script_stack.specs.Passed.{IsAddress}

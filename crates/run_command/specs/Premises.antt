@@ -4,16 +4,16 @@ use Rattle.std.specs.Prelude.{◌≡◌, true, false, List, []}
 use Rattle.std.specs.List.{list_any}
 use Rattle.pi_tuple.specs.declared.checks.PiType.TheVariants.{One}
 use Rattle.block_path.specs.Acts.{State}
-use Rattle.run_follows.specs.Passed.{blocks_told, shapes_of}
+use Rattle.stack_walk_laws.specs.Passed.{blocks_told, shapes_of}
 use Rattle.target_answer.specs.Target.{Stored}
 use Rattle.volume_table.specs.Tables.{Table}
 use Rattle.volume_table.specs.declared.device.DeviceInfo.{DeviceInfo}
-use Rattle.whole_run.specs.Detectable.{detectable}
-use Rattle.whole_run.specs.Past.{steps_from}
-use Rattle.whole_run.specs.Settings.{Setting}
-use Rattle.whole_run.specs.UnderMap.{AreClean, NoEscape}
+use Rattle.walk_laws.specs.Detectable.{detectable}
+use Rattle.walk_laws.specs.Past.{steps_from}
+use Rattle.walk_laws.specs.Settings.{Setting}
+use Rattle.walk_laws.specs.UnderMap.{AreClean, NoEscape}
 use Rattle.run_laws.specs.ShownRun.{DevicesAreClean}
-use Rattle.script_premises.specs.Passed.{escapes_none, shows_by_form}
+use Rattle.script_form_laws.specs.Passed.{escapes_none, shows_by_form}
 use Rattle.stack_ops.specs.Ops.{is_overwrite}
 use Rattle.script_stack.specs.Followed.{none_fails, opening_of, setting_of}
 use Rattle.script_text.specs.declared.script.Script.{Script}

@@ -1,7 +1,7 @@
 use Rattle.std.specs.Prelude.{ℕ, ◌≡◌, ◌+◌, ◌⊎◌, List, length, map, Option, Some, None, Err, Ok}
 use Rattle.dix_base.specs.Told.{Calm, Rose}
 use Rattle.page_pool.specs.Pages.{IsBlank}
-use Rattle.run_follows.specs.Passed.{mode_of, Holds}
+use Rattle.stack_walk_laws.specs.Passed.{mode_of, Holds}
 use Rattle.image_commands.specs.Causes.{CauseUntold, WasTold}
 use Rattle.image_commands.specs.Views.{HasKept, OpenedOnce}
 use Rattle.rig_api.specs.Head.{head_fault, head_of, units_of}
@@ -12,10 +12,10 @@ use Rattle.script_text.specs.Bindings.{binding_fault}
 use Rattle.script_text.specs.Language.{script_in}
 use Rattle.script_text.specs.declared.fault.ScriptFault.{ScriptFault}
 use Rattle.script_text.specs.declared.script.Script.{Script}
-use Rattle.run_follows.specs.Requests.{pages_from, requests_from}
+use Rattle.stack_walk_laws.specs.Requests.{pages_from, requests_from}
 use Rattle.stack_core.specs.Stacks.{IsFinished, IsStack, StackStays, plan_in}
 use Rattle.stack_core.specs.declared.stack.Stack.{Stack}
-use Rattle.stack_view.specs.View.{start}
+use Rattle.stack_laws.specs.View.{start}
 use Rattle.volume_table.specs.Faults.{table_fault, volume_type}
 use Rattle.volume_table.specs.Tables.{MadeFor, Table}
 use Rattle.volume_table.specs.declared.device.DeviceInfo.{DeviceInfo}

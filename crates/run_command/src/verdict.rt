@@ -12,11 +12,8 @@ use call_refusal::Refusal;
 use dix_base::Source;
 use image_commands::told_devices;
 use rig_api::Rig;
-use run_follows::{
-    a_stack_reads_the_last_write_or_fails_at_the_medium, a_stack_writes_or_fails_at_the_medium,
-};
 use run_laws::a_read_is_the_last_write_or_names_the_first_layer;
-use script_premises::{a_script_is_shown_by_its_form, a_script_supplies_no_escape_by_its_form};
+use script_form_laws::{a_script_is_shown_by_its_form, a_script_supplies_no_escape_by_its_form};
 use script_stack::{
     Run, a_script_run_is_backed, a_told_script_run_has_fallen, a_told_script_run_has_walked,
     ready_script, run_all,
@@ -24,9 +21,12 @@ use script_stack::{
 use script_text::Script;
 use stack_core::{Stack, a_finished_stack_has_sent, a_finished_stack_names_the_medium_seldom};
 use stack_ops::Reply;
+use stack_walk_laws::{
+    a_stack_reads_the_last_write_or_fails_at_the_medium, a_stack_writes_or_fails_at_the_medium,
+};
 use std::alloc::Global;
 use volume_table::{DeviceInfo, VolumeTable};
-use whole_run::a_calm_walk_is_a_plain_map;
+use walk_laws::a_calm_walk_is_a_plain_map;
 
 /// A script that was run to its end.
 #[derive(Drop)]

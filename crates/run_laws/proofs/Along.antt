@@ -13,17 +13,17 @@ use Rattle.pi_tuple.proofs.TupleLaws.{tag_below}
 use Rattle.page_pool.specs.Cells.{gather, scatter}
 use Rattle.fault_schedule.specs.declared.fault.Crossing.TheVariants.{TargetToMedium}
 use Rattle.integrity_payload.specs.declared.payload.Owner.{Owner}
-use Rattle.whole_run.specs.Passed.{data_of, tuple_of, State, act, tell, fetched_cell, own_cell, own_frame, own_tuple, read_by, stored_cell, tuple_after, written_by, medium_lba, wire_lba, plain, Delivers, Spoils, Stops, WayIn, way_in, Fails, Refuses, Stores, WayOut, way_out, place_in, volume_len, DeviceInfo, Why, Adapter, App, Block as ByOwner, TheVariantsMedium as Medium, Refused, Short, Target}
-use Rattle.whole_run.proofs.Passed.{gather_length}
-use Rattle.whole_run.specs.Detectable.{bears, detectable, found, is_spoilt, shows_in, step_shows}
-use Rattle.whole_run.specs.FirstLayer.{Layer, first_layer, has_flip, is_hit, last_accepted}
-use Rattle.whole_run.specs.Past.{Accepted, Brought, Event, Overwritten, brought_by, event_of, events_of, past_after}
-use Rattle.whole_run.specs.ScriptWalk.{act_of, changed, source_of}
-use Rattle.whole_run.specs.Settings.{Block, Setting, route}
-use Rattle.whole_run.specs.Steps.{Alters, Reads, Seals, Sets, Shows, Step, Writes, WritesPi}
-use Rattle.whole_run.specs.UnderMap.{IsClean, NoneEscapes, SuppliesNoEscape}
-use Rattle.whole_run.proofs.TupleFrames.{Small, data_is, tuple_is}
-use Rattle.whole_run.specs.ReadsAs.{said_by}
+use Rattle.walk_laws.specs.Passed.{data_of, tuple_of, State, act, tell, fetched_cell, own_cell, own_frame, own_tuple, read_by, stored_cell, tuple_after, written_by, medium_lba, wire_lba, plain, Delivers, Spoils, Stops, WayIn, way_in, Fails, Refuses, Stores, WayOut, way_out, place_in, volume_len, DeviceInfo, Why, Adapter, App, Block as ByOwner, TheVariantsMedium as Medium, Refused, Short, Target}
+use Rattle.walk_laws.proofs.Passed.{gather_length}
+use Rattle.walk_laws.specs.Detectable.{bears, detectable, found, is_spoilt, shows_in, step_shows}
+use Rattle.walk_laws.specs.FirstLayer.{Layer, first_layer, has_flip, is_hit, last_accepted}
+use Rattle.walk_laws.specs.Past.{Accepted, Brought, Event, Overwritten, brought_by, event_of, events_of, past_after}
+use Rattle.walk_laws.specs.ScriptWalk.{act_of, changed, source_of}
+use Rattle.walk_laws.specs.Settings.{Block, Setting, route}
+use Rattle.walk_laws.specs.Steps.{Alters, Reads, Seals, Sets, Shows, Step, Writes, WritesPi}
+use Rattle.walk_laws.specs.UnderMap.{IsClean, NoneEscapes, SuppliesNoEscape}
+use Rattle.walk_laws.proofs.TupleFrames.{Small, data_is, tuple_is}
+use Rattle.walk_laws.specs.ReadsAs.{said_by}
 use Rattle.run_laws.specs.ShownRun.{DevicesAreClean, HasBlock, HasCells, LiesOn, StaysNear}
 use Rattle.run_laws.proofs.Layers.{After, Fetched, IsBare, Outcome, Reading, Sound, Spoilt, checked, goes_out, reads, same_brought, why_ended}
 

@@ -13,9 +13,9 @@ use Rattle.fault_schedule.specs.declared.Label.{Label}
 use Rattle.fault_schedule.specs.declared.fault.Crossing.{Crossing}
 use Rattle.fault_schedule.specs.declared.fault.Crossing.TheVariants.{AdapterToTarget, MediumToTarget, TargetToAdapter, TargetToMedium}
 use Rattle.fault_schedule.specs.declared.fault.FaultLine.{FaultLine}
-use Rattle.whole_run.specs.Passed.{data_of, stored_size, accepted, crossed, found_in, from_medium, released, then_crossed, to_medium, unless, with_own_tuple, Passage, fetched_cell, stored_cell, Device, by_target, passage, passes_tuples, target, told_by, wire_size, Route, Why}
-use Rattle.whole_run.proofs.Passed.{stored_least, unless_length, crossed_length}
-use Rattle.whole_run.specs.Settings.{Block, Setting, route}
+use Rattle.walk_laws.specs.Passed.{data_of, stored_size, accepted, crossed, found_in, from_medium, released, then_crossed, to_medium, unless, with_own_tuple, Passage, fetched_cell, stored_cell, Device, by_target, passage, passes_tuples, target, told_by, wire_size, Route, Why}
+use Rattle.walk_laws.proofs.Passed.{stored_least, unless_length, crossed_length}
+use Rattle.walk_laws.specs.Settings.{Block, Setting, route}
 use Rattle.run_laws.specs.BoundRun.{Suits}
 use Rattle.run_laws.specs.Suited.{IsAtTarget, keeps_size}
 

@@ -3,14 +3,14 @@ use Rattle.std.proofs.Common.{◌≡◌, ◌+◌, ◌%◌, ◌^◌, ℕ, zero, s
 use Rattle.std.specs.Prelude.{◌⊎◌, IfSome}
 use Rattle.std.specs.List.{AllByRecursion as Each}
 use Rattle.integrity_payload.specs.declared.payload.Owner.TheVariants.{Block as OfBlock, App as OfApp}
-use Rattle.whole_run.specs.Passed.{Op, Fetch, FetchPi, Fill, Overwrite, Put, Seal, Show, Wait, Write, WritePi, Reply, Silent, Act, State, act, tell, ActAnswer, AskedBlock, Sent, silent, plain, plain_tells}
-use Rattle.whole_run.proofs.Passed.{plain_append}
-use Rattle.whole_run.specs.ScriptWalk.{act_of, acts_from, acts_of, bad_from, replies_from, reply_of, request_reply, script_replies, shown_reply, whole_or_bad}
-use Rattle.whole_run.specs.Settings.{Setting, block_of}
-use Rattle.whole_run.specs.Steps.{Reads, Seals, Step, Writes, WritesPi, body_of, each_from, frame_at, steps_of, tuple_of}
-use Rattle.whole_run.proofs.AnyOrder.{acts_walk}
-use Rattle.whole_run.specs.ReadsAs.{listed_in}
-use Rattle.whole_run.proofs.InSteps.{is_listed}
+use Rattle.walk_laws.specs.Passed.{Op, Fetch, FetchPi, Fill, Overwrite, Put, Seal, Show, Wait, Write, WritePi, Reply, Silent, Act, State, act, tell, ActAnswer, AskedBlock, Sent, silent, plain, plain_tells}
+use Rattle.walk_laws.proofs.Passed.{plain_append}
+use Rattle.walk_laws.specs.ScriptWalk.{act_of, acts_from, acts_of, bad_from, replies_from, reply_of, request_reply, script_replies, shown_reply, whole_or_bad}
+use Rattle.walk_laws.specs.Settings.{Setting, block_of}
+use Rattle.walk_laws.specs.Steps.{Reads, Seals, Step, Writes, WritesPi, body_of, each_from, frame_at, steps_of, tuple_of}
+use Rattle.walk_laws.proofs.AnyOrder.{acts_walk}
+use Rattle.walk_laws.specs.ReadsAs.{listed_in}
+use Rattle.walk_laws.proofs.InSteps.{is_listed}
 use Rattle.run_laws.specs.BackedRun.{Belongs, HasEnd, HasEntry, IsBacked, IsFound, IsInTurn, IsListedAs, OfRead, OfRequest, Owns, PassesIn}
 use Rattle.run_laws.specs.Records.{Mixed, put_sent, sents}
 use Rattle.run_laws.specs.TakenWalk.{taken_act, taken_acts, taken_from, taken_replies, taken_reply}

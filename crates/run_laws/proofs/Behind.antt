@@ -4,8 +4,8 @@ use Rattle.std.specs.List.{All, AllByRecursion, IsDistinct}
 use Rattle.std.proofs.lemmas.List.Elements.{All-cons, All-nil}
 use Rattle.std.proofs.lemmas.Bool.{or_parts}
 use Rattle.page_pool.specs.Cells.{gather, is_in, scatter}
-use Rattle.whole_run.specs.Passed.{Act, State, act, effect, tell, AreCells, hidden}
-use Rattle.whole_run.proofs.Passed.{same_cells, AllBelow, Distinct}
+use Rattle.walk_laws.specs.Passed.{Act, State, act, effect, tell, AreCells, hidden}
+use Rattle.walk_laws.proofs.Passed.{same_cells, AllBelow, Distinct}
 use Rattle.run_laws.proofs.Turns.{AllFrom}
 
 take_set : {X : Type 0} (n : ℕ) (xs : List X) (i : ℕ) (v : X) → take n (set xs i v) ≡ set (take n xs) i v

@@ -1,9 +1,9 @@
 -- What is on record in another order has the same reads between two writes.
 use Rattle.std.proofs.Common.{◌≡◌, ℕ, Bool, true, false, ◌&&◌, eqb, List, [], ◌∷◌, ◌++◌, refl, sym, ap, subst, ◌∙◌}
 use Rattle.std.specs.Prelude.{not, Result, Ok, Err}
-use Rattle.whole_run.specs.Passed.{Op, State, act, tell, Sent, Site, plain_tells, Why}
-use Rattle.whole_run.specs.ScriptWalk.{acts_from}
-use Rattle.whole_run.specs.Settings.{Setting}
+use Rattle.walk_laws.specs.Passed.{Op, State, act, tell, Sent, Site, plain_tells, Why}
+use Rattle.walk_laws.specs.ScriptWalk.{acts_from}
+use Rattle.walk_laws.specs.Settings.{Setting}
 use Rattle.run_laws.specs.CarriedRun.{IsCarried, reads_at}
 use Rattle.run_laws.specs.Records.{Mixed, is_out, put_frame, sents}
 use Rattle.run_laws.specs.ToldRun.{IsRecordOfRun}

@@ -9,11 +9,11 @@ use Rattle.page_pool.specs.declared.segs.Seg.{Seg}
 use Rattle.page_pool.specs.Cells.{share_a_cell}
 use Rattle.range_gate.specs.Cells.{cells_of}
 use Rattle.integrity_payload.specs.declared.payload.Owner.TheVariants.{Block as OfBlock, App as OfApp}
-use Rattle.whole_run.specs.Passed.{Op, Fetch, FetchPi, Fill, Overwrite, Put, Seal, Show, Wait, Write, WritePi, Act, conflict, ActAnswer, stored_cell, wire_lba, place_in, volume_len, DeviceInfo}
-use Rattle.whole_run.proofs.Passed.{AllBelow, below, distinct, share_back}
-use Rattle.whole_run.specs.Settings.{Block, Setting, block_of, route}
-use Rattle.whole_run.specs.Steps.{Reads, Step, Writes, WritesPi, body_of, each_from, frame_at}
-use Rattle.whole_run.specs.UnderMap.{home}
+use Rattle.walk_laws.specs.Passed.{Op, Fetch, FetchPi, Fill, Overwrite, Put, Seal, Show, Wait, Write, WritePi, Act, conflict, ActAnswer, stored_cell, wire_lba, place_in, volume_len, DeviceInfo}
+use Rattle.walk_laws.proofs.Passed.{AllBelow, below, distinct, share_back}
+use Rattle.walk_laws.specs.Settings.{Block, Setting, block_of, route}
+use Rattle.walk_laws.specs.Steps.{Reads, Step, Writes, WritesPi, body_of, each_from, frame_at}
+use Rattle.walk_laws.specs.UnderMap.{home}
 use Rattle.run_laws.specs.ShownRun.{HasBlock, HasCells, LiesOn}
 use Rattle.run_laws.proofs.Parts.{block_below, blocks_apart as parts_apart, drop_within, share_left, share_right, share_within}
 use Rattle.run_laws.specs.OpsApart.{IsPlaced, IsSpread, NoneMeet, OneCellEach, is_shifted}

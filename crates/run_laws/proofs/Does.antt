@@ -7,13 +7,13 @@ use Rattle.pi_tuple.specs.Tuples.{tuple_bytes}
 use Rattle.page_pool.specs.Cells.{gather, scatter, share_a_cell}
 use Rattle.integrity_payload.specs.declared.payload.Owner.{Owner}
 use Rattle.integrity_payload.specs.declared.payload.Owner.TheVariants.{Block as OfBlock, App as OfApp}
-use Rattle.whole_run.specs.Passed.{Route, Act, State, act, effect, tell, ActAnswer, fetched_cell, own_cell, own_frame, own_tuple, silent, stored_cell, tuple_after, written_by, AreCells, FrameAt, IsOne, carry_in, carry_out, hidden, MovesJoined as joined, make_tuple, map_back, map_out, settle, host_size, wire_size, plain, plain_tells, Fails, Refuses, Stores, WayOut, at_device, from_adapter, mapped_out, to_wire, way_out, Why}
-use Rattle.whole_run.proofs.Passed.{same_cells, AllBelow, Distinct, gather_length, own_read, read_in_two, filled, mapped_sizes, out_size, bare_write, own_write, write_in_three}
-use Rattle.whole_run.specs.ScriptWalk.{act_of, changed, source_of}
-use Rattle.whole_run.specs.Settings.{Block, Setting, route}
-use Rattle.whole_run.specs.Steps.{Alters, Reads, Seals, Sets, Shows, Step, Writes, WritesPi}
-use Rattle.whole_run.proofs.TupleFrames.{below_drop, below_append}
-use Rattle.whole_run.proofs.InSteps.{scatter_length}
+use Rattle.walk_laws.specs.Passed.{Route, Act, State, act, effect, tell, ActAnswer, fetched_cell, own_cell, own_frame, own_tuple, silent, stored_cell, tuple_after, written_by, AreCells, FrameAt, IsOne, carry_in, carry_out, hidden, MovesJoined as joined, make_tuple, map_back, map_out, settle, host_size, wire_size, plain, plain_tells, Fails, Refuses, Stores, WayOut, at_device, from_adapter, mapped_out, to_wire, way_out, Why}
+use Rattle.walk_laws.proofs.Passed.{same_cells, AllBelow, Distinct, gather_length, own_read, read_in_two, filled, mapped_sizes, out_size, bare_write, own_write, write_in_three}
+use Rattle.walk_laws.specs.ScriptWalk.{act_of, changed, source_of}
+use Rattle.walk_laws.specs.Settings.{Block, Setting, route}
+use Rattle.walk_laws.specs.Steps.{Alters, Reads, Seals, Sets, Shows, Step, Writes, WritesPi}
+use Rattle.walk_laws.proofs.TupleFrames.{below_drop, below_append}
+use Rattle.walk_laws.proofs.InSteps.{scatter_length}
 use Rattle.run_laws.proofs.Parts.{distinct_both, distinct_drop, front_back}
 use Rattle.run_laws.specs.BoundRun.{Suits}
 use Rattle.run_laws.specs.ScriptMoves.{by_moves, carried_by, lands_in, read_moves, write_moves, write_pi_moves}

@@ -9,13 +9,13 @@ use Rattle.page_pool.specs.declared.segs.Seg.{Seg}
 use Rattle.page_pool.specs.Cells.{scatter}
 use Rattle.integrity_payload.specs.declared.payload.Owner.{Owner}
 use Rattle.integrity_payload.specs.declared.payload.Owner.TheVariants.{Block as OfBlock, App as OfApp}
-use Rattle.whole_run.specs.Passed.{Op, Fetch, FetchPi, Fill, Overwrite, Put, Seal, Show, Wait, Write, WritePi, Reply, Silent, State, act, effect, tell, ActAnswer, Sent, own_cell, read_by, written_by, Route, plain, plain_tells, Why}
-use Rattle.whole_run.proofs.Passed.{take_over}
-use Rattle.whole_run.specs.Past.{steps_from}
-use Rattle.whole_run.specs.Settings.{Block, Setting, block_of, route}
-use Rattle.whole_run.specs.Steps.{Alters, Reads, Seals, Sets, Shows, Step, Writes, WritesPi, body_of, each_from, frame_at, steps_of, tuple_of}
-use Rattle.whole_run.specs.ReadsAs.{landing, listed_in, read_op}
-use Rattle.whole_run.proofs.InSteps.{read_steps, scatter_length}
+use Rattle.walk_laws.specs.Passed.{Op, Fetch, FetchPi, Fill, Overwrite, Put, Seal, Show, Wait, Write, WritePi, Reply, Silent, State, act, effect, tell, ActAnswer, Sent, own_cell, read_by, written_by, Route, plain, plain_tells, Why}
+use Rattle.walk_laws.proofs.Passed.{take_over}
+use Rattle.walk_laws.specs.Past.{steps_from}
+use Rattle.walk_laws.specs.Settings.{Block, Setting, block_of, route}
+use Rattle.walk_laws.specs.Steps.{Alters, Reads, Seals, Sets, Shows, Step, Writes, WritesPi, body_of, each_from, frame_at, steps_of, tuple_of}
+use Rattle.walk_laws.specs.ReadsAs.{landing, listed_in, read_op}
+use Rattle.walk_laws.proofs.InSteps.{read_steps, scatter_length}
 use Rattle.run_laws.specs.BackedRun.{HasEntry, IsBacked, IsInTurn, OfRead, answered}
 use Rattle.run_laws.specs.EarlierWrites.{HasLog, IsCounted, LogsAreEmpty, StandsAfter, accepted_in, is_accepted}
 use Rattle.run_laws.specs.Records.{entry_for}

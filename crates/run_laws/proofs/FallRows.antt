@@ -7,12 +7,12 @@ use Rattle.pi_guard.specs.Guards.{crc, ip}
 use Rattle.pi_tuple.specs.declared.checks.Check.TheVariants.{Guard}
 use Rattle.page_pool.specs.Places.{run}
 use Rattle.integrity_payload.specs.declared.payload.Owner.TheVariants.{Block as OfBlock}
-use Rattle.whole_run.specs.Passed.{Op, Fetch, Put, Write, WritePi, Bad, Silent, Whole, found_in, from_medium, to_medium, act, tell, plain_tells, from_wire, to_wire, TheVariantsMedium as Medium, Target}
-use Rattle.whole_run.specs.CalmRun.{AllFit}
-use Rattle.whole_run.specs.Past.{steps_from}
-use Rattle.whole_run.specs.Settings.{Block, Setting, block_of}
-use Rattle.whole_run.specs.UnderMap.{IsClean, address_of, home}
-use Rattle.whole_run.proofs.ScriptRows.{faulty, formatted, opening, seg}
+use Rattle.walk_laws.specs.Passed.{Op, Fetch, Put, Write, WritePi, Bad, Silent, Whole, found_in, from_medium, to_medium, act, tell, plain_tells, from_wire, to_wire, TheVariantsMedium as Medium, Target}
+use Rattle.walk_laws.specs.CalmRun.{AllFit}
+use Rattle.walk_laws.specs.Past.{steps_from}
+use Rattle.walk_laws.specs.Settings.{Block, Setting, block_of}
+use Rattle.walk_laws.specs.UnderMap.{IsClean, address_of, home}
+use Rattle.walk_laws.proofs.ScriptRows.{faulty, formatted, opening, seg}
 use Rattle.run_laws.specs.FallingReads.{IsReadOrFails, falling_replies}
 use Rattle.run_laws.specs.FallingWrites.{FailsAtMediumAlone, finds_then}
 use Rattle.run_laws.specs.StoreFaults.{IsFallingRun, falling_past, is_lost, may_fall}

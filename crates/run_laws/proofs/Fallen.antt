@@ -6,15 +6,15 @@ use Rattle.page_pool.specs.Cells.{gather, scatter}
 use Rattle.pi_tuple.specs.declared.checks.Check.{Check}
 use Rattle.integrity_payload.specs.declared.payload.Owner.{Owner}
 use Rattle.integrity_payload.specs.declared.payload.Owner.TheVariants.{Block as OfBlock, App as OfApp}
-use Rattle.whole_run.specs.Passed.{Op, Act, Effect, State, act, conflict, effect, tell, ActAnswer, own_cell, nothing_written, own_frame, silent, stored_cell, tuple_after, written_by, carry_in, carry_out, hidden, make_tuple, map_back, map_out, settle, Route, Leads, all_done, none_done, plain, plain_tells, from_adapter, mapped_out, to_wire, Why, Adapter, App, Block as ByOwner, TheVariantsMedium as Medium, Refused, Short, Target}
-use Rattle.whole_run.proofs.Passed.{commutes, same_cells, any_whole_order}
-use Rattle.whole_run.specs.Past.{steps_from}
-use Rattle.whole_run.specs.ScriptWalk.{replies_by}
-use Rattle.whole_run.specs.Settings.{Block, Setting, route}
-use Rattle.whole_run.specs.Steps.{Alters, Reads, Seals, Sets, Shows, Step, Writes, WritesPi, steps_of}
+use Rattle.walk_laws.specs.Passed.{Op, Act, Effect, State, act, conflict, effect, tell, ActAnswer, own_cell, nothing_written, own_frame, silent, stored_cell, tuple_after, written_by, carry_in, carry_out, hidden, make_tuple, map_back, map_out, settle, Route, Leads, all_done, none_done, plain, plain_tells, from_adapter, mapped_out, to_wire, Why, Adapter, App, Block as ByOwner, TheVariantsMedium as Medium, Refused, Short, Target}
+use Rattle.walk_laws.proofs.Passed.{commutes, same_cells, any_whole_order}
+use Rattle.walk_laws.specs.Past.{steps_from}
+use Rattle.walk_laws.specs.ScriptWalk.{replies_by}
+use Rattle.walk_laws.specs.Settings.{Block, Setting, route}
+use Rattle.walk_laws.specs.Steps.{Alters, Reads, Seals, Sets, Shows, Step, Writes, WritesPi, steps_of}
 use Rattle.run_laws.specs.StoreFaults.{failing, leaving, left_by, may_fall, or_fallen, over_failing}
 use Rattle.run_laws.proofs.FallingOps.{replies_are}
-use Rattle.whole_run.proofs.InSteps.{acts_stepped}
+use Rattle.walk_laws.proofs.InSteps.{acts_stepped}
 use Rattle.run_laws.specs.BoundRun.{AllBound, IsBoundRun, Suits, fates, rooms}
 use Rattle.run_laws.specs.FallingMoves.{AreTheFallingWalk, LeavesFine, falling_blocks, falling_from, falling_moves, left_of, moves_or_fallen, spoiled}
 use Rattle.run_laws.specs.ScriptMoves.{carried_by, lands_in, write_moves, ByMoves, by_moves, fates_of, joins, own_at, room_of}

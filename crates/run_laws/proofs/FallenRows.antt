@@ -5,10 +5,10 @@ use Rattle.std.proofs.lemmas.Bool.{eq-eqb, eqb-true}
 use Rattle.std.proofs.lemmas.List.{length-replicate}
 use Rattle.pi_guard.specs.Guards.{crc, ip}
 use Rattle.page_pool.specs.Places.{run}
-use Rattle.whole_run.specs.Passed.{Op, Put, Write, Bad, Silent, found_in, from_medium, to_medium, Act, State, act, conflict, tell, ActAnswer, stored_cell, Leads, all_done, none_done, from_wire, to_wire, TheVariantsMedium as Medium}
-use Rattle.whole_run.specs.ScriptWalk.{replies_by, set_bytes}
-use Rattle.whole_run.specs.Settings.{Block, Setting, block_of, route}
-use Rattle.whole_run.proofs.ScriptRows.{faulty, formatted, opening, seg}
+use Rattle.walk_laws.specs.Passed.{Op, Put, Write, Bad, Silent, found_in, from_medium, to_medium, Act, State, act, conflict, tell, ActAnswer, stored_cell, Leads, all_done, none_done, from_wire, to_wire, TheVariantsMedium as Medium}
+use Rattle.walk_laws.specs.ScriptWalk.{replies_by, set_bytes}
+use Rattle.walk_laws.specs.Settings.{Block, Setting, block_of, route}
+use Rattle.walk_laws.proofs.ScriptRows.{faulty, formatted, opening, seg}
 use Rattle.run_laws.proofs.ShownRows.{one_list}
 use Rattle.run_laws.specs.BoundRun.{IsBoundRun, Suits}
 use Rattle.run_laws.specs.FallingMoves.{LeavesFine, falling_blocks, falling_moves}

@@ -14,20 +14,20 @@ use Rattle.pi_tuple.specs.declared.checks.Check.TheVariants.{AppTag}
 use Rattle.pi_tuple.proofs.TupleLaws.{tag_below}
 use Rattle.page_pool.specs.Cells.{gather, scatter}
 use Rattle.integrity_payload.specs.declared.payload.Owner.{Owner}
-use Rattle.whole_run.specs.Passed.{Op, data_of, frame_of, stored_size, tuple_of, Route, Act, State, act, conflict, tell, ActAnswer, fetched_cell, own_cell, own_frame, own_tuple, read_by, stored_cell, tuple_after, written_by, host_type, target, Fails, Refuses, Stores, WayOut, from_adapter, mapped_out, to_wire, way_out, volume_len, Why, Adapter, App, Block as ByOwner, TheVariantsMedium as Medium, Refused, Short, Target}
-use Rattle.whole_run.proofs.Passed.{gather_length}
-use Rattle.whole_run.specs.CalmRun.{AllFit, LiesInImage}
-use Rattle.whole_run.specs.FirstLayer.{last_accepted}
-use Rattle.whole_run.specs.Past.{Accepted, Brought, Event, Lost, brought_by, event_of, steps_from}
-use Rattle.whole_run.specs.PlainMap.{all_pass, as_expected, finds_of_app, finds_plainly}
-use Rattle.whole_run.specs.ScriptWalk.{act_of}
-use Rattle.whole_run.specs.Settings.{Block, Setting, route}
-use Rattle.whole_run.specs.Steps.{Alters, Reads, Seals, Sets, Shows, Step, Writes, WritesPi, steps_of}
-use Rattle.whole_run.specs.UnderMap.{AreClean, IsClean, home}
-use Rattle.whole_run.proofs.CalmRuns.{op_meets, silent_form}
-use Rattle.whole_run.proofs.CalmWays.{is_right, quiet, read_same, wire_same}
-use Rattle.whole_run.proofs.PlainSteps.{AllMeet, Meets}
-use Rattle.whole_run.proofs.TupleFrames.{Small, data_is, tuple_is}
+use Rattle.walk_laws.specs.Passed.{Op, data_of, frame_of, stored_size, tuple_of, Route, Act, State, act, conflict, tell, ActAnswer, fetched_cell, own_cell, own_frame, own_tuple, read_by, stored_cell, tuple_after, written_by, host_type, target, Fails, Refuses, Stores, WayOut, from_adapter, mapped_out, to_wire, way_out, volume_len, Why, Adapter, App, Block as ByOwner, TheVariantsMedium as Medium, Refused, Short, Target}
+use Rattle.walk_laws.proofs.Passed.{gather_length}
+use Rattle.walk_laws.specs.CalmRun.{AllFit, LiesInImage}
+use Rattle.walk_laws.specs.FirstLayer.{last_accepted}
+use Rattle.walk_laws.specs.Past.{Accepted, Brought, Event, Lost, brought_by, event_of, steps_from}
+use Rattle.walk_laws.specs.PlainMap.{all_pass, as_expected, finds_of_app, finds_plainly}
+use Rattle.walk_laws.specs.ScriptWalk.{act_of}
+use Rattle.walk_laws.specs.Settings.{Block, Setting, route}
+use Rattle.walk_laws.specs.Steps.{Alters, Reads, Seals, Sets, Shows, Step, Writes, WritesPi, steps_of}
+use Rattle.walk_laws.specs.UnderMap.{AreClean, IsClean, home}
+use Rattle.walk_laws.proofs.CalmRuns.{op_meets, silent_form}
+use Rattle.walk_laws.proofs.CalmWays.{is_right, quiet, read_same, wire_same}
+use Rattle.walk_laws.proofs.PlainSteps.{AllMeet, Meets}
+use Rattle.walk_laws.proofs.TupleFrames.{Small, data_is, tuple_is}
 use Rattle.run_laws.specs.StoreFaults.{IsFallingRun, IsServed, LandsAs, events_when, failing, fallen, falling_past, falling_walk, is_lost, leaving, may_fall, or_fallen}
 use Rattle.run_laws.proofs.Framed.{retag}
 use Rattle.run_laws.proofs.Passing.{Kept, Passes, retagged}

@@ -7,20 +7,20 @@ use Rattle.page_pool.specs.Cells.{gather, scatter}
 use Rattle.range_gate.specs.Cells.{cells_of}
 use Rattle.integrity_payload.specs.declared.payload.Owner.{Owner}
 use Rattle.integrity_payload.specs.declared.payload.Owner.TheVariants.{Block as OfBlock, App as OfApp}
-use Rattle.whole_run.specs.Passed.{Op, Silent, data_of, tuple_of, Act, State, act, tell, ActAnswer, plain_tells, Why}
-use Rattle.whole_run.proofs.Passed.{AllBelow, Distinct, below, distinct}
-use Rattle.whole_run.specs.FirstLayer.{last_accepted}
-use Rattle.whole_run.specs.Past.{Brought, Event, steps_from}
-use Rattle.whole_run.specs.ScriptWalk.{act_of, acts_of, replies_by, reply_of, request_reply}
-use Rattle.whole_run.specs.Settings.{Block, Setting, block_of}
-use Rattle.whole_run.specs.Steps.{Reads, Step, each_from, steps_of}
-use Rattle.whole_run.proofs.AnyOrder.{first_tells, other_tells}
-use Rattle.whole_run.proofs.CalmRuns.{frame_length, part_length}
+use Rattle.walk_laws.specs.Passed.{Op, Silent, data_of, tuple_of, Act, State, act, tell, ActAnswer, plain_tells, Why}
+use Rattle.walk_laws.proofs.Passed.{AllBelow, Distinct, below, distinct}
+use Rattle.walk_laws.specs.FirstLayer.{last_accepted}
+use Rattle.walk_laws.specs.Past.{Brought, Event, steps_from}
+use Rattle.walk_laws.specs.ScriptWalk.{act_of, acts_of, replies_by, reply_of, request_reply}
+use Rattle.walk_laws.specs.Settings.{Block, Setting, block_of}
+use Rattle.walk_laws.specs.Steps.{Reads, Step, each_from, steps_of}
+use Rattle.walk_laws.proofs.AnyOrder.{first_tells, other_tells}
+use Rattle.walk_laws.proofs.CalmRuns.{frame_length, part_length}
 use Rattle.run_laws.specs.FallingReads.{HasRoom, IsReadAs, IsReadOrFails, falling_replies}
-use Rattle.whole_run.specs.ReadsAs.{landing, listed_in, read_op, takes_tuples}
+use Rattle.walk_laws.specs.ReadsAs.{landing, listed_in, read_op, takes_tuples}
 use Rattle.run_laws.specs.StoreFaults.{IsFallingRun, IsServed, LandsAs, events_when, falling_past, may_fall, or_fallen}
 use Rattle.run_laws.proofs.Falling.{each_is_served}
-use Rattle.whole_run.proofs.InSteps.{acts_stepped, block_says, each_split, later_blocks, read_reply, read_steps, same_pages, stepped, stepped_append, steps_split}
+use Rattle.walk_laws.proofs.InSteps.{acts_stepped, block_says, each_split, later_blocks, read_reply, read_steps, same_pages, stepped, stepped_append, steps_split}
 use Rattle.run_laws.proofs.Parts.{block_below, block_distinct, blocks_apart, landed, lists_of}
 
 module _ (m : Setting) (falls : Block → Option (List ℕ)) where

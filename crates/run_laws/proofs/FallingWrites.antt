@@ -5,17 +5,17 @@ use Rattle.page_pool.specs.declared.segs.Seg.{Seg}
 use Rattle.page_pool.specs.Cells.{gather, share_a_cell}
 use Rattle.integrity_payload.specs.declared.payload.Owner.TheVariants.{App as OfApp}
 use Rattle.range_gate.specs.Cells.{cells_of}
-use Rattle.whole_run.specs.Passed.{Op, Write, WritePi, data_of, tuple_of, State, tell, Why, TheVariantsMedium as Medium}
-use Rattle.whole_run.proofs.Passed.{Distinct, distinct, share_back}
-use Rattle.whole_run.specs.Past.{steps_from}
-use Rattle.whole_run.specs.PlainMap.{finds_of_app, finds_plainly}
-use Rattle.whole_run.specs.Settings.{Block, Setting, block_of}
-use Rattle.whole_run.specs.Steps.{Step, Writes, WritesPi, body_of, each_from, frame_at}
+use Rattle.walk_laws.specs.Passed.{Op, Write, WritePi, data_of, tuple_of, State, tell, Why, TheVariantsMedium as Medium}
+use Rattle.walk_laws.proofs.Passed.{Distinct, distinct, share_back}
+use Rattle.walk_laws.specs.Past.{steps_from}
+use Rattle.walk_laws.specs.PlainMap.{finds_of_app, finds_plainly}
+use Rattle.walk_laws.specs.Settings.{Block, Setting, block_of}
+use Rattle.walk_laws.specs.Steps.{Step, Writes, WritesPi, body_of, each_from, frame_at}
 use Rattle.run_laws.specs.FallingReads.{HasRoom}
 use Rattle.run_laws.specs.FallingWrites.{FailsAtMediumAlone, finds_then}
 use Rattle.run_laws.specs.StoreFaults.{IsFallingRun, may_fall, or_fallen}
 use Rattle.run_laws.proofs.FallingOps.{served, why_is}
-use Rattle.whole_run.proofs.InSteps.{later_blocks, stepped}
+use Rattle.walk_laws.proofs.InSteps.{later_blocks, stepped}
 use Rattle.run_laws.proofs.Parts.{blocks_apart, drop_within, share_within}
 
 either : (listed : Option Why) (why : Option Why) → listed ≡ why → (why ≡ Some Medium) ⊎ (why ≡ None) → (listed ≡ Some Medium) ⊎ (listed ≡ None)

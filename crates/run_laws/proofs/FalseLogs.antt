@@ -9,10 +9,10 @@ use Rattle.cdb_codec.specs.declared.command.Cdb.TheVariants.{Read16, Write16}
 use Rattle.fault_schedule.specs.declared.Label.{Label}
 use Rattle.fault_schedule.specs.declared.fault.Crossing.TheVariants.{HostToAdapter}
 use Rattle.integrity_payload.specs.declared.payload.Owner.TheVariants.{Block as OfBlock}
-use Rattle.whole_run.specs.Passed.{LogEntry, Op, Fetch, Show, Write, Reply, Bad, Medium as Failed, Shown, Silent, Whole, AskedBlock, from_wire, to_wire, Why, Adapter, TheVariantsMedium as Medium, Short}
-use Rattle.whole_run.specs.Settings.{block_of, route}
-use Rattle.whole_run.specs.ReadsAs.{listed_in}
-use Rattle.whole_run.proofs.ScriptRows.{faulty, flip, formatted, opening, seg}
+use Rattle.walk_laws.specs.Passed.{LogEntry, Op, Fetch, Show, Write, Reply, Bad, Medium as Failed, Shown, Silent, Whole, AskedBlock, from_wire, to_wire, Why, Adapter, TheVariantsMedium as Medium, Short}
+use Rattle.walk_laws.specs.Settings.{block_of, route}
+use Rattle.walk_laws.specs.ReadsAs.{listed_in}
+use Rattle.walk_laws.proofs.ScriptRows.{faulty, flip, formatted, opening, seg}
 use Rattle.run_laws.specs.BackedRun.{Backed, host_finds}
 use Rattle.run_laws.specs.TakenWalk.{frame_in}
 use Rattle.run_laws.proofs.RecordRows.{entry, fields, labels, m, sense}

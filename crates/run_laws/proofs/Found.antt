@@ -9,8 +9,8 @@ use Rattle.pi_tuple.specs.declared.checks.PiType.TheVariants.{One}
 use Rattle.pi_tuple.specs.declared.checks.Check.{Check}
 use Rattle.pi_tuple.specs.declared.checks.Check.TheVariants.{AppTag, Guard, RefTag}
 use Rattle.integrity_payload.specs.Payloads.{all_asked}
-use Rattle.whole_run.specs.Passed.{unless}
-use Rattle.whole_run.specs.Detectable.{bears, if_passed}
+use Rattle.walk_laws.specs.Passed.{unless}
+use Rattle.walk_laws.specs.Detectable.{bears, if_passed}
 
 pub record IsFound (o : Option Check) : Type 0 where
   pub check : Check

@@ -17,9 +17,9 @@ use Rattle.fault_schedule.specs.declared.fault.Crossing.{Crossing}
 use Rattle.fault_schedule.specs.declared.fault.FaultKind.{FaultKind}
 use Rattle.fault_schedule.specs.declared.fault.FaultKind.TheVariants.{Flip, Shift}
 use Rattle.fault_schedule.specs.declared.fault.FaultLine.{FaultLine}
-use Rattle.whole_run.specs.Passed.{remapped_bytes, data_of, tuple_of, with_guard}
-use Rattle.whole_run.proofs.Passed.{tuple_length}
-use Rattle.whole_run.specs.FirstLayer.{is_flip}
+use Rattle.walk_laws.specs.Passed.{remapped_bytes, data_of, tuple_of, with_guard}
+use Rattle.walk_laws.proofs.Passed.{tuple_length}
+use Rattle.walk_laws.specs.FirstLayer.{is_flip}
 use Rattle.small_laws.proofs.Lists.{behind_long}
 
 -- the tuple's tag, from one address to another

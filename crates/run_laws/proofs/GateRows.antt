@@ -9,10 +9,10 @@ use Rattle.fault_schedule.specs.Altered.{shift_of}
 use Rattle.fault_schedule.specs.declared.fault.Crossing.TheVariants.{AdapterToTarget}
 use Rattle.range_gate.specs.declared.footprint.Reach.{Reach}
 use Rattle.range_gate.specs.declared.footprint.Touch.{Touch}
-use Rattle.whole_run.specs.Passed.{Op, Write, wire_lba, place_in, DeviceInfo}
-use Rattle.whole_run.specs.Settings.{Setting, block_of, route}
-use Rattle.whole_run.specs.UnderMap.{home}
-use Rattle.whole_run.proofs.ScriptRows.{faulty, opening, seg, shift}
+use Rattle.walk_laws.specs.Passed.{Op, Write, wire_lba, place_in, DeviceInfo}
+use Rattle.walk_laws.specs.Settings.{Setting, block_of, route}
+use Rattle.walk_laws.specs.UnderMap.{home}
+use Rattle.walk_laws.proofs.ScriptRows.{faulty, opening, seg, shift}
 use Rattle.run_laws.specs.ShownRun.{HasBlock, HasCells, LiesOn}
 use Rattle.run_laws.proofs.ShownRows.{one_list}
 use Rattle.run_laws.specs.OpsApart.{IsPlaced, IsSpread, OneCellEach, OpsConflict}

@@ -9,11 +9,11 @@ use Rattle.page_pool.specs.declared.segs.Seg.{Seg}
 use Rattle.page_pool.specs.Cells.{is_in}
 use Rattle.range_gate.specs.Cells.{Cells, block_cells, cells_of, in_turn}
 use Rattle.integrity_payload.specs.declared.payload.Owner.TheVariants.{Block as OfBlock, App as OfApp}
-use Rattle.whole_run.specs.Passed.{Op, Fetch, FetchPi, Fill, Overwrite, Put, Seal, Show, Wait, Write, WritePi, cells_touched, is_alone, put_seg, reach_of, fetched_cell, stored_cell, moved, wire_lba}
-use Rattle.whole_run.specs.Settings.{Block, Setting, block_of, route}
-use Rattle.whole_run.specs.Steps.{Reads, Seals, Step, Writes, WritesPi, body_of, each_from, frame_at, tuple_of}
-use Rattle.whole_run.specs.UnderMap.{home}
-use Rattle.whole_run.proofs.CalmRuns.{part_length}
+use Rattle.walk_laws.specs.Passed.{Op, Fetch, FetchPi, Fill, Overwrite, Put, Seal, Show, Wait, Write, WritePi, cells_touched, is_alone, put_seg, reach_of, fetched_cell, stored_cell, moved, wire_lba}
+use Rattle.walk_laws.specs.Settings.{Block, Setting, block_of, route}
+use Rattle.walk_laws.specs.Steps.{Reads, Seals, Step, Writes, WritesPi, body_of, each_from, frame_at, tuple_of}
+use Rattle.walk_laws.specs.UnderMap.{home}
+use Rattle.walk_laws.proofs.CalmRuns.{part_length}
 use Rattle.run_laws.proofs.Parts.{AllIn, body_part, part_within, tuple_part, none_within}
 use Rattle.run_laws.specs.OpsApart.{IsPlaced, is_shifted}
 use Rattle.run_laws.specs.ScriptMoves.{all_moves, blocks_from, blocks_of, by_moves, fates_of, lands_in, own_at, room_for, room_of}

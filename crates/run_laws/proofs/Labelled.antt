@@ -6,10 +6,10 @@ use Rattle.std.proofs.lemmas.Bool.{eq-eqb, eqb-true, eqb-false, ne_eqb}
 use Rattle.fault_schedule.specs.declared.Label.{Label}
 use Rattle.integrity_payload.specs.declared.payload.Owner.{Owner}
 use Rattle.integrity_payload.specs.declared.payload.Owner.TheVariants.{Block as OfBlock, App as OfApp}
-use Rattle.whole_run.specs.Passed.{Op, Fetch, FetchPi, Fill, Overwrite, Put, Seal, Show, Wait, Write, WritePi, Act, State, act, tell, ActAnswer, AskedBlock, Sent, read_by, written_by, Route, plain, plain_tells, Delivers, Spoils, Stops, WayIn, Fails, Refuses, Stores, WayOut}
-use Rattle.whole_run.specs.ScriptWalk.{act_of, acts_from, acts_of}
-use Rattle.whole_run.specs.Settings.{Setting, block_of, route}
-use Rattle.whole_run.specs.Steps.{Reads, Seals, Step, Writes, WritesPi, body_of, each_from, frame_at, tuple_of}
+use Rattle.walk_laws.specs.Passed.{Op, Fetch, FetchPi, Fill, Overwrite, Put, Seal, Show, Wait, Write, WritePi, Act, State, act, tell, ActAnswer, AskedBlock, Sent, read_by, written_by, Route, plain, plain_tells, Delivers, Spoils, Stops, WayIn, Fails, Refuses, Stores, WayOut}
+use Rattle.walk_laws.specs.ScriptWalk.{act_of, acts_from, acts_of}
+use Rattle.walk_laws.specs.Settings.{Setting, block_of, route}
+use Rattle.walk_laws.specs.Steps.{Reads, Seals, Step, Writes, WritesPi, body_of, each_from, frame_at, tuple_of}
 use Rattle.run_laws.specs.BackedRun.{Owns}
 use Rattle.run_laws.specs.Records.{Mixed, NoTwo, find, is_labelled, put_sent, sents}
 

@@ -18,14 +18,14 @@ use Rattle.fault_schedule.specs.declared.fault.Crossing.{Crossing}
 use Rattle.fault_schedule.specs.declared.fault.Crossing.TheVariants.{AdapterToHost, AdapterToTarget, HostToAdapter, MediumToTarget, TargetToAdapter, TargetToMedium}
 use Rattle.integrity_payload.specs.Payloads.{all_asked}
 use Rattle.integrity_payload.specs.declared.payload.Owner.{Owner}
-use Rattle.whole_run.specs.Passed.{data_of, tuple_of, found_in, from_medium, then_crossed, to_medium, unless, by_target, converted, is_crc, medium_lba, moved, passage, target, wire_lba, with_guard, Delivers, Spoils, Stops, WayIn, at_host, delivered_unless, from_device, from_wire, mapped_back, owner_says, received, verified, way_in, Fails, Refuses, Stores, WayOut, adapter_finds_out, at_device, from_adapter, mapped_out, sent, to_wire, way_out, Why, Adapter, Target}
-use Rattle.whole_run.proofs.Passed.{altered_length, as_crc, as_ip}
-use Rattle.whole_run.specs.Detectable.{arrives, asks_app, bears, bears_some, crossed, found, guard_at, if_passed, is_foreign, is_not_meant, shows, shows_at_medium, shows_in, shows_on_wire, shows_out}
-use Rattle.whole_run.specs.FirstLayer.{AtAdapter, AtOwner, AtTarget, Layer, has_flip, has_shift}
-use Rattle.whole_run.specs.Past.{Brought, brought_by}
-use Rattle.whole_run.specs.PlainMap.{as_expected}
-use Rattle.whole_run.specs.Settings.{Block, Setting, route}
-use Rattle.whole_run.specs.ReadsAs.{said_by}
+use Rattle.walk_laws.specs.Passed.{data_of, tuple_of, found_in, from_medium, then_crossed, to_medium, unless, by_target, converted, is_crc, medium_lba, moved, passage, target, wire_lba, with_guard, Delivers, Spoils, Stops, WayIn, at_host, delivered_unless, from_device, from_wire, mapped_back, owner_says, received, verified, way_in, Fails, Refuses, Stores, WayOut, adapter_finds_out, at_device, from_adapter, mapped_out, sent, to_wire, way_out, Why, Adapter, Target}
+use Rattle.walk_laws.proofs.Passed.{altered_length, as_crc, as_ip}
+use Rattle.walk_laws.specs.Detectable.{arrives, asks_app, bears, bears_some, crossed, found, guard_at, if_passed, is_foreign, is_not_meant, shows, shows_at_medium, shows_in, shows_on_wire, shows_out}
+use Rattle.walk_laws.specs.FirstLayer.{AtAdapter, AtOwner, AtTarget, Layer, has_flip, has_shift}
+use Rattle.walk_laws.specs.Past.{Brought, brought_by}
+use Rattle.walk_laws.specs.PlainMap.{as_expected}
+use Rattle.walk_laws.specs.Settings.{Block, Setting, route}
+use Rattle.walk_laws.specs.ReadsAs.{said_by}
 use Rattle.run_laws.specs.ShownRun.{StaysNear}
 use Rattle.run_laws.proofs.Found.{Bears, IsFound, asked_on, bears_both, expected, found_something, from_both, is_found, passed, passes_if, unless_rule, unmasked}
 use Rattle.run_laws.proofs.Framed.{IsUnderTuple, guarded, mapped_body, mapped_length, mapped_tuple, not_altered}

@@ -4,10 +4,10 @@ use Rattle.std.proofs.lemmas.Bool.{or_from}
 use Rattle.page_pool.specs.Cells.{share_a_cell}
 use Rattle.range_gate.specs.Cells.{Cells, block_cells, byte_cells, cells_clash, in_turn}
 use Rattle.range_gate.proofs.CellLaws.{no_block, no_byte, none_alone}
-use Rattle.whole_run.specs.Passed.{Op, Fetch, FetchPi, Fill, Overwrite, Put, Seal, Show, Wait, Write, WritePi, bytes_of, cells_touched, footprint, reach_of, conflict, volume_len}
-use Rattle.whole_run.proofs.Passed.{cells_are, AllBelow, below, no_clash, share_back}
-use Rattle.whole_run.specs.Settings.{Setting}
-use Rattle.whole_run.specs.UnderMap.{home}
+use Rattle.walk_laws.specs.Passed.{Op, Fetch, FetchPi, Fill, Overwrite, Put, Seal, Show, Wait, Write, WritePi, bytes_of, cells_touched, footprint, reach_of, conflict, volume_len}
+use Rattle.walk_laws.proofs.Passed.{cells_are, AllBelow, below, no_clash, share_back}
+use Rattle.walk_laws.specs.Settings.{Setting}
+use Rattle.walk_laws.specs.UnderMap.{home}
 use Rattle.run_laws.proofs.Parts.{share_left, share_right}
 use Rattle.run_laws.specs.OpsApart.{HasBlocks, IsPlaced, NoneMeet, OneCellEach, OpsConflict, is_shifted}
 use Rattle.run_laws.specs.ScriptMoves.{all_moves, blocks_of, fates_of, room_of}

@@ -8,11 +8,11 @@ use Rattle.fault_schedule.specs.declared.fault.Crossing.TheVariants.{AdapterToHo
 use Rattle.fault_schedule.specs.declared.fault.FaultLine.{FaultLine}
 use Rattle.integrity_payload.specs.declared.payload.Owner.{Owner}
 use Rattle.integrity_payload.specs.declared.payload.Owner.TheVariants.{Block as OfBlock, App as OfApp}
-use Rattle.whole_run.specs.Passed.{Reply, then_crossed, unless, Act, Effect, State, act, effect, seen, tell, ActAnswer, Sent, own_frame, read_block, read_by, tuple_after, write_block, write_block_of_app, written_by, Route, medium_lba, told_by, Delivers, Spoils, Stops, WayIn, adapter_finds_in, at_host, delivered_unless, from_device, from_wire, owner_finds, owner_says, received, verified, way_in, Stores, WayOut, adapter_finds_out, from_adapter, goes_out, mapped_out, to_wire, Why, Adapter}
-use Rattle.whole_run.specs.ScriptWalk.{act_of}
-use Rattle.whole_run.specs.Settings.{Setting, route}
-use Rattle.whole_run.specs.Steps.{Alters, Reads, Seals, Sets, Shows, Step, Writes, WritesPi}
-use Rattle.whole_run.specs.ReadsAs.{listed_in}
+use Rattle.walk_laws.specs.Passed.{Reply, then_crossed, unless, Act, Effect, State, act, effect, seen, tell, ActAnswer, Sent, own_frame, read_block, read_by, tuple_after, write_block, write_block_of_app, written_by, Route, medium_lba, told_by, Delivers, Spoils, Stops, WayIn, adapter_finds_in, at_host, delivered_unless, from_device, from_wire, owner_finds, owner_says, received, verified, way_in, Stores, WayOut, adapter_finds_out, from_adapter, goes_out, mapped_out, to_wire, Why, Adapter}
+use Rattle.walk_laws.specs.ScriptWalk.{act_of}
+use Rattle.walk_laws.specs.Settings.{Setting, route}
+use Rattle.walk_laws.specs.Steps.{Alters, Reads, Seals, Sets, Shows, Step, Writes, WritesPi}
+use Rattle.walk_laws.specs.ReadsAs.{listed_in}
 use Rattle.run_laws.specs.BackedRun.{HasEnd, HasEntry, IsFound, IsInTurn, IsListedAs, OfRead, OfRequest, PassesIn, host_finds, host_lists, is_outside}
 use Rattle.run_laws.specs.Records.{end_in, entry_for, entry_in}
 use Rattle.run_laws.specs.TakenWalk.{carried_of, frame_in, landed_of, taken_act, taken_in, taken_out}

@@ -5,10 +5,10 @@ use Rattle.std.proofs.lemmas.Bool.{eq-eqb}
 use Rattle.std.proofs.lemmas.List.{length-replicate}
 use Rattle.page_pool.specs.Places.{run}
 use Rattle.fault_schedule.specs.declared.fault.Crossing.TheVariants.{TargetToMedium}
-use Rattle.whole_run.specs.Passed.{Op, Put, Write, Act, State, act, conflict, tell, ActAnswer, Leads, all_done, none_done}
-use Rattle.whole_run.specs.ScriptWalk.{set_bytes}
-use Rattle.whole_run.specs.Settings.{Setting, block_of}
-use Rattle.whole_run.proofs.ScriptRows.{faulty, flip, opening, seg}
+use Rattle.walk_laws.specs.Passed.{Op, Put, Write, Act, State, act, conflict, tell, ActAnswer, Leads, all_done, none_done}
+use Rattle.walk_laws.specs.ScriptWalk.{set_bytes}
+use Rattle.walk_laws.specs.Settings.{Setting, block_of}
+use Rattle.walk_laws.proofs.ScriptRows.{faulty, flip, opening, seg}
 use Rattle.run_laws.proofs.ShownRows.{one_list}
 use Rattle.run_laws.specs.BoundRun.{IsBoundRun, Suits}
 use Rattle.run_laws.specs.ScriptMoves.{script_moves}

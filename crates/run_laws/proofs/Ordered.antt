@@ -2,13 +2,13 @@
 use Rattle.std.proofs.Common.{◌≡◌, ◌<◌, ◌≤◌, ◌%◌, ◌^◌, ℕ, zero, suc, ◌+◌, ◌*◌, Bool, true, if◌then◌else◌, List, [], ◌∷◌, ◌++◌, length, map, drop, refl, sym, ap, subst, ◌∙◌, arith}
 use Rattle.range_gate.specs.Cells.{cells_of}
 use Rattle.integrity_payload.specs.declared.payload.Owner.TheVariants.{Block as OfBlock, App as OfApp}
-use Rattle.whole_run.specs.Passed.{Op, Fetch, FetchPi, Fill, Overwrite, Put, Seal, Show, Wait, Write, WritePi, Act, State, act, conflict, tell, ActAnswer, hidden, Leads, all_done, none_done, plain, plain_tells}
-use Rattle.whole_run.proofs.Passed.{commutes, below, distinct, any_whole_order, plain_append}
-use Rattle.whole_run.specs.ScriptWalk.{act_of, acts_from, acts_of, replies_from, reply_of, walk_from}
-use Rattle.whole_run.specs.Settings.{Setting, block_of}
-use Rattle.whole_run.specs.Steps.{Alters, Reads, Seals, Sets, Shows, Step, Writes, WritesPi, body_of, each_from, frame_at, steps_of, tuple_of}
-use Rattle.whole_run.proofs.AnyOrder.{first_tells, other_tells}
-use Rattle.whole_run.proofs.CalmRuns.{frame_length, part_length}
+use Rattle.walk_laws.specs.Passed.{Op, Fetch, FetchPi, Fill, Overwrite, Put, Seal, Show, Wait, Write, WritePi, Act, State, act, conflict, tell, ActAnswer, hidden, Leads, all_done, none_done, plain, plain_tells}
+use Rattle.walk_laws.proofs.Passed.{commutes, below, distinct, any_whole_order, plain_append}
+use Rattle.walk_laws.specs.ScriptWalk.{act_of, acts_from, acts_of, replies_from, reply_of, walk_from}
+use Rattle.walk_laws.specs.Settings.{Setting, block_of}
+use Rattle.walk_laws.specs.Steps.{Alters, Reads, Seals, Sets, Shows, Step, Writes, WritesPi, body_of, each_from, frame_at, steps_of, tuple_of}
+use Rattle.walk_laws.proofs.AnyOrder.{first_tells, other_tells}
+use Rattle.walk_laws.proofs.CalmRuns.{frame_length, part_length}
 use Rattle.run_laws.proofs.Parts.{block_below, block_distinct}
 use Rattle.run_laws.specs.BoundRun.{AllBound, AreTheWalk, IsBound, IsBoundRun, fates, rooms}
 use Rattle.run_laws.specs.ScriptMoves.{ByMoves, all_moves, answers_from, blocks_from, blocks_of, by_moves, fates_of, joins, moves_from, own_at, replies_from_moves, room_for, room_of, script_moves}

@@ -8,13 +8,13 @@ use Rattle.pi_tuple.specs.declared.checks.Check.{Check}
 use Rattle.fault_schedule.specs.declared.Label.{Label}
 use Rattle.fault_schedule.specs.declared.fault.FaultLine.{FaultLine}
 use Rattle.integrity_payload.specs.declared.payload.Owner.{Owner}
-use Rattle.whole_run.specs.Passed.{Op, Act, Effect, State, act, effect, tell, ActAnswer, Sent, fetched_cell, own_cell, own_frame, read_by, tuple_after, written_by, Route, Device, told_by, plain, plain_tells, at_host, delivered_unless, from_device, from_wire, mapped_back, owner_finds, verified, at_device, from_adapter, mapped_out, to_wire, Why}
-use Rattle.whole_run.proofs.Passed.{same_cells}
-use Rattle.whole_run.specs.Past.{steps_from}
-use Rattle.whole_run.specs.ScriptWalk.{act_of, acts_from, acts_of, replies_by, reply_of, script_replies, script_walk}
-use Rattle.whole_run.specs.Settings.{Setting, route}
-use Rattle.whole_run.specs.Steps.{Alters, Reads, Seals, Sets, Shows, Step, Writes, WritesPi, steps_of}
-use Rattle.whole_run.proofs.AnyOrder.{acts_reply, acts_walk}
+use Rattle.walk_laws.specs.Passed.{Op, Act, Effect, State, act, effect, tell, ActAnswer, Sent, fetched_cell, own_cell, own_frame, read_by, tuple_after, written_by, Route, Device, told_by, plain, plain_tells, at_host, delivered_unless, from_device, from_wire, mapped_back, owner_finds, verified, at_device, from_adapter, mapped_out, to_wire, Why}
+use Rattle.walk_laws.proofs.Passed.{same_cells}
+use Rattle.walk_laws.specs.Past.{steps_from}
+use Rattle.walk_laws.specs.ScriptWalk.{act_of, acts_from, acts_of, replies_by, reply_of, script_replies, script_walk}
+use Rattle.walk_laws.specs.Settings.{Setting, route}
+use Rattle.walk_laws.specs.Steps.{Alters, Reads, Seals, Sets, Shows, Step, Writes, WritesPi, steps_of}
+use Rattle.walk_laws.proofs.AnyOrder.{acts_reply, acts_walk}
 use Rattle.run_laws.specs.BackedRun.{IsBacked}
 use Rattle.run_laws.specs.Records.{Mixed, sents}
 use Rattle.run_laws.specs.ToldRun.{IsRecordOfRun, IsSameWalk, came_by, came_in, told}

@@ -9,11 +9,11 @@ use Rattle.page_pool.specs.Places.{places_in}
 use Rattle.range_gate.specs.Cells.{cells_of}
 use Rattle.integrity_payload.specs.declared.payload.Owner.{Owner}
 use Rattle.integrity_payload.specs.declared.payload.Owner.TheVariants.{Block as OfBlock, App as OfApp}
-use Rattle.whole_run.proofs.Passed.{AllBelow, Distinct, gather_back, apart_at, in_head, share_by, share_back}
-use Rattle.whole_run.specs.Steps.{body_of, tuple_of}
-use Rattle.whole_run.specs.ReadsAs.{landing}
-use Rattle.whole_run.proofs.CalmRuns.{room as later}
-use Rattle.whole_run.proofs.TupleFrames.{below_take, below_drop, below_append}
+use Rattle.walk_laws.proofs.Passed.{AllBelow, Distinct, gather_back, apart_at, in_head, share_by, share_back}
+use Rattle.walk_laws.specs.Steps.{body_of, tuple_of}
+use Rattle.walk_laws.specs.ReadsAs.{landing}
+use Rattle.walk_laws.proofs.CalmRuns.{room as later}
+use Rattle.walk_laws.proofs.TupleFrames.{below_take, below_drop, below_append}
 
 -- each of these is one of those
 abbrev pub AllIn : List ℕ → List ℕ → Type 0

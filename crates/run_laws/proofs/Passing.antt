@@ -14,12 +14,12 @@ use Rattle.pi_tuple.specs.declared.checks.Check.{Check}
 use Rattle.pi_tuple.specs.declared.checks.Check.TheVariants.{AppTag, Guard, RefTag}
 use Rattle.pi_tuple.specs.declared.checks.Checks.{Checks}
 use Rattle.integrity_payload.specs.Payloads.{all_asked}
-use Rattle.whole_run.specs.Passed.{data_of, stored_size, tuple_of, host_type, is_crc, with_guard}
-use Rattle.whole_run.specs.Past.{Brought}
-use Rattle.whole_run.specs.PlainMap.{all_pass, as_expected}
-use Rattle.whole_run.specs.Settings.{Setting}
-use Rattle.whole_run.proofs.CalmWays.{quiet}
-use Rattle.whole_run.proofs.TupleFrames.{finds_none}
+use Rattle.walk_laws.specs.Passed.{data_of, stored_size, tuple_of, host_type, is_crc, with_guard}
+use Rattle.walk_laws.specs.Past.{Brought}
+use Rattle.walk_laws.specs.PlainMap.{all_pass, as_expected}
+use Rattle.walk_laws.specs.Settings.{Setting}
+use Rattle.walk_laws.proofs.CalmWays.{quiet}
+use Rattle.walk_laws.proofs.TupleFrames.{finds_none}
 use Rattle.run_laws.proofs.Framed.{guarded, retag}
 
 abbrev pub unguarded : Tuple → (guard : ℕ) → Tuple

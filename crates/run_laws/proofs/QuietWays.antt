@@ -18,14 +18,14 @@ use Rattle.fault_schedule.specs.declared.fault.Crossing.TheVariants.{AdapterToHo
 use Rattle.fault_schedule.proofs.Unaltered.{altered_none}
 use Rattle.integrity_payload.specs.Payloads.{all_asked}
 use Rattle.integrity_payload.specs.declared.payload.Owner.{Owner}
-use Rattle.whole_run.specs.Passed.{data_of, frame_of, stored_size, tuple_of, accepted, asked_of, found_in, from_medium, released, then_crossed, to_medium, unless, wanted_of, with_own_tuple, Route, Device, by_target, converted, host_type, is_crc, passage, passes_tuples, target, wire_lba, handed_on, operation, Delivers, adapter_finds_in, at_host, delivered_unless, from_device, from_wire, mapped_back, owner_finds, received, verified, way_in, Fails, Refuses, Stores, WayOut, adapter_finds_out, at_device, from_adapter, mapped_out, sent, to_wire, way_out, TheVariantsRead as Read, TheVariantsWrite2 as Write}
-use Rattle.whole_run.proofs.Passed.{never_zero}
-use Rattle.whole_run.specs.Past.{Brought, brought_by}
-use Rattle.whole_run.specs.PlainMap.{all_pass}
-use Rattle.whole_run.specs.Settings.{Block, Setting, route}
-use Rattle.whole_run.proofs.CalmWays.{quiet, unmasked, wire_same}
-use Rattle.whole_run.proofs.TupleFrames.{Small, data_is, tuple_is}
-use Rattle.whole_run.proofs.TagLaws.{mask_fits, field_set}
+use Rattle.walk_laws.specs.Passed.{data_of, frame_of, stored_size, tuple_of, accepted, asked_of, found_in, from_medium, released, then_crossed, to_medium, unless, wanted_of, with_own_tuple, Route, Device, by_target, converted, host_type, is_crc, passage, passes_tuples, target, wire_lba, handed_on, operation, Delivers, adapter_finds_in, at_host, delivered_unless, from_device, from_wire, mapped_back, owner_finds, received, verified, way_in, Fails, Refuses, Stores, WayOut, adapter_finds_out, at_device, from_adapter, mapped_out, sent, to_wire, way_out, TheVariantsRead as Read, TheVariantsWrite2 as Write}
+use Rattle.walk_laws.proofs.Passed.{never_zero}
+use Rattle.walk_laws.specs.Past.{Brought, brought_by}
+use Rattle.walk_laws.specs.PlainMap.{all_pass}
+use Rattle.walk_laws.specs.Settings.{Block, Setting, route}
+use Rattle.walk_laws.proofs.CalmWays.{quiet, unmasked, wire_same}
+use Rattle.walk_laws.proofs.TupleFrames.{Small, data_is, tuple_is}
+use Rattle.walk_laws.proofs.TagLaws.{mask_fits, field_set}
 use Rattle.run_laws.proofs.Framed.{mapped_body, mapped_length, mapped_tuple, retag}
 use Rattle.run_laws.proofs.Passing.{Converted, Kept, Passes, asks_all, conversion, found_none, host_same, passes, retagged, same_escape, still}
 

@@ -3,11 +3,11 @@ use Rattle.std.proofs.Common.{◌≡◌, ℕ, Bool, true, false, ◌||◌, eqb, 
 use Rattle.std.proofs.lemmas.Bool.{false≢true, or_from, or_right}
 use Rattle.page_pool.specs.Cells.{is_in, share_a_cell}
 use Rattle.range_gate.specs.Cells.{Cells, cells_clash}
-use Rattle.whole_run.specs.Passed.{Act, conflict, ActAnswer, fetched_cell, own_cell, stored_cell, untouched, Apart}
-use Rattle.whole_run.proofs.Passed.{no_clash}
-use Rattle.whole_run.specs.Settings.{Block, Setting, route}
-use Rattle.whole_run.specs.Steps.{Alters, Reads, Seals, Sets, Shows, Step, Writes, WritesPi}
-use Rattle.whole_run.specs.ScriptWalk.{source_of}
+use Rattle.walk_laws.specs.Passed.{Act, conflict, ActAnswer, fetched_cell, own_cell, stored_cell, untouched, Apart}
+use Rattle.walk_laws.proofs.Passed.{no_clash}
+use Rattle.walk_laws.specs.Settings.{Block, Setting, route}
+use Rattle.walk_laws.specs.Steps.{Alters, Reads, Seals, Sets, Shows, Step, Writes, WritesPi}
+use Rattle.walk_laws.specs.ScriptWalk.{source_of}
 use Rattle.run_laws.proofs.Parts.{AllIn, drop_within, share_within, none_within}
 use Rattle.run_laws.specs.OpsApart.{NoneMeet}
 use Rattle.run_laws.specs.ScriptMoves.{by_moves, lands_in, write_moves}

@@ -7,23 +7,23 @@ use Rattle.page_pool.specs.Cells.{gather, scatter}
 use Rattle.page_pool.specs.Places.{total}
 use Rattle.integrity_payload.specs.declared.payload.Owner.{Owner}
 use Rattle.integrity_payload.specs.declared.payload.Owner.TheVariants.{Block as OfBlock, App as OfApp}
-use Rattle.whole_run.specs.Passed.{Op, Fetch, FetchPi, Fill, Overwrite, Put, Seal, Show, Wait, Write, WritePi, Silent, data_of, tuple_of as tuple_in_frame, State, act, tell, ActAnswer, fetched_cell, plain, plain_tells, DeviceInfo}
+use Rattle.walk_laws.specs.Passed.{Op, Fetch, FetchPi, Fill, Overwrite, Put, Seal, Show, Wait, Write, WritePi, Silent, data_of, tuple_of as tuple_in_frame, State, act, tell, ActAnswer, fetched_cell, plain, plain_tells, DeviceInfo}
 use Rattle.range_gate.specs.Cells.{cells_of}
-use Rattle.whole_run.proofs.Passed.{AllBelow, Distinct, below, distinct}
-use Rattle.whole_run.specs.Detectable.{detectable, found}
-use Rattle.whole_run.specs.FirstLayer.{Layer, first_layer, last_accepted}
-use Rattle.whole_run.specs.Past.{Event, events_of, past_after, steps_from}
-use Rattle.whole_run.specs.ScriptWalk.{act_of, acts_of, replies_from, reply_of, request_reply, script_replies, script_walk, walk_from}
-use Rattle.whole_run.specs.Settings.{Block, Setting, block_of, route}
-use Rattle.whole_run.specs.Steps.{Reads, Seals, Step, Writes, WritesPi, body_of, each_from, frame_at, steps_of, tuple_of}
-use Rattle.whole_run.specs.UnderMap.{NoEscape, NoneEscapes}
-use Rattle.whole_run.proofs.CalmRuns.{frame_length, part_length}
-use Rattle.whole_run.specs.ReadsAs.{ReadsAs, ReadsRightly, landing, listed_in, read_op, takes_tuples}
+use Rattle.walk_laws.proofs.Passed.{AllBelow, Distinct, below, distinct}
+use Rattle.walk_laws.specs.Detectable.{detectable, found}
+use Rattle.walk_laws.specs.FirstLayer.{Layer, first_layer, last_accepted}
+use Rattle.walk_laws.specs.Past.{Event, events_of, past_after, steps_from}
+use Rattle.walk_laws.specs.ScriptWalk.{act_of, acts_of, replies_from, reply_of, request_reply, script_replies, script_walk, walk_from}
+use Rattle.walk_laws.specs.Settings.{Block, Setting, block_of, route}
+use Rattle.walk_laws.specs.Steps.{Reads, Seals, Step, Writes, WritesPi, body_of, each_from, frame_at, steps_of, tuple_of}
+use Rattle.walk_laws.specs.UnderMap.{NoEscape, NoneEscapes}
+use Rattle.walk_laws.proofs.CalmRuns.{frame_length, part_length}
+use Rattle.walk_laws.specs.ReadsAs.{ReadsAs, ReadsRightly, landing, listed_in, read_op, takes_tuples}
 use Rattle.run_laws.specs.ShownRun.{AllBind, Binds, IsChecked, IsShownRun}
 use Rattle.run_laws.proofs.Along.{AllFit, EndsAs, Fits, reads_after}
 use Rattle.run_laws.proofs.Layers.{checked}
 use Rattle.run_laws.proofs.Parts.{block_below, block_distinct, block_fits, blocks_apart, landed, lists_of}
-use Rattle.whole_run.proofs.InSteps.{acts_stepped, each_length, each_split, is_listed, later_blocks, read_reply, read_steps, same_pages, stepped, stepped_append, steps_split, tells_at}
+use Rattle.walk_laws.proofs.InSteps.{acts_stepped, each_length, each_split, is_listed, later_blocks, read_reply, read_steps, same_pages, stepped, stepped_append, steps_split, tells_at}
 
 module _ (m : Setting) where
   -- the cells after these steps

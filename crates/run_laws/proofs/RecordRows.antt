@@ -10,12 +10,12 @@ use Rattle.cdb_codec.specs.Forms.{form}
 use Rattle.cdb_codec.specs.declared.command.Rw.{Rw}
 use Rattle.cdb_codec.specs.declared.command.Cdb.TheVariants.{Read16, Write16}
 use Rattle.fault_schedule.specs.declared.Label.{Label}
-use Rattle.whole_run.specs.Passed.{LogEntry, Op, Fetch, Write, Reply, Bad, joined, found_in, from_medium, to_medium, Sent, from_wire, to_wire, Sense, Adapter, TheVariantsMedium as Medium, TheVariantsRead as Read, TheVariantsWrite2 as ToUnit}
+use Rattle.walk_laws.specs.Passed.{LogEntry, Op, Fetch, Write, Reply, Bad, joined, found_in, from_medium, to_medium, Sent, from_wire, to_wire, Sense, Adapter, TheVariantsMedium as Medium, TheVariantsRead as Read, TheVariantsWrite2 as ToUnit}
 use Rattle.integrity_payload.specs.declared.payload.Owner.TheVariants.{Block as OfBlock}
-use Rattle.whole_run.specs.ScriptWalk.{script_replies, script_walk}
-use Rattle.whole_run.specs.Settings.{Setting}
-use Rattle.whole_run.specs.UnderMap.{home}
-use Rattle.whole_run.proofs.ScriptRows.{faulty, formatted, opening, seg}
+use Rattle.walk_laws.specs.ScriptWalk.{script_replies, script_walk}
+use Rattle.walk_laws.specs.Settings.{Setting}
+use Rattle.walk_laws.specs.UnderMap.{home}
+use Rattle.walk_laws.proofs.ScriptRows.{faulty, formatted, opening, seg}
 use Rattle.run_laws.specs.BackedRun.{Backed}
 use Rattle.run_laws.specs.EarlierWrites.{LogsAreEmpty, StandsAfter, accepted_in}
 use Rattle.run_laws.specs.Records.{recorded, writes_at}

@@ -13,12 +13,12 @@ use Rattle.page_pool.specs.Places.{run}
 use Rattle.fault_schedule.specs.declared.fault.Crossing.TheVariants.{AdapterToTarget, MediumToTarget, TargetToMedium}
 use Rattle.fault_schedule.specs.declared.fault.FaultLine.{FaultLine}
 use Rattle.fault_schedule.specs.Altered.{shift_of}
-use Rattle.whole_run.specs.Passed.{Copy, Op, Fetch, FetchPi, Overwrite, Write, Bad, Silent, Whole, found_in, from_medium, to_medium, AreCells, moved, from_wire, to_wire, DeviceInfo, place_in, Target}
+use Rattle.walk_laws.specs.Passed.{Copy, Op, Fetch, FetchPi, Overwrite, Write, Bad, Silent, Whole, found_in, from_medium, to_medium, AreCells, moved, from_wire, to_wire, DeviceInfo, place_in, Target}
 use Rattle.range_gate.specs.Cells.{cells_of}
-use Rattle.whole_run.specs.ScriptWalk.{script_replies}
-use Rattle.whole_run.specs.Settings.{Setting}
-use Rattle.whole_run.specs.UnderMap.{IsClean}
-use Rattle.whole_run.proofs.ScriptRows.{faulty, flip, opening, seg, shift}
+use Rattle.walk_laws.specs.ScriptWalk.{script_replies}
+use Rattle.walk_laws.specs.Settings.{Setting}
+use Rattle.walk_laws.specs.UnderMap.{IsClean}
+use Rattle.walk_laws.proofs.ScriptRows.{faulty, flip, opening, seg, shift}
 use Rattle.run_laws.specs.ShownRun.{AllAreFetched, AllStayNear, DevicesAreClean, HasBlock, HasCells, IsShownRun, LiesOn}
 
 abbrev faults : List FaultLine

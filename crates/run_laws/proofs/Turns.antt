@@ -3,7 +3,7 @@ use Rattle.std.proofs.Common.{◌≡◌, ◌<◌, ◌≤◌, ℕ, zero, suc, ◌
 use Rattle.std.proofs.lemmas.Bool.{eq-eqb, eqb-false, eqb-true, false≢true, ne_eqb, or_from, or_parts}
 use Rattle.page_pool.specs.Cells.{is_in, share_a_cell}
 use Rattle.range_gate.specs.Cells.{in_turn}
-use Rattle.whole_run.proofs.Passed.{AllBelow, Distinct}
+use Rattle.walk_laws.proofs.Passed.{AllBelow, Distinct}
 use Rattle.run_laws.proofs.Parts.{AllIn, in_tail}
 
 -- each is this one or behind it

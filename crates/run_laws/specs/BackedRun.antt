@@ -3,9 +3,9 @@ use Rattle.std.specs.List.{AllByRecursion as Each}
 use Rattle.integrity_payload.specs.declared.payload.Owner.{Owner}
 use Rattle.pi_tuple.specs.declared.checks.Check.{Check}
 use Rattle.fault_schedule.specs.declared.fault.FaultLine.{FaultLine}
-use Rattle.whole_run.specs.Passed.{LogEntry, Op, Reply, State, act, tell, ActAnswer, AskedBlock, Sent, Route, plain, plain_tells, adapter_finds_in, owner_finds, owner_says, Why, Adapter, App, Block as ByOwner, TheVariantsMedium as Medium, Refused, Short, Target, Dir, TheVariantsRead as Read, TheVariantsWrite2 as Write}
-use Rattle.whole_run.specs.ScriptWalk.{script_replies}
-use Rattle.whole_run.specs.Settings.{Setting}
+use Rattle.walk_laws.specs.Passed.{LogEntry, Op, Reply, State, act, tell, ActAnswer, AskedBlock, Sent, Route, plain, plain_tells, adapter_finds_in, owner_finds, owner_says, Why, Adapter, App, Block as ByOwner, TheVariantsMedium as Medium, Refused, Short, Target, Dir, TheVariantsRead as Read, TheVariantsWrite2 as Write}
+use Rattle.walk_laws.specs.ScriptWalk.{script_replies}
+use Rattle.walk_laws.specs.Settings.{Setting}
 use Rattle.run_laws.specs.Records.{Moved, NoTwo, end_for, entry_for, recorded, writes_at}
 use Rattle.run_laws.specs.TakenWalk.{landed_of, taken_from, taken_replies}
 use Rattle.run_laws.specs.ToldRun.{told}

@@ -2,9 +2,9 @@ use Rattle.std.specs.Prelude.{ℕ, Bool, ◌≡◌, ◌+◌, ◌*◌, ◌<◌, �
 use Rattle.std.specs.List.{All, IsDistinct}
 use Rattle.page_pool.specs.Places.{total}
 use Rattle.range_gate.specs.Cells.{cells_of}
-use Rattle.whole_run.specs.Passed.{Op, Fetch, FetchPi, Fill, Overwrite, Put, Seal, Show, Wait, Write, WritePi, State, act, tell, ActAnswer, fetched_cell, stored_cell, hidden, wire_size, plain_tells}
-use Rattle.whole_run.specs.ScriptWalk.{acts_from, changed, script_replies, script_walk, source_of}
-use Rattle.whole_run.specs.Settings.{Block, Setting, block_of, route}
+use Rattle.walk_laws.specs.Passed.{Op, Fetch, FetchPi, Fill, Overwrite, Put, Seal, Show, Wait, Write, WritePi, State, act, tell, ActAnswer, fetched_cell, stored_cell, hidden, wire_size, plain_tells}
+use Rattle.walk_laws.specs.ScriptWalk.{acts_from, changed, script_replies, script_walk, source_of}
+use Rattle.walk_laws.specs.Settings.{Block, Setting, block_of, route}
 use Rattle.run_laws.specs.ScriptMoves.{answers_by_moves, fates_of, replies_by_moves, room_of}
 use Rattle.pi_tuple.specs.declared.TheConstants.{TUPLE}
 

@@ -1,7 +1,7 @@
 use Rattle.std.specs.Prelude.{ℕ, ◌≡◌, not, ◌&&◌, eqb, List, [], ◌∷◌, get_or}
-use Rattle.whole_run.specs.Passed.{LogEntry, Op, State, act, tell, Sent, Site, plain_tells}
-use Rattle.whole_run.specs.ScriptWalk.{acts_from, script_walk}
-use Rattle.whole_run.specs.Settings.{Setting}
+use Rattle.walk_laws.specs.Passed.{LogEntry, Op, State, act, tell, Sent, Site, plain_tells}
+use Rattle.walk_laws.specs.ScriptWalk.{acts_from, script_walk}
+use Rattle.walk_laws.specs.Settings.{Setting}
 use Rattle.run_laws.specs.Records.{Mixed, is_out, put_frame, recorded, sents, writes_at}
 
 -- The log holds what the walk carries.

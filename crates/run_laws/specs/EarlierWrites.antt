@@ -2,11 +2,11 @@ use Rattle.std.specs.Prelude.{ℕ, ◌≡◌, ◌<◌, suc, ◌+◌, ◌-◌, Bo
 use Rattle.std.specs.List.{AllByRecursion as Each, count_by}
 use Rattle.fault_schedule.specs.declared.Label.{Label}
 use Rattle.integrity_payload.specs.declared.payload.Owner.{Owner}
-use Rattle.whole_run.specs.Passed.{Op, Reply, Silent, State, ActAnswer, Sent, own_cell, Route}
-use Rattle.whole_run.specs.Past.{steps_from}
-use Rattle.whole_run.specs.Settings.{Setting, route}
-use Rattle.whole_run.specs.Steps.{Alters, Reads, Seals, Sets, Shows, Step, Writes, WritesPi, steps_of}
-use Rattle.whole_run.specs.ReadsAs.{listed_in}
+use Rattle.walk_laws.specs.Passed.{Op, Reply, Silent, State, ActAnswer, Sent, own_cell, Route}
+use Rattle.walk_laws.specs.Past.{steps_from}
+use Rattle.walk_laws.specs.Settings.{Setting, route}
+use Rattle.walk_laws.specs.Steps.{Alters, Reads, Seals, Sets, Shows, Step, Writes, WritesPi, steps_of}
+use Rattle.walk_laws.specs.ReadsAs.{listed_in}
 use Rattle.run_laws.specs.Records.{Moved, entry_for}
 
 -- After how many write entries of its place a read's entry stands, by the replies alone.

@@ -1,9 +1,9 @@
 use Rattle.std.specs.Prelude.{ℕ, ◌≡◌, ◌+◌, Bool, true, suc, IfSome, List, [], ◌∷◌, ◌++◌, map, Option, Some, None}
-use Rattle.whole_run.specs.Passed.{Op, Act, State, ActAnswer, stored_cell, hidden}
-use Rattle.whole_run.specs.Past.{steps_from}
-use Rattle.whole_run.specs.ScriptWalk.{replies_by}
-use Rattle.whole_run.specs.Settings.{Block, Setting, route}
-use Rattle.whole_run.specs.Steps.{Alters, Reads, Seals, Sets, Shows, Step, Writes, WritesPi, steps_of}
+use Rattle.walk_laws.specs.Passed.{Op, Act, State, ActAnswer, stored_cell, hidden}
+use Rattle.walk_laws.specs.Past.{steps_from}
+use Rattle.walk_laws.specs.ScriptWalk.{replies_by}
+use Rattle.walk_laws.specs.Settings.{Block, Setting, route}
+use Rattle.walk_laws.specs.Steps.{Alters, Reads, Seals, Sets, Shows, Step, Writes, WritesPi, steps_of}
 use Rattle.run_laws.specs.FallingReads.{falling_replies}
 use Rattle.run_laws.specs.StoreFaults.{fallen, falling_walk, leaving, over_failing}
 use Rattle.run_laws.specs.ScriptMoves.{ByMoves, all_moves, by_moves, fates_of, joins, own_at, room_of}

@@ -5,14 +5,14 @@ use Rattle.page_pool.specs.Places.{total}
 use Rattle.range_gate.specs.Cells.{cells_of}
 use Rattle.integrity_payload.specs.declared.payload.Owner.{Owner}
 use Rattle.integrity_payload.specs.declared.payload.Owner.TheVariants.{Block as OfBlock, App as OfApp}
-use Rattle.whole_run.specs.Passed.{Op, Reply, Silent, data_of, tuple_of, State, act, tell, AreCells, plain_tells, Why, TheVariantsMedium as Medium}
-use Rattle.whole_run.specs.FirstLayer.{last_accepted}
-use Rattle.whole_run.specs.Past.{Brought, steps_from}
-use Rattle.whole_run.specs.PlainMap.{all_pass}
-use Rattle.whole_run.specs.ScriptWalk.{reply_of}
-use Rattle.whole_run.specs.Settings.{Block, Setting, block_of}
-use Rattle.whole_run.specs.Steps.{steps_of}
-use Rattle.whole_run.specs.ReadsAs.{landing, listed_in, read_op, takes_tuples}
+use Rattle.walk_laws.specs.Passed.{Op, Reply, Silent, data_of, tuple_of, State, act, tell, AreCells, plain_tells, Why, TheVariantsMedium as Medium}
+use Rattle.walk_laws.specs.FirstLayer.{last_accepted}
+use Rattle.walk_laws.specs.Past.{Brought, steps_from}
+use Rattle.walk_laws.specs.PlainMap.{all_pass}
+use Rattle.walk_laws.specs.ScriptWalk.{reply_of}
+use Rattle.walk_laws.specs.Settings.{Block, Setting, block_of}
+use Rattle.walk_laws.specs.Steps.{steps_of}
+use Rattle.walk_laws.specs.ReadsAs.{landing, listed_in, read_op, takes_tuples}
 use Rattle.run_laws.specs.StoreFaults.{falling_past, falling_walk, is_lost, may_fall}
 use Rattle.pi_tuple.specs.declared.TheConstants.{TUPLE}
 

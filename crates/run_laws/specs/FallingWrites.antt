@@ -2,13 +2,13 @@ use Rattle.std.specs.Prelude.{ℕ, ◌≡◌, ◌⊎◌, List, ◌∷◌, ◌++�
 use Rattle.page_pool.specs.declared.segs.Seg.{Seg}
 use Rattle.page_pool.specs.Cells.{gather}
 use Rattle.pi_tuple.specs.declared.checks.Check.{Check}
-use Rattle.whole_run.specs.Passed.{Op, Silent, data_of, tuple_of, State, TheVariantsMedium as Medium}
-use Rattle.whole_run.specs.Past.{steps_from}
-use Rattle.whole_run.specs.PlainMap.{finds_of_app}
-use Rattle.whole_run.specs.Settings.{Block, Setting, block_of}
-use Rattle.whole_run.specs.Steps.{frame_at}
+use Rattle.walk_laws.specs.Passed.{Op, Silent, data_of, tuple_of, State, TheVariantsMedium as Medium}
+use Rattle.walk_laws.specs.Past.{steps_from}
+use Rattle.walk_laws.specs.PlainMap.{finds_of_app}
+use Rattle.walk_laws.specs.Settings.{Block, Setting, block_of}
+use Rattle.walk_laws.specs.Steps.{frame_at}
 use Rattle.run_laws.specs.FallingReads.{falling_replies}
-use Rattle.whole_run.specs.ReadsAs.{listed_in}
+use Rattle.walk_laws.specs.ReadsAs.{listed_in}
 use Rattle.run_laws.specs.StoreFaults.{falling_walk}
 
 -- What comes of a write op where store calls fail, in its reply.

@@ -5,10 +5,10 @@ use Rattle.fault_schedule.specs.declared.fault.Crossing.TheVariants.{AdapterToTa
 use Rattle.page_pool.specs.Places.{total}
 use Rattle.range_gate.specs.Cells.{AllInPages, cells_of}
 use Rattle.range_gate.specs.Conflicts.{Conflict}
-use Rattle.whole_run.specs.Passed.{Op, Fetch, FetchPi, Fill, Overwrite, Put, Seal, Show, Wait, Write, WritePi, bytes_of, cells_touched, footprint, stored_cell, Apart, volume_len}
-use Rattle.whole_run.specs.CalmRun.{AreVolumeBlocks}
-use Rattle.whole_run.specs.Settings.{Setting, block_of, route}
-use Rattle.whole_run.specs.UnderMap.{home}
+use Rattle.walk_laws.specs.Passed.{Op, Fetch, FetchPi, Fill, Overwrite, Put, Seal, Show, Wait, Write, WritePi, bytes_of, cells_touched, footprint, stored_cell, Apart, volume_len}
+use Rattle.walk_laws.specs.CalmRun.{AreVolumeBlocks}
+use Rattle.walk_laws.specs.Settings.{Setting, block_of, route}
+use Rattle.walk_laws.specs.UnderMap.{home}
 use Rattle.pi_tuple.specs.declared.TheConstants.{TUPLE}
 
 -- Ops that don't conflict: what is asked of them, and that their moves don't either.

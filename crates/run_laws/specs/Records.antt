@@ -4,8 +4,8 @@ use Rattle.cdb_codec.specs.Decoded.{decoded}
 use Rattle.cdb_codec.specs.declared.command.Cdb.{Cdb}
 use Rattle.cdb_codec.specs.declared.command.CdbFault.{CdbFault}
 use Rattle.cdb_codec.specs.declared.command.Rw.{Rw}
-use Rattle.whole_run.specs.Passed.{LogEntry, frames_of, sent_size, request_of, Request, Read, ReadCapacity, Verify, TheVariantsWrite as Write, ActAnswer, Sent, Site, why_ended, Sense, Why, Dir, TheVariantsRead as In, TheVariantsWrite2 as Out}
-use Rattle.whole_run.specs.Settings.{Setting}
+use Rattle.walk_laws.specs.Passed.{LogEntry, frames_of, sent_size, request_of, Request, Read, ReadCapacity, Verify, TheVariantsWrite as Write, ActAnswer, Sent, Site, why_ended, Sense, Why, Dir, TheVariantsRead as In, TheVariantsWrite2 as Out}
+use Rattle.walk_laws.specs.Settings.{Setting}
 
 -- What a rig's log says of single blocks: an entry is a frame that was moved, an end is a block at which a command ended.
 

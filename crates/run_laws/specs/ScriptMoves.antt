@@ -2,10 +2,10 @@ use Rattle.std.specs.Prelude.{ℕ, suc, ◌+◌, ◌*◌, ◌/◌, Bool, true, f
 use Rattle.integrity_payload.specs.declared.payload.Owner.{Owner}
 use Rattle.integrity_payload.specs.declared.payload.Owner.TheVariants.{Block as OfBlock, App as OfApp}
 use Rattle.range_gate.specs.Cells.{in_turn}
-use Rattle.whole_run.specs.Passed.{Op, Fetch, FetchPi, Fill, Overwrite, Put, Seal, Show, Wait, Write, WritePi, Reply, Act, ActAnswer, silent, carry_in, carry_out, MovesJoined as joined, make_tuple, map_back, map_out, settle}
-use Rattle.whole_run.specs.ScriptWalk.{act_of, reply_of}
-use Rattle.whole_run.specs.Settings.{Block, Setting, route}
-use Rattle.whole_run.specs.Steps.{Alters, Reads, Seals, Sets, Shows, Step, Writes, WritesPi, steps_of}
+use Rattle.walk_laws.specs.Passed.{Op, Fetch, FetchPi, Fill, Overwrite, Put, Seal, Show, Wait, Write, WritePi, Reply, Act, ActAnswer, silent, carry_in, carry_out, MovesJoined as joined, make_tuple, map_back, map_out, settle}
+use Rattle.walk_laws.specs.ScriptWalk.{act_of, reply_of}
+use Rattle.walk_laws.specs.Settings.{Block, Setting, route}
+use Rattle.walk_laws.specs.Steps.{Alters, Reads, Seals, Sets, Shows, Step, Writes, WritesPi, steps_of}
 use Rattle.page_pool.specs.declared.TheConstants.{PAGE}
 use Rattle.pi_tuple.specs.declared.TheConstants.{TUPLE}
 

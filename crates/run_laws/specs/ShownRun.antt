@@ -4,12 +4,12 @@ use Rattle.fault_schedule.specs.Altered.{shift_of}
 use Rattle.fault_schedule.specs.declared.fault.Crossing.TheVariants.{AdapterToTarget}
 use Rattle.page_pool.specs.Places.{total}
 use Rattle.range_gate.specs.Cells.{cells_of}
-use Rattle.whole_run.specs.Passed.{Op, Fetch, FetchPi, Fill, Overwrite, Put, Seal, Show, Wait, Write, WritePi, stored_size, State, AreCells, medium_lba, target, wire_lba, place_in, volume_len, IsOn, DeviceInfo}
-use Rattle.whole_run.specs.CalmRun.{AreVolumeBlocks}
-use Rattle.whole_run.specs.Detectable.{detectable}
-use Rattle.whole_run.specs.Past.{steps_from}
-use Rattle.whole_run.specs.Settings.{Block, Setting, block_of, route}
-use Rattle.whole_run.specs.UnderMap.{IsClean, NoEscape}
+use Rattle.walk_laws.specs.Passed.{Op, Fetch, FetchPi, Fill, Overwrite, Put, Seal, Show, Wait, Write, WritePi, stored_size, State, AreCells, medium_lba, target, wire_lba, place_in, volume_len, IsOn, DeviceInfo}
+use Rattle.walk_laws.specs.CalmRun.{AreVolumeBlocks}
+use Rattle.walk_laws.specs.Detectable.{detectable}
+use Rattle.walk_laws.specs.Past.{steps_from}
+use Rattle.walk_laws.specs.Settings.{Block, Setting, block_of, route}
+use Rattle.walk_laws.specs.UnderMap.{IsClean, NoEscape}
 use Rattle.pi_tuple.specs.declared.TheConstants.{TUPLE}
 
 -- What is asked of a run with faults, so that tuples show each of them.

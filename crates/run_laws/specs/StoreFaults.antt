@@ -1,14 +1,14 @@
 use Rattle.std.specs.Prelude.{ℕ, ◌≡◌, ◌+◌, Bool, true, false, eqb, if◌then◌else◌, List, [], ◌∷◌, ◌++◌, length, ◌⊎◌, Option, Some, None, Err}
 use Rattle.page_pool.specs.Cells.{gather, scatter}
-use Rattle.whole_run.specs.Passed.{Op, data_of, tuple_of, Act, Effect, State, act, tell, ActAnswer, Device, plain, volume_len, Why, Adapter, App, Block as ByOwner, TheVariantsMedium as Medium, Refused, Short, Target}
-use Rattle.whole_run.specs.CalmRun.{AllFit, IsCalm, LiesInImage}
-use Rattle.whole_run.specs.FirstLayer.{last_accepted}
-use Rattle.whole_run.specs.Past.{Accepted, Brought, Event, Lost, Overwritten, brought_by, event_of}
-use Rattle.whole_run.specs.PlainMap.{all_pass, finds_of_app, finds_plainly}
-use Rattle.whole_run.specs.ScriptWalk.{act_of}
-use Rattle.whole_run.specs.Settings.{Block, Setting}
-use Rattle.whole_run.specs.Steps.{Alters, Reads, Seals, Sets, Shows, Step, Writes, WritesPi}
-use Rattle.whole_run.specs.UnderMap.{AreClean}
+use Rattle.walk_laws.specs.Passed.{Op, data_of, tuple_of, Act, Effect, State, act, tell, ActAnswer, Device, plain, volume_len, Why, Adapter, App, Block as ByOwner, TheVariantsMedium as Medium, Refused, Short, Target}
+use Rattle.walk_laws.specs.CalmRun.{AllFit, IsCalm, LiesInImage}
+use Rattle.walk_laws.specs.FirstLayer.{last_accepted}
+use Rattle.walk_laws.specs.Past.{Accepted, Brought, Event, Lost, Overwritten, brought_by, event_of}
+use Rattle.walk_laws.specs.PlainMap.{all_pass, finds_of_app, finds_plainly}
+use Rattle.walk_laws.specs.ScriptWalk.{act_of}
+use Rattle.walk_laws.specs.Settings.{Block, Setting}
+use Rattle.walk_laws.specs.Steps.{Alters, Reads, Seals, Sets, Shows, Step, Writes, WritesPi}
+use Rattle.walk_laws.specs.UnderMap.{AreClean}
 use Rattle.pi_tuple.specs.declared.TheConstants.{TUPLE}
 
 -- A walk in which store calls fail. Which blocks' calls fail, and what a write then leaves in its cell, is given from outside.

@@ -1,6 +1,6 @@
 use Rattle.std.specs.Prelude.{ℕ, ◌≡◌, ◌<◌, Bool, eqb, List, [], length, get_or}
-use Rattle.whole_run.specs.Passed.{stored_size, fetched_cell, stored_cell, target}
-use Rattle.whole_run.specs.Settings.{Block, Setting, route}
+use Rattle.walk_laws.specs.Passed.{stored_size, fetched_cell, stored_cell, target}
+use Rattle.walk_laws.specs.Settings.{Block, Setting, route}
 
 -- Which blocks are fine over a target.
 

@@ -2,11 +2,11 @@ use Rattle.std.specs.Prelude.{ℕ, suc, false, List, [], ◌∷◌, ◌++◌, le
 use Rattle.fault_schedule.specs.Altered.{altered}
 use Rattle.fault_schedule.specs.declared.fault.Crossing.TheVariants.{AdapterToHost, HostToAdapter}
 use Rattle.fault_schedule.specs.declared.fault.FaultLine.{FaultLine}
-use Rattle.whole_run.specs.Passed.{Op, Overwrite, Reply, Silent, Act, State, act, tell, ActAnswer, Sent, own_frame, read_block, read_by, tuple_after, write_block, write_block_of_app, written_by, Route, plain, plain_tells, Delivers, Stops, WayIn, mapped_back, received, Fails, Stores, WayOut, mapped_out, sent, Why}
-use Rattle.whole_run.specs.ScriptWalk.{act_of, reply_of}
-use Rattle.whole_run.specs.Settings.{Setting, route}
-use Rattle.whole_run.specs.Steps.{Alters, Reads, Seals, Sets, Shows, Step, Writes, WritesPi, steps_of}
-use Rattle.whole_run.specs.ReadsAs.{listed_in}
+use Rattle.walk_laws.specs.Passed.{Op, Overwrite, Reply, Silent, Act, State, act, tell, ActAnswer, Sent, own_frame, read_block, read_by, tuple_after, write_block, write_block_of_app, written_by, Route, plain, plain_tells, Delivers, Stops, WayIn, mapped_back, received, Fails, Stores, WayOut, mapped_out, sent, Why}
+use Rattle.walk_laws.specs.ScriptWalk.{act_of, reply_of}
+use Rattle.walk_laws.specs.Settings.{Setting, route}
+use Rattle.walk_laws.specs.Steps.{Alters, Reads, Seals, Sets, Shows, Step, Writes, WritesPi, steps_of}
+use Rattle.walk_laws.specs.ReadsAs.{listed_in}
 use Rattle.run_laws.specs.Records.{Moved, entry_for}
 
 -- A walk that takes the replies of writes and overwrites as they are. Nobody is asked: a listed block fails as its reply says, any other block of a write is accepted, and any other block of a read gets the frame of its entry.

@@ -1,8 +1,8 @@
 use Rattle.std.specs.Prelude.{ℕ, ◌≡◌, List, [], get_or, Option, Some, None, Result, Err}
-use Rattle.whole_run.specs.Passed.{Op, State, act, tell, Sent, told_by, plain_tells, Why, Short}
+use Rattle.walk_laws.specs.Passed.{Op, State, act, tell, Sent, told_by, plain_tells, Why, Short}
 use Rattle.fault_schedule.specs.declared.Label.{Label}
-use Rattle.whole_run.specs.ScriptWalk.{acts_from, script_replies, script_walk}
-use Rattle.whole_run.specs.Settings.{Setting}
+use Rattle.walk_laws.specs.ScriptWalk.{acts_from, script_replies, script_walk}
+use Rattle.walk_laws.specs.Settings.{Setting}
 use Rattle.run_laws.specs.Records.{Mixed, find, sents, writes_at}
 
 -- A run over any rig, by what stands on record of it.

@@ -3,9 +3,9 @@
 ghost use Rattle.std.specs.Prelude.{ℕ, ◌<◌, List, ◌∷◌, ◌++◌};
 ghost use Rattle.page_pool.specs.declared.segs.Seg.{Seg as AnySeg};
 ghost use Rattle.integrity_payload.specs.declared.payload.Owner.{Owner as AnyOwner};
-ghost use Rattle.whole_run.specs.Passed.{Op as AnyOp, State, DeviceInfo as AnyDevice};
-ghost use Rattle.whole_run.specs.Settings.{Setting};
-ghost use Rattle.whole_run.specs.ReadsAs.{ReadsRightly, read_op};
+ghost use Rattle.walk_laws.specs.Passed.{Op as AnyOp, State, DeviceInfo as AnyDevice};
+ghost use Rattle.walk_laws.specs.Settings.{Setting};
+ghost use Rattle.walk_laws.specs.ReadsAs.{ReadsRightly, read_op};
 ghost use Rattle.run_laws.specs.ShownRun.{IsShownRun};
 
 /// In type 1, with tuples passed all the way and protect field 001b, over clean devices, with no escape and with

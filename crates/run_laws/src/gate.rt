@@ -3,8 +3,8 @@
 ghost use Rattle.std.specs.Prelude.{◌≡◌, ◌+◌, ℕ, ◌<◌, ◌≤◌, false, List, ◌∷◌, ◌++◌, pos, ◌+ℤ◌};
 ghost use Rattle.fault_schedule.specs.Altered.{shift_of};
 ghost use Rattle.fault_schedule.specs.declared.fault.Crossing.TheVariants.{AdapterToTarget};
-ghost use Rattle.whole_run.specs.Passed.{Op as AnyOp, conflict, wire_lba, volume_len, DeviceInfo as AnyDevice};
-ghost use Rattle.whole_run.specs.Settings.{Setting, block_of, route};
+ghost use Rattle.walk_laws.specs.Passed.{Op as AnyOp, conflict, wire_lba, volume_len, DeviceInfo as AnyDevice};
+ghost use Rattle.walk_laws.specs.Settings.{Setting, block_of, route};
 ghost use Rattle.run_laws.specs.ShownRun.{HasBlock, HasCells, LiesOn};
 ghost use Rattle.run_laws.specs.OpsApart.{AreStoredApart, IsPlaced, IsSpread, NoneMeet, OneCellEach, OpsConflict, is_shifted};
 ghost use Rattle.run_laws.specs.ScriptMoves.{ByMoves, all_moves, blocks_of, fates_of, room_of};

@@ -1,8 +1,8 @@
 //! Moves in any order.
 
 ghost use Rattle.std.specs.Prelude.{ℕ, Bool, List, Option};
-ghost use Rattle.whole_run.specs.Passed.{Op as AnyOp, State, act, conflict, tell, ActAnswer, Leads, all_done, none_done};
-ghost use Rattle.whole_run.specs.Settings.{Block, Setting};
+ghost use Rattle.walk_laws.specs.Passed.{Op as AnyOp, State, act, conflict, tell, ActAnswer, Leads, all_done, none_done};
+ghost use Rattle.walk_laws.specs.Settings.{Block, Setting};
 ghost use Rattle.run_laws.specs.BoundRun.{AreTheWalk, IsBoundRun};
 ghost use Rattle.run_laws.specs.FallingMoves.{AreTheFallingWalk, LeavesFine, falling_moves};
 ghost use Rattle.run_laws.specs.ScriptMoves.{script_moves};

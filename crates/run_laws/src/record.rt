@@ -2,12 +2,12 @@
 
 ghost use Rattle.std.specs.Prelude.{◌≡◌, ◌<◌, ℕ, List, ◌∷◌, ◌++◌, None, get_or, length, suc};
 ghost use Rattle.std.specs.List.{AllByRecursion as Each};
-ghost use Rattle.whole_run.specs.Passed.{LogEntry, Op as AnyOp, Reply as AnyReply, Silent, State, Sent, own_cell};
+ghost use Rattle.walk_laws.specs.Passed.{LogEntry, Op as AnyOp, Reply as AnyReply, Silent, State, Sent, own_cell};
 ghost use Rattle.page_pool.specs.declared.segs.Seg.{Seg as AnySeg};
 ghost use Rattle.integrity_payload.specs.declared.payload.Owner.{Owner as AnyOwner};
-ghost use Rattle.whole_run.specs.ScriptWalk.{script_replies};
-ghost use Rattle.whole_run.specs.Settings.{Setting, block_of, route};
-ghost use Rattle.whole_run.specs.ReadsAs.{listed_in, read_op};
+ghost use Rattle.walk_laws.specs.ScriptWalk.{script_replies};
+ghost use Rattle.walk_laws.specs.Settings.{Setting, block_of, route};
+ghost use Rattle.walk_laws.specs.ReadsAs.{listed_in, read_op};
 ghost use Rattle.run_laws.specs.BackedRun.{Backed, OfRead, answered};
 ghost use Rattle.run_laws.specs.CarriedRun.{Carried};
 ghost use Rattle.run_laws.specs.EarlierWrites.{IsCounted, LogsAreEmpty, StandsAfter, accepted_in};

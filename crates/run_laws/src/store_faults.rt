@@ -4,15 +4,15 @@ ghost use Rattle.std.specs.Prelude.{◌≡◌, ◌<◌, ℕ, List, [], ◌∷◌
 ghost use Rattle.page_pool.specs.declared.segs.Seg.{Seg as AnySeg};
 ghost use Rattle.integrity_payload.specs.declared.payload.Owner.{Owner as AnyOwner};
 ghost use Rattle.integrity_payload.specs.declared.payload.Owner.TheVariants.{App};
-ghost use Rattle.whole_run.specs.Passed.{Op as AnyOp, Write, WritePi, Act, State, conflict, ActAnswer};
-ghost use Rattle.whole_run.specs.Past.{steps_from};
-ghost use Rattle.whole_run.specs.PlainMap.{finds_plainly};
-ghost use Rattle.whole_run.specs.ScriptWalk.{act_of};
-ghost use Rattle.whole_run.specs.Settings.{Block, Setting};
-ghost use Rattle.whole_run.specs.Steps.{Step};
+ghost use Rattle.walk_laws.specs.Passed.{Op as AnyOp, Write, WritePi, Act, State, conflict, ActAnswer};
+ghost use Rattle.walk_laws.specs.Past.{steps_from};
+ghost use Rattle.walk_laws.specs.PlainMap.{finds_plainly};
+ghost use Rattle.walk_laws.specs.ScriptWalk.{act_of};
+ghost use Rattle.walk_laws.specs.Settings.{Block, Setting};
+ghost use Rattle.walk_laws.specs.Steps.{Step};
 ghost use Rattle.run_laws.specs.FallingReads.{HasRoom, IsReadOrFails};
 ghost use Rattle.run_laws.specs.FallingWrites.{FailsAtMediumAlone, finds_then};
-ghost use Rattle.whole_run.specs.ReadsAs.{read_op};
+ghost use Rattle.walk_laws.specs.ReadsAs.{read_op};
 ghost use Rattle.run_laws.specs.StoreFaults.{IsFallingRun, IsServed, falling_past, falling_walk, may_fall};
 
 /// Where no fault is scheduled, but some store calls fail and leave there whatever they may: a block of a read is

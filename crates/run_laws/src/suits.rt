@@ -2,8 +2,8 @@
 
 ghost use Rattle.std.specs.Prelude.{ℕ, List, ◌≡◌, length, true, Result, IfOk};
 ghost use Rattle.fault_schedule.specs.declared.Label.{Label as AnyLabel};
-ghost use Rattle.whole_run.specs.Passed.{told_by, wire_size, Why as AnyWhy};
-ghost use Rattle.whole_run.specs.Settings.{Block, Setting, route};
+ghost use Rattle.walk_laws.specs.Passed.{told_by, wire_size, Why as AnyWhy};
+ghost use Rattle.walk_laws.specs.Settings.{Block, Setting, route};
 ghost use Rattle.run_laws.specs.BoundRun.{Suits};
 ghost use Rattle.run_laws.specs.Suited.{IsAtTarget, keeps_size};
 

@@ -1,5 +1,5 @@
 use Rattle.std.specs.Prelude.{ℕ, ◌+◌, ◌-◌, Bool, true, false, not, ◌&&◌, eqb, if◌then◌else◌, List, [], ◌∷◌, get_or, take, drop, replicate}
-use Rattle.std.specs.List.{list_all, list_any}
+use Rattle.std.specs.List.{list_all, list_any, prefix_len}
 use Rattle.pi_guard.specs.Guards.{crc}
 use Rattle.pi_guard.specs.declared.GuardKind.{GuardKind}
 use Rattle.pi_guard.specs.declared.GuardKind.TheVariants.{Crc, Ip}
@@ -103,6 +103,10 @@ is_good_line kind size faults ops line = is_shown_line kind size faults line && 
 -- Each line is a flip that is shown, none can mend a tuple or undo another, and no op overwrites a stored block.
 abbrev pub shows_by_form : GuardKind → (size : ℕ) → List FaultLine → List Op → Bool
 shows_by_form kind size faults ops = list_all (is_good_line kind size faults ops) faults && not (list_any is_overwrite ops)
+
+-- how many lines stand before the first that isn't good
+abbrev pub good_lines : GuardKind → (size : ℕ) → List FaultLine → List Op → ℕ
+good_lines kind size faults ops = prefix_len (is_good_line kind size faults ops) faults
 
 -- ---- escapes
 

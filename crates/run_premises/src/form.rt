@@ -1,10 +1,10 @@
 //! Whether the lines of a script's faults have the form under which each of them is shown.
 
-ghost use Rattle.std.specs.Prelude.{◌≡◌, ◌+◌, ◌∷◌, false, length, IfOk};
-ghost use Rattle.std.specs.List.{list_all, list_any};
+ghost use Rattle.std.specs.Prelude.{◌≡◌, ◌+◌, ◌∷◌, false, length, not, IfOk};
+ghost use Rattle.std.specs.List.{list_all, list_any, position};
 ghost use Rattle.run_laws.specs.Passed.{is_flip};
 ghost use Rattle.stack_ops.specs.Ops.{first_virt, is_overwrite};
-ghost use Rattle.run_premises.specs.Forms.{brings_tuples, escapes_none, is_good_line, is_near, is_none, is_seen, is_shown, is_shown_line, is_stored_altered, kind_at, label_of, may_mend, may_undo, op_of, shows_by_form, stores, supplies_none, virt_of};
+ghost use Rattle.run_premises.specs.Forms.{brings_tuples, escapes_none, good_lines, is_good_line, is_near, is_none, is_seen, is_shown, is_shown_line, is_stored_altered, kind_at, label_of, may_mend, may_undo, op_of, shows_by_form, stores, supplies_none, virt_of};
 
 use fault_schedule::{Crossing, FaultKind, FaultLine, FaultList, Label, Tamper};
 use pi_guard::{GuardKind, crc16};
@@ -177,6 +177,32 @@ fn are_good(
     true
 }
 
+/// How many lines stand before the first that isn't good; the bytes are room for a frame.
+fn good_lines(
+    kind: GuardKind,
+    size: usize,
+    tamper: &Tamper,
+    lines: &[FaultLine],
+    ops: &[Op],
+    frame: &mut [u8],
+) -> usize
+    requires room { length frame.old ≡ size + TUPLE }
+    requires armed { tamper.now ≡ lines.now }
+    ensures { result ≡ good_lines kind size lines.now ops.now }
+{
+    let mut rest = lines;
+    let mut good = 0;
+    while let [line, more @ ..] = rest {
+        let shown = is_shown_line(kind, size, tamper, line, frame);
+        if !shown || may_mend(ops, line) || may_undo(ops, lines, line) {
+            return good;
+        }
+        good += 1;
+        rest = more;
+    }
+    good
+}
+
 /// Whether faults are shown by their form, where the host's guard is of this kind and a block has so many bytes of data:
 /// each line is a flip that the guard at its crossing shows together with all lines of the block there; none is of a
 /// block of a `writepi` on its way to the adapter; none alters a block on its way from the medium that another alters
@@ -222,4 +248,42 @@ pub fn escapes_none(ops: &OpList) -> bool
     ensures { result ≡ escapes_none ops.now }
 {
     ops.as_slice().iter().all(|op| supplies_none(op))
+}
+
+/// How many fault lines stand before the first that lacks the form (`shows_by_form`), in the same time. Its one failure
+/// is want of memory.
+pub fn formed_lines(
+    alloc: Global,
+    kind: GuardKind,
+    block: u32,
+    faults: &FaultList,
+    ops: &OpList,
+) -> Result<usize, AllocError>
+    ensures { IfOk result (λ n. n ≡ good_lines kind block faults.now ops.now) }
+{
+    let size = block as usize;
+    let tamper = Tamper::new(faults.copy(alloc)?);
+    let mut frame = vec![in alloc; 0u8; size + TUPLE]?;
+    Ok(good_lines(
+        kind,
+        size,
+        &tamper,
+        faults.as_slice(),
+        ops.as_slice(),
+        frame.as_mut_slice(),
+    ))
+}
+
+/// The place of the first op that may supply an escape (`escapes_none`).
+pub fn first_escape(ops: &OpList) -> Option<usize>
+    ensures { result ≡ position (λ op. not (supplies_none op)) ops.now }
+{
+    ops.as_slice().iter().position(|op| !supplies_none(op))
+}
+
+/// The place of the first op that overwrites a stored block.
+pub fn first_overwrite(ops: &OpList) -> Option<usize>
+    ensures { result ≡ position is_overwrite ops.now }
+{
+    ops.as_slice().iter().position(|op| op.is_overwrite())
 }

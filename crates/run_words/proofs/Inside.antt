@@ -22,10 +22,10 @@ use Rattle.stack_ops.specs.declared.reply.Reply.{Reply}
 use Rattle.volume_table.specs.Places.{volume_len}
 use Rattle.volume_table.specs.Tables.{Table}
 use Rattle.volume_table.specs.declared.device.DeviceInfo.{DeviceInfo}
-use Rattle.whole_run.specs.ScriptWalk.{acts_of, bad_from, replies_from, reply_of, request_reply, shown_reply, whole_or_bad}
-use Rattle.whole_run.specs.Settings.{Setting}
-use Rattle.whole_run.specs.Steps.{Step, each_from, steps_of}
-use Rattle.whole_run.proofs.InSteps.{each_length}
+use Rattle.walk_laws.specs.ScriptWalk.{acts_of, bad_from, replies_from, reply_of, request_reply, shown_reply, whole_or_bad}
+use Rattle.walk_laws.specs.Settings.{Setting}
+use Rattle.walk_laws.specs.Steps.{Step, each_from, steps_of}
+use Rattle.walk_laws.proofs.InSteps.{each_length}
 use Rattle.run_command.specs.Verdict.{HasRun}
 use Rattle.run_words.specs.Explained.{WasExplained}
 use Rattle.run_words.specs.Sites.{AreInside, Guides, IsGuideOf, IsInside, first_block, sites_from, sites_of}

@@ -57,6 +57,7 @@ pub fn print_words<O: Sink, R: Rig>(
     ensures part { OnErr result (AppendedSome (words_text guide.now.sites.items guide.now.entries (drop from (R.state rig.now).log) replies.now) (O.taken out.old) (O.taken out.new)) }
     ensures cause { OnErr result (Rose (O.faults out.old) (O.faults out.new)) }
     ensures count { O.faults out.old ≤ O.faults out.new }
+    ensures handed { OnOk result (O.passed out.new ≡ O.taken out.new) }
 {
     let (sites, entries) = (guide.sites.as_slice(), guide.entries.as_slice());
     print_parts(out, sites, entries, replies, rig, from)?;
@@ -79,6 +80,7 @@ pub fn print_explained<O: Sink, R: Rig>(
         (O.taken out.old) (O.taken out.new)) }
     ensures cause { OnErr result (Rose (O.faults out.old) (O.faults out.new)) }
     ensures count { O.faults out.old ≤ O.faults out.new }
+    ensures handed { OnOk result (O.passed out.new ≡ O.taken out.new) }
 {
     print_run(out, &told.run)?;
     print_words(

@@ -8,7 +8,6 @@ ghost use Rattle.pi_tuple.specs.declared.TheConstants.{LARGEST_BLOCK};
 
 use crate::line::{ScriptLine, Spot};
 use crate::listed::{Listed, some};
-use crate::words::is_same;
 use crate::{ScriptKind, WordList, Words};
 use fault_schedule::ShortBytes;
 use script_words::{choice, signed_within};
@@ -18,10 +17,10 @@ use std::alloc::Global;
 fn wire_or_medium(word: &[u8]) -> Option<Spot>
     ensures { result ≡ wire_or_medium_in word.now }
 {
-    if is_same(word, b"wire") {
+    if word == b"wire".as_slice() {
         return Some(Spot::Wire);
     }
-    if is_same(word, b"medium") {
+    if word == b"medium".as_slice() {
         return Some(Spot::Medium);
     }
     None
@@ -40,7 +39,7 @@ fn shift_spot(words: &mut Words) -> Result<Spot, ScriptKind>
 fn any_spot(word: &[u8]) -> Option<Spot>
     ensures { result ≡ any_spot_in word.now }
 {
-    if is_same(word, b"host") {
+    if word == b"host".as_slice() {
         return Some(Spot::Host);
     }
     wire_or_medium(word)

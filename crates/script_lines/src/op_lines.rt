@@ -8,7 +8,6 @@ ghost use Rattle.pi_tuple.specs.declared.TheConstants.{LARGEST_BLOCK};
 
 use crate::fault_lines::flip;
 use crate::line::OpLine;
-use crate::words::is_same;
 use crate::{ScriptKind, Words};
 use std::alloc::Global;
 
@@ -72,7 +71,7 @@ fn app_tag(words: &mut Words) -> Result<Option<u16>, ScriptKind>
     match words.next() {
         None => Ok(None),
         Some(word) => {
-            if !is_same(word, b"app") {
+            if word != b"app".as_slice() {
                 return Err(ScriptKind::UnknownWord);
             }
             let app = words.tag()?;

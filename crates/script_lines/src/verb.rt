@@ -1,7 +1,6 @@
 //! The first words of lines.
 
 ghost use Rattle.std.specs.Prelude.{◌≡◌};
-ghost use Rattle.std.specs.Str.{bytes_eq};
 ghost use Rattle.script_lines.specs.Verbs.{comes_before, is_new_verb, page_verb_of, section_of, request_verb_of, verb_of, volume_verb_of};
 
 /// What a line begins with.
@@ -33,32 +32,26 @@ pub enum Verb {
     Wait,
 }
 
-fn is_same(a: &[u8], b: &[u8]) -> bool
-    ensures { result ≡ bytes_eq a.now b.now }
-{
-    a == b
-}
-
 /// What a line with this first word is, where any line begins so.
 pub fn verb_of(word: &[u8]) -> Option<Verb>
     ensures { result ≡ verb_of word.now }
 {
-    if is_same(word, b"dix") {
+    if word == b"dix".as_slice() {
         return Some(Verb::Dix);
     }
-    if is_same(word, b"mode") {
+    if word == b"mode".as_slice() {
         return Some(Verb::Mode);
     }
-    if is_same(word, b"limits") {
+    if word == b"limits".as_slice() {
         return Some(Verb::Limits);
     }
-    if is_same(word, b"pages") {
+    if word == b"pages".as_slice() {
         return Some(Verb::Pages);
     }
-    if is_same(word, b"block") {
+    if word == b"block".as_slice() {
         return Some(Verb::Block);
     }
-    if is_same(word, b"expect") {
+    if word == b"expect".as_slice() {
         return Some(Verb::Expect);
     }
     volume_verb_of(word)
@@ -68,22 +61,22 @@ pub fn verb_of(word: &[u8]) -> Option<Verb>
 fn volume_verb_of(word: &[u8]) -> Option<Verb>
     ensures { result ≡ volume_verb_of word.now }
 {
-    if is_same(word, b"inner") {
+    if word == b"inner".as_slice() {
         return Some(Verb::Inner);
     }
-    if is_same(word, b"linear") {
+    if word == b"linear".as_slice() {
         return Some(Verb::Linear);
     }
-    if is_same(word, b"stripe") {
+    if word == b"stripe".as_slice() {
         return Some(Verb::Stripe);
     }
-    if is_same(word, b"over") {
+    if word == b"over".as_slice() {
         return Some(Verb::Over);
     }
-    if is_same(word, b"fault") {
+    if word == b"fault".as_slice() {
         return Some(Verb::Fault);
     }
-    if is_same(word, b"shift") {
+    if word == b"shift".as_slice() {
         return Some(Verb::Shift);
     }
     page_verb_of(word)
@@ -93,22 +86,22 @@ fn volume_verb_of(word: &[u8]) -> Option<Verb>
 fn page_verb_of(word: &[u8]) -> Option<Verb>
     ensures { result ≡ page_verb_of word.now }
 {
-    if is_same(word, b"schedule") {
+    if word == b"schedule".as_slice() {
         return Some(Verb::Schedule);
     }
-    if is_same(word, b"begin") {
+    if word == b"begin".as_slice() {
         return Some(Verb::Begin);
     }
-    if is_same(word, b"fill") {
+    if word == b"fill".as_slice() {
         return Some(Verb::Fill);
     }
-    if is_same(word, b"put") {
+    if word == b"put".as_slice() {
         return Some(Verb::Put);
     }
-    if is_same(word, b"show") {
+    if word == b"show".as_slice() {
         return Some(Verb::Show);
     }
-    if is_same(word, b"seal") {
+    if word == b"seal".as_slice() {
         return Some(Verb::Seal);
     }
     request_verb_of(word)
@@ -118,22 +111,22 @@ fn page_verb_of(word: &[u8]) -> Option<Verb>
 fn request_verb_of(word: &[u8]) -> Option<Verb>
     ensures { result ≡ request_verb_of word.now }
 {
-    if is_same(word, b"write") {
+    if word == b"write".as_slice() {
         return Some(Verb::Write);
     }
-    if is_same(word, b"read") {
+    if word == b"read".as_slice() {
         return Some(Verb::Read);
     }
-    if is_same(word, b"writepi") {
+    if word == b"writepi".as_slice() {
         return Some(Verb::WritePi);
     }
-    if is_same(word, b"readpi") {
+    if word == b"readpi".as_slice() {
         return Some(Verb::ReadPi);
     }
-    if is_same(word, b"overwrite") {
+    if word == b"overwrite".as_slice() {
         return Some(Verb::Overwrite);
     }
-    if is_same(word, b"wait") {
+    if word == b"wait".as_slice() {
         return Some(Verb::Wait);
     }
     None

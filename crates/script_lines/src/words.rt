@@ -1,7 +1,6 @@
 //! The words of a line, one after another.
 
 ghost use Rattle.std.specs.Prelude.{◌≡◌, ◌∷◌, ◌≤◌, [], IfErr, IfNone, IfOk, IfSome, OnOk};
-ghost use Rattle.std.specs.Str.{bytes_eq};
 ghost use Rattle.script_lines.specs.declared.kind.ScriptKind.{ScriptKind};
 ghost use Rattle.script_lines.specs.Reading.{HasMore, Reads, ReadsUnless, either, fixed, value};
 ghost use Rattle.script_words.specs.Cuts.{words_of};
@@ -56,12 +55,6 @@ impl<'a> Words<'a> {
     }
 }
 
-pub(crate) fn is_same(a: &[u8], b: &[u8]) -> bool
-    ensures { result ≡ bytes_eq a.now b.now }
-{
-    a == b
-}
-
 impl<'a> Words<'a> {
     /// The next word, which has to be there.
     pub(crate) fn word(&mut self) -> Result<&'a [u8], ScriptKind>
@@ -79,7 +72,7 @@ impl<'a> Words<'a> {
         ensures found { OnOk result (fixed text.now self.old ≡ Ok self.new) }
         ensures fault { IfErr result (λ k. fixed text.now self.old ≡ Err k) }
     {
-        if is_same(self.word()?, text) {
+        if self.word()? == text {
             Ok(())
         } else {
             Err(ScriptKind::UnknownWord)
@@ -91,10 +84,10 @@ impl<'a> Words<'a> {
         ensures { Reads (either first.now second.now self.old) result self.new }
     {
         let word = self.word()?;
-        if is_same(word, first) {
+        if word == first {
             return Ok(true);
         }
-        if is_same(word, second) {
+        if word == second {
             return Ok(false);
         }
         Err(ScriptKind::UnknownWord)

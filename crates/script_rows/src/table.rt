@@ -11,7 +11,7 @@ use volume_table::DeviceInfo;
 
 /// What the rows stand on.
 #[derive(Drop)]
-pub(crate) struct Table {
+pub struct Table {
     /// What stands before a row's text, and behind its line.
     front: Vec<u8>,
     tail: Vec<u8>,
@@ -48,7 +48,8 @@ fn device_of(words: &str) -> DeviceInfo {
 }
 
 impl Table {
-    pub(crate) fn new(alloc: Global) -> Table {
+    /// Of no lines.
+    pub fn new(alloc: Global) -> Table {
         Table {
             front: Vec::new(alloc),
             tail: Vec::new(alloc),

@@ -13,20 +13,20 @@ use Rattle.target_answer.specs.Target.{Stored}
 use Rattle.stack_core.specs.Passed.{AreAtUnits, Ground, IsSealed, pages_from, requests_from, io_at, op_in, shifted_by, Setting}
 use Rattle.volume_table.specs.Faults.{device}
 use Rattle.volume_table.specs.Places.{place_in}
-use Rattle.script_ground.proofs.AtUnits.{lies-at-units}
+use Rattle.script_run_laws.proofs.AtUnits.{lies-at-units}
 use Rattle.target_answer.specs.declared.units.UnitSpec.{UnitSpec}
 use Rattle.script_text.specs.Passed.{Op, Silent}
 use Rattle.volume_table.specs.declared.device.DeviceInfo.{DeviceInfo}
 use Rattle.volume_table.specs.Tables.{MadeFor, Table}
 use Rattle.dix_adapter.specs.Passed.{target}
-use Rattle.script_ground.specs.Passed.{fates, info_of}
+use Rattle.script_run_laws.specs.Passed.{fates, info_of}
 use Rattle.script_text.specs.declared.script.Script.{Script}
 use Rattle.script_text.specs.Bindings.{binding_fault}
-use Rattle.script_ground.specs.Bound.{IsSettingOf}
-use Rattle.script_ground.specs.SuitsStack.{SuitsStack}
-use Rattle.script_ground.specs.Units.{all_blocks}
-use Rattle.script_ground.proofs.Standing.{seals-whole, stands-on-ground}
-use Rattle.script_ground.proofs.Units.{over-units}
+use Rattle.script_run_laws.specs.Bound.{IsSettingOf}
+use Rattle.script_run_laws.specs.SuitsStack.{SuitsStack}
+use Rattle.script_run_laws.specs.Units.{all_blocks}
+use Rattle.script_run_laws.proofs.Standing.{seals-whole, stands-on-ground}
+use Rattle.script_run_laws.proofs.Units.{over-units}
 use Rattle.stack_core.specs.declared.stack.Stack.{Stack}
 use Rattle.stack_core.specs.NewStacks.{IsSetUp}
 use Rattle.stack_core.specs.Walking.{IsOver, NoneFailed, Opens, SizesFit, WalksAtFirst, WalksFallingAtFirst, WalksToldAtFirst}

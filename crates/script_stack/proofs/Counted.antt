@@ -2,7 +2,7 @@
 use Rattle.std.proofs.Common.{◌≡◌, inl, ℕ, zero, suc, replicate, refl, ap, ◌∙◌, arith}
 use Rattle.bio_core.specs.declared.fate.Fate.TheVariants.{Untouched}
 use Rattle.script_text.specs.Passed.{Silent}
-use Rattle.stack_view.specs.View.{start}
+use Rattle.stack_laws.specs.View.{start}
 use Rattle.stack_core.specs.Passed.{Holds}
 use Rattle.stack_core.specs.declared.stack.Stack.{Stack}
 use Rattle.stack_core.specs.Mediums.{HasCounted, medium_replies, mediums}

@@ -12,7 +12,7 @@ use Rattle.target_answer.specs.Target.{Stored}
 use Rattle.rig_api.specs.Log.{LogEntry}
 use Rattle.rig_api.specs.Telling.{IsStanding, Standing, specs_of, units_told}
 use Rattle.rig_api.specs.State.{RigState}
-use Rattle.script_ground.specs.Passed.{info_of}
+use Rattle.script_run_laws.specs.Passed.{info_of}
 use Rattle.volume_table.specs.declared.device.DeviceInfo.{DeviceInfo}
 use Rattle.volume_table.specs.Tables.{MadeFor, Table}
 use Rattle.dix_adapter.specs.Ways.{blocks_told, shapes_of}
@@ -20,14 +20,14 @@ use Rattle.dix_adapter.specs.Passed.{State}
 use Rattle.stack_core.specs.Passed.{Setting, Holds, AreAnswersTo}
 use Rattle.script_text.specs.Bindings.{binding_fault}
 use Rattle.script_text.specs.declared.script.Script.{Script}
-use Rattle.script_ground.specs.SuitsStack.{SuitsStack}
-use Rattle.script_ground.specs.Units.{AreStored}
+use Rattle.script_run_laws.specs.SuitsStack.{SuitsStack}
+use Rattle.script_run_laws.specs.Units.{AreStored}
 use Rattle.stack_core.specs.Mediums.{HasCounted, RoseBy, medium_lines}
 use Rattle.stack_core.specs.Stacks.{GoesOn, IsFinished, IsStack, StackStays, plan_in}
 use Rattle.stack_core.specs.Walking.{NoneFailed, Walks, WalksFalling}
 use Rattle.stack_core.specs.declared.stack.Stack.{Stack}
 use Rattle.stack_core.proofs.ToldOps.{is_told}
-use Rattle.stack_view.specs.View.{start}
+use Rattle.stack_laws.specs.View.{start}
 use Rattle.script_stack.specs.Followed.{BeginsTold, BeginsWalks, HasWalked, IsBackedBy, SizesAre, begun_of, failed_in, none_fails, setting_of, unit_of, BeginsFalling, HasFallen, KnownBlocks, NoMediumLine}
 use Rattle.stack_core.specs.Going.{Went}
 use Rattle.script_stack.specs.Sends.{IsPlanFor, SendsBy, SendsFor, by_words, entries_of}

@@ -2,7 +2,7 @@
 use Rattle.std.proofs.Common.{◌≡◌, ℕ, List, ap, subst, ◌∙◌}
 use Rattle.script_text.specs.Passed.{Op, Reply}
 use Rattle.dix_adapter.specs.Passed.{State, Sent, hidden}
-use Rattle.script_ground.specs.Passed.{falling_replies, falling_walk, IsRecordOfRun}
+use Rattle.script_run_laws.specs.Passed.{falling_replies, falling_walk, IsRecordOfRun}
 use Rattle.stack_core.specs.Passed.{EndsAsFalling, of_blocks, over_falls, Setting, steps_from}
 
 pub hidden-same : (m : Setting) (n : ℕ) (ops : List Op) (opening other : State) (pages : List ℕ) (blocks : List (List ℕ)) (replies : List Reply) (es : List Sent) → hidden n opening ≡ hidden n other → EndsAsFalling m n ops opening pages blocks replies es → EndsAsFalling m n ops other pages blocks replies es

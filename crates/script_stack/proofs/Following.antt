@@ -11,14 +11,14 @@ use Rattle.target_answer.specs.Target.{Stored, shape_of}
 use Rattle.rig_api.specs.Head.{units_of}
 use Rattle.rig_api.specs.Log.{LogEntry}
 use Rattle.rig_api.specs.Telling.{IsStanding, Standing, spec_at, specs_of, unit_at, units_told}
-use Rattle.script_ground.specs.Passed.{LookAnswer, HasFound, all_told, DiscoveryTold as told, with_info}
-use Rattle.script_ground.proofs.Passed.{told_size}
+use Rattle.script_run_laws.specs.Passed.{LookAnswer, HasFound, all_told, DiscoveryTold as told, with_info}
+use Rattle.script_run_laws.proofs.Passed.{told_size}
 use Rattle.volume_table.specs.declared.device.DeviceInfo.{DeviceInfo}
 use Rattle.volume_table.specs.Faults.{device}
 use Rattle.dix_adapter.specs.Ways.{shapes_of}
 use Rattle.dix_adapter.proofs.Runs.{AllLong}
 use Rattle.dix_adapter.proofs.Units.{unit-stands}
-use Rattle.script_ground.specs.Units.{AreStored}
+use Rattle.script_run_laws.specs.Units.{AreStored}
 use Rattle.script_stack.specs.Followed.{SizesAre}
 
 -- ---- what was found has the sizes that the head tells

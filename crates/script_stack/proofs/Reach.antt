@@ -7,7 +7,7 @@ use Rattle.pi_tuple.specs.declared.checks.PiType.{PiType}
 use Rattle.rig_api.specs.declared.change.Change.{Change}
 use Rattle.rig_api.specs.declared.change.Change.TheVariants.{Copy, Flip}
 use Rattle.rig_api.specs.Telling.{Standing, can_change, has_address, no_spec, source_of, spec_at, specs_of}
-use Rattle.script_ground.specs.Passed.{info_of}
+use Rattle.script_run_laws.specs.Passed.{info_of}
 use Rattle.target_answer.specs.Frames.{stored_size}
 use Rattle.target_answer.specs.declared.units.UnitSpec.{UnitSpec}
 use Rattle.script_lines.specs.declared.kind.ScriptKind.TheVariants.{BadFault}
@@ -21,9 +21,9 @@ use Rattle.stack_core.specs.declared.stack.Stack.{Stack}
 use Rattle.stack_core.specs.Doing.{CanReach}
 use Rattle.stack_core.specs.Passed.{op_in as op_at}
 use Rattle.stack_core.specs.Stacks.{Reaches}
-use Rattle.script_ground.proofs.Ops.{no-fault}
-use Rattle.script_ground.proofs.Standing.{bound}
-use Rattle.script_ground.proofs.Addresses.{same-type}
+use Rattle.script_run_laws.proofs.Ops.{no-fault}
+use Rattle.script_run_laws.proofs.Standing.{bound}
+use Rattle.script_run_laws.proofs.Addresses.{same-type}
 
 get-there : (ds : List DeviceInfo) (i : ℕ) (d : DeviceInfo) → slice_get ds i ≡ Some d → i < length ds
 get-there [] i d h = absurd cc

@@ -8,7 +8,7 @@ use Rattle.integrity_payload.specs.Payloads.{AreWholeTuples}
 use Rattle.dix_adapter.specs.Groups as Carry
 use Rattle.rig_api.specs.declared.change.Change.TheVariants.{Copy, Flip}
 use Rattle.script_text.specs.Passed.{Op, Fetch, FetchPi, Fill, Overwrite, Put, Seal, Show, Wait, Write, WritePi}
-use Rattle.stack_view.specs.Runs.{blocks_of_requests}
+use Rattle.stack_laws.specs.Runs.{blocks_of_requests}
 use Rattle.volume_table.specs.declared.device.DeviceInfo.{DeviceInfo}
 use Rattle.volume_table.specs.Places.{volume_len}
 use Rattle.volume_table.specs.Tables.{MadeFor, Table}
@@ -17,17 +17,17 @@ use Rattle.script_text.specs.Bindings.{binding_fault, op_fault}
 use Rattle.script_text.specs.Ops.{both_fault, data_fault}
 use Rattle.script_text.specs.Rules.{request_blocks}
 use Rattle.script_text.specs.Segments.{are_whole_tuples, is_inside, is_whole}
-use Rattle.script_ground.specs.Passed.{IsProtect, blocks_of, line_of}
-use Rattle.script_ground.proofs.Passed.{no_fault, found_inside}
+use Rattle.script_run_laws.specs.Passed.{IsProtect, blocks_of, line_of}
+use Rattle.script_run_laws.proofs.Passed.{no_fault, found_inside}
 use Rattle.stack_core.specs.Passed.{first_page, page_after, request_of, requests_from, op_in as op_at, request_in, AreTuples, CanStart, IsData, IsOp}
 use Rattle.stack_core.specs.Stacks.{AreUniform}
 use Rattle.stack_core.proofs.Opening.{uniform}
-use Rattle.script_ground.specs.SuitsStack.{IsStackOp, SuitsStack}
-use Rattle.script_ground.proofs.Bodies.{HaveTuples, IsBody, alone-of, both-of}
-use Rattle.script_ground.proofs.Ops.{in-range, no-fault, rules-at}
-use Rattle.script_ground.proofs.Segments.{all-lie, lies}
-use Rattle.script_ground.proofs.Standing.{bound}
-use Rattle.script_ground.proofs.BoundRuns.{has-tuples}
+use Rattle.script_run_laws.specs.SuitsStack.{IsStackOp, SuitsStack}
+use Rattle.script_run_laws.proofs.Bodies.{HaveTuples, IsBody, alone-of, both-of}
+use Rattle.script_run_laws.proofs.Ops.{in-range, no-fault, rules-at}
+use Rattle.script_run_laws.proofs.Segments.{all-lie, lies}
+use Rattle.script_run_laws.proofs.Standing.{bound}
+use Rattle.script_run_laws.proofs.BoundRuns.{has-tuples}
 use Rattle.script_stack.proofs.Shared.{AreOnce, are-once}
 
 -- ---- data and tuples of a request

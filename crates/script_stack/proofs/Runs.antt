@@ -6,7 +6,7 @@ use Rattle.script_text.specs.Passed.{Op}
 use Rattle.volume_table.specs.declared.device.DeviceInfo.{DeviceInfo}
 use Rattle.volume_table.specs.Tables.{Table}
 use Rattle.dix_adapter.specs.Passed.{hidden}
-use Rattle.script_ground.specs.Passed.{fates, rooms, info_of}
+use Rattle.script_run_laws.specs.Passed.{fates, rooms, info_of}
 use Rattle.script_text.specs.declared.script.Script.{Script}
 use Rattle.stack_core.specs.Passed.{page_after, pages_from, Setting}
 use Rattle.stack_core.proofs.Passed.{pages-grow}

@@ -7,16 +7,16 @@ use Rattle.rig_api.specs.Telling.{Standing}
 use Rattle.dix_adapter.specs.Passed.{State, Mode}
 use Rattle.dix_adapter.specs.Groups.{mode_of}
 use Rattle.pi_tuple.specs.declared.checks.PiType.{PiType}
-use Rattle.script_ground.proofs.Passed.{each_both}
+use Rattle.script_run_laws.proofs.Passed.{each_both}
 use Rattle.bio_core.specs.declared.request.Io.{Io}
 use Rattle.merge_queue.specs.declared.limits.Limits.{Limits}
 use Rattle.script_text.specs.Passed.{Op}
-use Rattle.stack_view.specs.Comes.{entry_at}
-use Rattle.stack_view.specs.Measure.{greatest_pieces}
-use Rattle.stack_view.specs.Plan.{Plan}
-use Rattle.stack_view.specs.Runs.{ScheduleEntry, SentCommand, blocks_of_requests, sends_of}
-use Rattle.stack_view.specs.View.{start}
-use Rattle.stack_view.proofs.Runs.{calm-sends}
+use Rattle.stack_laws.specs.Comes.{entry_at}
+use Rattle.stack_laws.specs.Measure.{greatest_pieces}
+use Rattle.stack_laws.specs.Plan.{Plan}
+use Rattle.stack_laws.specs.Runs.{ScheduleEntry, SentCommand, blocks_of_requests, sends_of}
+use Rattle.stack_laws.specs.View.{start}
+use Rattle.stack_laws.proofs.Runs.{calm-sends}
 use Rattle.volume_table.specs.Tables.{Table}
 use Rattle.script_text.specs.declared.script.Script.{Script}
 use Rattle.stack_core.specs.declared.sheet.Sheet.{Sheet}

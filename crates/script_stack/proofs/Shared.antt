@@ -4,7 +4,7 @@ use Rattle.page_pool.specs.declared.segs.Seg.{Seg}
 use Rattle.page_pool.specs.Places.{Apart, NoneTwice, places_in}
 use Rattle.page_pool.proofs.Placing.{once-apart, once-back, once-front}
 use Rattle.script_text.specs.Segments.{do_overlap}
-use Rattle.script_ground.proofs.Segments.{once-both}
+use Rattle.script_run_laws.proofs.Segments.{once-both}
 
 -- data and tuples that don't overlap
 pub record AreOnce (body tuples : List Seg) : Type 0 where

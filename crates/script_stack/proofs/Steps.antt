@@ -1,16 +1,16 @@
 -- How many steps a stack takes.
 use Rattle.std.proofs.Common.{◌≡◌, ◌<◌, ◌≤◌, ℕ, suc, ◌+◌, List, [], ◌∷◌, length, refl, arith}
 use Rattle.rig_api.specs.Log.{HasRoom, Room}
-use Rattle.stack_view.specs.Plan.{Plan}
-use Rattle.stack_view.specs.Room.{exchanges_left, frames_left}
-use Rattle.stack_view.specs.Runs.{blocks_of_requests, most_steps}
-use Rattle.stack_view.specs.Steps.{Step, chosen, enabled, step}
-use Rattle.stack_view.specs.View.{View, start}
+use Rattle.stack_laws.specs.Plan.{Plan}
+use Rattle.stack_laws.specs.Room.{exchanges_left, frames_left}
+use Rattle.stack_laws.specs.Runs.{blocks_of_requests, most_steps}
+use Rattle.stack_laws.specs.Steps.{Step, chosen, enabled, step}
+use Rattle.stack_laws.specs.View.{View, start}
 use Rattle.stack_core.specs.Passed.{Machine, Holds, Works}
 use Rattle.rig_api.specs.Telling.{Standing, greatest_size}
-use Rattle.stack_view.proofs.Capacity.{few-unsettled}
-use Rattle.stack_view.proofs.Room.{accounted-start}
-use Rattle.stack_view.proofs.Starts.{starts}
+use Rattle.stack_laws.proofs.Capacity.{few-unsettled}
+use Rattle.stack_laws.proofs.Room.{accounted-start}
+use Rattle.stack_laws.proofs.Starts.{starts}
 use Rattle.stack_core.specs.declared.stack.Stack.{Stack}
 use Rattle.stack_core.specs.Stacks.{HasSpare, HasStep, Steps, plan_in}
 use Rattle.stack_core.proofs.Passed.{fewer}

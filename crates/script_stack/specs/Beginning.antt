@@ -2,13 +2,13 @@
 use Rattle.std.specs.Prelude.{◌≡◌, ℕ, ◌+◌, ◌≤◌, Bool, true, List, length, map, None}
 use Rattle.rig_api.specs.Log.{HasRoom, Room}
 use Rattle.rig_api.specs.Telling.{Standing, greatest_size, specs_of}
-use Rattle.script_ground.specs.Passed.{info_of}
+use Rattle.script_run_laws.specs.Passed.{info_of}
 use Rattle.volume_table.specs.declared.device.DeviceInfo.{DeviceInfo}
 use Rattle.volume_table.specs.Tables.{MadeFor, Table}
-use Rattle.stack_view.specs.Runs.{blocks_of_requests}
+use Rattle.stack_laws.specs.Runs.{blocks_of_requests}
 use Rattle.script_text.specs.declared.script.Script.{Script}
 use Rattle.script_text.specs.Bindings.{binding_fault}
-use Rattle.script_ground.specs.SuitsStack.{SuitsStack}
+use Rattle.script_run_laws.specs.SuitsStack.{SuitsStack}
 use Rattle.stack_core.specs.declared.setup.Setup.{Setup}
 use Rattle.stack_core.specs.declared.stack.Stack.{Stack}
 use Rattle.stack_core.specs.Mediums.{HasCounted}

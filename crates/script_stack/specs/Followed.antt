@@ -14,8 +14,8 @@ use Rattle.dix_adapter.specs.Groups.{mode_of}
 use Rattle.dix_adapter.specs.Ways.{blocks_told, cell_in, shapes_of}
 use Rattle.dix_adapter.specs.Passed.{State, target}
 use Rattle.script_text.specs.declared.script.Script.{Script}
-use Rattle.script_ground.specs.Passed.{Backed, Carried, recorded, fates, info_of}
-use Rattle.script_ground.specs.Units.{all_blocks}
+use Rattle.script_run_laws.specs.Passed.{Backed, Carried, recorded, fates, info_of}
+use Rattle.script_run_laws.specs.Units.{all_blocks}
 use Rattle.stack_core.specs.Mediums.{RoseBy, medium_lines}
 use Rattle.stack_core.specs.Passed.{pages_from, requests_from, script_replies, script_walk, Setting}
 use Rattle.stack_core.specs.declared.stack.Stack.{Stack}

@@ -3,9 +3,9 @@ use Rattle.std.specs.Prelude.{◌≡◌, ◌≤◌, ℕ, List, [], ◌∷◌, �
 use Rattle.std.specs.List.{All, AllByRecursion as Each}
 use Rattle.rig_api.specs.Log.{LogEntry as Record}
 use Rattle.script_text.specs.Passed.{Reply}
-use Rattle.stack_view.specs.Measure.{greatest_pieces}
-use Rattle.stack_view.specs.Plan.{Plan}
-use Rattle.stack_view.specs.Runs.{ScheduleEntry, blocks_of_requests, sends_of}
+use Rattle.stack_laws.specs.Measure.{greatest_pieces}
+use Rattle.stack_laws.specs.Plan.{Plan}
+use Rattle.stack_laws.specs.Runs.{ScheduleEntry, blocks_of_requests, sends_of}
 use Rattle.volume_table.specs.Tables.{Table}
 use Rattle.script_text.specs.declared.script.Script.{Script}
 use Rattle.dix_adapter.specs.Groups.{mode_of}

@@ -5,14 +5,14 @@ ghost use Rattle.fault_schedule.specs.declared.fault.FaultLine.{FaultLine};
 ghost use Rattle.target_answer.specs.Target.{Stored};
 ghost use Rattle.rig_api.specs.Log.{LogEntry};
 ghost use Rattle.rig_api.specs.Telling.{Standing};
-ghost use Rattle.script_ground.specs.Passed.{info_of};
+ghost use Rattle.script_run_laws.specs.Passed.{info_of};
 ghost use Rattle.volume_table.specs.declared.device.DeviceInfo.{DeviceInfo as AnyDevice};
 ghost use Rattle.volume_table.specs.Tables.{MadeFor, Table};
 ghost use Rattle.dix_adapter.specs.Ways.{blocks_told, shapes_of};
 ghost use Rattle.script_text.specs.declared.script.Script.{Script as AnyScript};
 ghost use Rattle.script_text.specs.Bindings.{binding_fault};
-ghost use Rattle.script_ground.specs.SuitsStack.{SuitsStack};
-ghost use Rattle.script_ground.specs.Units.{AreStored};
+ghost use Rattle.script_run_laws.specs.SuitsStack.{SuitsStack};
+ghost use Rattle.script_run_laws.specs.Units.{AreStored};
 ghost use Rattle.stack_core.specs.declared.stack.Stack.{Stack as AnyStack};
 ghost use Rattle.stack_core.specs.Stacks.{IsFinished, IsStack};
 ghost use Rattle.stack_core.specs.Mediums.{medium_lines};
@@ -20,7 +20,7 @@ ghost use Rattle.stack_core.specs.Walking.{Walks, WalksFalling};
 ghost use Rattle.script_stack.specs.Followed.{HasFallen, HasWalked, IsBackedBy, begun_of, failed_in, none_fails, setting_of, unit_of};
 ghost use Rattle.page_pool.specs.declared.TheConstants.{PAGE};
 
-use script_ground::{
+use script_run_laws::{
     a_bound_script_is_bound_at_its_target, a_bound_script_is_bound_over_its_record,
     a_bound_script_takes_any_block_at_its_target,
 };

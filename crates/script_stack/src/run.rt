@@ -2,7 +2,7 @@
 
 ghost use Rattle.std.specs.Prelude.{◌≡◌, ◌≤◌, List, length};
 ghost use Rattle.rig_api.specs.State.{Stays as RigStays};
-ghost use Rattle.stack_view.specs.Runs.{ScheduleEntry};
+ghost use Rattle.stack_laws.specs.Runs.{ScheduleEntry};
 ghost use Rattle.stack_core.specs.Going.{StandsOver, Went};
 ghost use Rattle.stack_core.specs.Stacks.{GoesOn, HasStep, IsFinished, StackStays, plan_in};
 ghost use Rattle.script_stack.specs.Sends.{SendsBy, entries_of};

@@ -1,7 +1,6 @@
 //! The reader.
 
 ghost use Rattle.std.specs.Prelude.{◌≡◌, ◌∷◌};
-ghost use Rattle.std.specs.Str.{bytes_eq};
 ghost use Rattle.script_lines.specs.Verbs.{verb_of};
 ghost use Rattle.script_text.specs.Drafts.{drafted};
 ghost use Rattle.script_text.specs.Language.{Answers, Takes, at_end, end_fault, header_taken, is_behind, is_comment, line_taken, script_in, text_taken, verb_taken, version_of, words_taken};
@@ -14,12 +13,6 @@ use script_lines::{ScriptLine, Section, Verb, Words, line_of, verb_of};
 use script_words::{is_plain, next_line};
 use source_text::{LONGEST_LINE, MOST_BYTES};
 use std::alloc::Global;
-
-fn is_same(a: &[u8], b: &[u8]) -> bool
-    ensures { result ≡ bytes_eq a.now b.now }
-{
-    a == b
-}
 
 /// The first rule that a line breaks, of those that ask nothing of its segments.
 fn broken_rule(draft: &Draft, line: &ScriptLine) -> Option<ScriptKind>
@@ -57,13 +50,13 @@ fn version_of(first: &[u8], words: &mut Words) -> Option<bool>
     if words.next().is_some() {
         return None;
     }
-    if !is_same(first, b"dix") {
+    if first != b"dix".as_slice() {
         return None;
     }
-    if is_same(version, b"1") {
+    if version == b"1".as_slice() {
         return Some(false);
     }
-    if is_same(version, b"2") {
+    if version == b"2".as_slice() {
         return Some(true);
     }
     None

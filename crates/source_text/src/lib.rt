@@ -25,8 +25,8 @@ pub enum Unread {
     TooMany,
 }
 
-/// Reads the source to its end, or to one byte more than the 4,194,304 that a text may have. `Failed`
-/// comes only where the source's count of faults rose. Whatever is answered, no more is taken than
+/// Reads the source to its end, or to one byte more than the 4,194,304 that a text may have. `Failed` comes only
+/// where the source's count of faults rose; where a text comes it stayed. Whatever is answered, no more is taken than
 /// that one byte more, and where the source failed no more than a text may have.
 pub fn read_all<S: Source>(alloc: Global, source: &mut S) -> Result<Vec<u8>, Unread>
     ensures whole { IfOk result (λ v. IsWhole v.items (S.left source.old) (S.left source.new)) }
@@ -34,6 +34,7 @@ pub fn read_all<S: Source>(alloc: Global, source: &mut S) -> Result<Vec<u8>, Unr
     ensures failed { IsErrOf result Unread.Failed → Rose (S.faults source.old) (S.faults source.new) }
     ensures before { IsErrOf result Unread.Failed → TookAtMost most_bytes (S.left source.old) (S.left source.new) }
     ensures most { TookAtMost (most_bytes + 1) (S.left source.old) (S.left source.new) }
+    ensures calm { IfOk result (λ _. S.faults source.new ≡ S.faults source.old) }
     ensures count { S.faults source.old ≤ S.faults source.new }
 {
     let mut all = Vec::new(alloc);

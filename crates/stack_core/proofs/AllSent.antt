@@ -5,14 +5,14 @@ use Rattle.std.proofs.lemmas.Bool.{cases_Bool, false≢true}
 use Rattle.bio_core.specs.declared.fate.Fate.{Fate}
 use Rattle.dix_adapter.specs.Carried.{any_fails}
 use Rattle.rig_api.specs.Log.{LogEntry as Record}
-use Rattle.stack_view.specs.Comes.{AllGood}
-use Rattle.stack_view.specs.Plan.{Plan}
-use Rattle.stack_view.specs.Runs.{ScheduleEntry, blocks_of_requests, sends_of, sent}
-use Rattle.stack_view.specs.Sound.{AllEnded, OnDevices}
-use Rattle.stack_view.specs.Steps.{Complete, enabled}
-use Rattle.stack_view.specs.View.{Command, OpView, View, command_at, no_command}
-use Rattle.stack_view.proofs.Comes.{comes-end, comes-few}
-use Rattle.stack_view.proofs.Enabled.{none-can, stuck}
+use Rattle.stack_laws.specs.Comes.{AllGood}
+use Rattle.stack_laws.specs.Plan.{Plan}
+use Rattle.stack_laws.specs.Runs.{ScheduleEntry, blocks_of_requests, sends_of, sent}
+use Rattle.stack_laws.specs.Sound.{AllEnded, OnDevices}
+use Rattle.stack_laws.specs.Steps.{Complete, enabled}
+use Rattle.stack_laws.specs.View.{Command, OpView, View, command_at, no_command}
+use Rattle.stack_laws.proofs.Comes.{comes-end, comes-few}
+use Rattle.stack_laws.proofs.Enabled.{none-can, stuck}
 use Rattle.stack_steps.specs.declared.machine.Machine.{Machine}
 use Rattle.stack_core.specs.OnRecord.{AreRecords, AreTraced, HasSentBy, IsKeptBad}
 use Rattle.stack_core.proofs.Recording.{NoneFails, each_recorded, few_records}

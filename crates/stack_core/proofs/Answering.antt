@@ -21,8 +21,8 @@ use Rattle.target_answer.specs.Target.{Stored}
 use Rattle.target_answer.specs.declared.units.UnitSpec.{UnitSpec}
 use Rattle.rig_api.specs.State.{RigState}
 use Rattle.rig_api.specs.Telling.{spec_at, unit_at}
-use Rattle.answered_record.specs.Answered.{Answers, AreFrames, FramesBy, FramesUnder, room_by, room_of, room_under}
-use Rattle.answered_record.proofs.Exchange.{exchange_puts}
+use Rattle.record_laws.specs.Answered.{Answers, AreFrames, FramesBy, FramesUnder, room_by, room_of, room_under}
+use Rattle.record_laws.proofs.Exchange.{exchange_puts}
 use Rattle.dix_adapter.specs.declared.adapter.Adapter.{Adapter}
 use Rattle.dix_adapter.specs.Carried.{Fetched, WasSent, any_bad, command_for, command_of, frame_len, out_of, sends, way_of}
 use Rattle.dix_adapter.specs.Groups.{IsCarriedGroup, IsProtect, blocks_in, first_of, label_of, size}
@@ -36,7 +36,7 @@ use Rattle.stack_ops.specs.declared.op.Op.{Op}
 use Rattle.stack_ops.specs.declared.op.Op.TheVariants.{Fetch, FetchPi, Fill, Overwrite, Put, Seal, Show, Wait, Write as WriteOp, WritePi}
 use Rattle.stack_ops.specs.declared.reply.Reply.{Reply}
 use Rattle.stack_ops.specs.Ops.{is_overwrite}
-use Rattle.run_follows.specs.Sheets.{op_in}
+use Rattle.stack_walk_laws.specs.Sheets.{op_in}
 use Rattle.stack_core.specs.Walking.{IsKnown, units_left}
 
 -- ---- a group's command, as its unit decodes it

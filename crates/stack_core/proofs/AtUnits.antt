@@ -13,16 +13,16 @@ use Rattle.fault_schedule.specs.declared.fault.Crossing.TheVariants.{AdapterToTa
 use Rattle.stack_ops.specs.declared.op.Op.{Op}
 use Rattle.stack_ops.specs.declared.op.Op.TheVariants.{Fetch, FetchPi, Fill, Overwrite, Put, Seal, Show, Wait, Write, WritePi}
 use Rattle.stack_ops.specs.Footprints.{footprint}
-use Rattle.stack_view.specs.Blocks.{blocks, place_of, run_of, times}
+use Rattle.stack_laws.specs.Blocks.{blocks, place_of, run_of, times}
 use Rattle.target_answer.specs.Target.{has_blocks}
 use Rattle.target_answer.specs.declared.units.UnitSpec.{UnitSpec}
-use Rattle.run_follows.proofs.Puts.{InTurn}
+use Rattle.stack_walk_laws.proofs.Puts.{InTurn}
 use Rattle.dix_adapter.proofs.Asking.{is-pos}
 use Rattle.stack_ops.specs.Ops.{first_virt}
-use Rattle.run_follows.specs.Requests.{first_page, page_after, request_of, requests_from}
-use Rattle.run_follows.specs.Sheets.{io_at, no_io, op_in}
-use Rattle.run_follows.specs.Passed.{OpsConflict, is_shifted, fates_of, Setting}
-use Rattle.run_follows.proofs.Passed.{still_is}
+use Rattle.stack_walk_laws.specs.Requests.{first_page, page_after, request_of, requests_from}
+use Rattle.stack_walk_laws.specs.Sheets.{io_at, no_io, op_in}
+use Rattle.stack_walk_laws.specs.Passed.{OpsConflict, is_shifted, fates_of, Setting}
+use Rattle.stack_walk_laws.proofs.Passed.{still_is}
 
 -- ---- shifts
 

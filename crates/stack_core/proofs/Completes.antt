@@ -14,38 +14,38 @@ use Rattle.range_gate.specs.Gates.{has_ended, is_waiting}
 use Rattle.merge_queue.specs.Groups.{size}
 use Rattle.stack_ops.specs.declared.op.Op.{Op}
 use Rattle.stack_ops.specs.declared.reply.Reply.TheVariants.{Silent}
-use Rattle.stack_view.specs.Blocks.{blocks, place_of, settled_of, times}
-use Rattle.stack_view.specs.Formed.{Formed, IsGroup}
-use Rattle.stack_view.specs.Plan.{Plan}
-use Rattle.stack_view.specs.Sound.{Sound}
-use Rattle.stack_view.specs.Steps.{settle}
-use Rattle.stack_view.specs.View.{Command, OpView, View, command_at, is_admitted, no_command, no_op, op_at}
-use Rattle.stack_view.proofs.Keeps.{command-there}
-use Rattle.stack_view.proofs.Ops.{grows-settle}
-use Rattle.stack_view.proofs.Enabled.{all-at}
+use Rattle.stack_laws.specs.Blocks.{blocks, place_of, settled_of, times}
+use Rattle.stack_laws.specs.Formed.{Formed, IsGroup}
+use Rattle.stack_laws.specs.Plan.{Plan}
+use Rattle.stack_laws.specs.Sound.{Sound}
+use Rattle.stack_laws.specs.Steps.{settle}
+use Rattle.stack_laws.specs.View.{Command, OpView, View, command_at, is_admitted, no_command, no_op, op_at}
+use Rattle.stack_laws.proofs.Keeps.{command-there}
+use Rattle.stack_laws.proofs.Ops.{grows-settle}
+use Rattle.stack_laws.proofs.Enabled.{all-at}
 use Rattle.block_path.specs.declared.mode.Mode.{Mode}
 use Rattle.block_path.specs.Acts.{State}
 use Rattle.block_path.specs.Blocks.{Sent}
 use Rattle.block_path.specs.Routes.{host_type}
-use Rattle.run_follows.proofs.Passed.{each_same}
-use Rattle.run_follows.specs.Passed.{fates, fates_of, Setting}
-use Rattle.run_follows.specs.Sending.{is_carried}
-use Rattle.run_follows.specs.Slots.{Status}
-use Rattle.run_follows.specs.Spots.{op_in}
-use Rattle.run_follows.specs.Statuses.{after_all, fate_at, id_of, sent_as, with_settled}
-use Rattle.run_follows.proofs.Completing.{completed_statuses, once, were_out, were_sent}
-use Rattle.run_follows.proofs.Fates.{done_with}
-use Rattle.run_follows.proofs.Groups.{AllNumbered, ids_are, settled_given}
-use Rattle.run_follows.proofs.Letting.{lets_of}
+use Rattle.stack_walk_laws.proofs.Passed.{each_same}
+use Rattle.stack_walk_laws.specs.Passed.{fates, fates_of, Setting}
+use Rattle.stack_walk_laws.specs.Sending.{is_carried}
+use Rattle.stack_walk_laws.specs.Slots.{Status}
+use Rattle.stack_walk_laws.specs.Spots.{op_in}
+use Rattle.stack_walk_laws.specs.Statuses.{after_all, fate_at, id_of, sent_as, with_settled}
+use Rattle.stack_walk_laws.proofs.Completing.{completed_statuses, once, were_out, were_sent}
+use Rattle.stack_walk_laws.proofs.Fates.{done_with}
+use Rattle.stack_walk_laws.proofs.Groups.{AllNumbered, ids_are, settled_given}
+use Rattle.stack_walk_laws.proofs.Letting.{lets_of}
 use Rattle.stack_core.specs.Courses.{Course}
-use Rattle.run_follows.specs.Moved.{why_of}
-use Rattle.run_follows.specs.Settled.{AllSettled, KeptFates}
-use Rattle.run_follows.specs.Settling.{AreFates}
-use Rattle.run_follows.specs.Sheets.{io_at}
+use Rattle.stack_walk_laws.specs.Moved.{why_of}
+use Rattle.stack_walk_laws.specs.Settled.{AllSettled, KeptFates}
+use Rattle.stack_walk_laws.specs.Settling.{AreFates}
+use Rattle.stack_walk_laws.specs.Sheets.{io_at}
 use Rattle.stack_core.specs.Walking.{Data, Follow, GoesOn, IsReply, shown_in, status_of, why_in}
-use Rattle.run_follows.proofs.Chained.{Each, all_each, one_place}
+use Rattle.stack_walk_laws.proofs.Chained.{Each, all_each, one_place}
 use Rattle.stack_core.proofs.Courses.{same_by}
-use Rattle.run_follows.proofs.Facts.{place-is, there as there_is}
+use Rattle.stack_walk_laws.proofs.Facts.{place-is, there as there_is}
 use Rattle.stack_core.proofs.FollowsComplete.{AllLets, NotAt, all_settled, at, each_keeps, each_whole}
 use Rattle.stack_core.proofs.FollowsGroup.{AllLie, Places, all_lie, all_of, all_sent, apart_of, is_this}
 use Rattle.stack_core.proofs.Spotted.{Stands}

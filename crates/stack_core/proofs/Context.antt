@@ -2,25 +2,25 @@
 use Rattle.std.proofs.Common.{◌<◌, ℕ, List, length, sym, ap, subst}
 use Rattle.bio_core.specs.declared.request.Io.{Io}
 use Rattle.dix_adapter.specs.Walking.{HasHost}
-use Rattle.stack_view.specs.Plan.{Plan, PlannedOp}
+use Rattle.stack_laws.specs.Plan.{Plan, PlannedOp}
 use Rattle.stack_ops.specs.declared.op.Op.{Op}
 use Rattle.stack_ops.specs.declared.op.Op.TheVariants.{Fetch, FetchPi, Fill, Overwrite, Put, Seal, Show, Wait, Write, WritePi}
 use Rattle.block_path.specs.Acts.{State}
 use Rattle.block_path.specs.Blocks.{Sent}
 use Rattle.volume_table.specs.declared.entry.Entry.{Entry}
 use Rattle.volume_table.specs.Places.{place_in}
-use Rattle.run_follows.specs.Passed.{came_by, told, Setting}
-use Rattle.run_follows.specs.Ground.{IsPlanOf}
-use Rattle.run_follows.proofs.WalksOver.{ground_over}
+use Rattle.stack_walk_laws.specs.Passed.{came_by, told, Setting}
+use Rattle.stack_walk_laws.specs.Ground.{IsPlanOf}
+use Rattle.stack_walk_laws.proofs.WalksOver.{ground_over}
 use Rattle.pi_tuple.specs.declared.checks.PiType.{PiType}
 use Rattle.dix_adapter.specs.declared.adapter.Adapter.{Adapter}
 use Rattle.stack_core.specs.declared.sheet.Sheet.{Sheet}
 use Rattle.stack_core.specs.declared.stack.Stack.{Stack}
-use Rattle.run_follows.specs.Sheets.{io_at, op_in}
+use Rattle.stack_walk_laws.specs.Sheets.{io_at, op_in}
 use Rattle.stack_core.specs.Stacks.{IsStack, StackStays, plan_in}
-use Rattle.run_follows.specs.Seals.{IsSealed}
+use Rattle.stack_walk_laws.specs.Seals.{IsSealed}
 use Rattle.stack_core.specs.Walking.{IsOver}
-use Rattle.run_follows.proofs.Facts.{request-at}
+use Rattle.stack_walk_laws.proofs.Facts.{request-at}
 use Rattle.stack_core.proofs.FollowsGroup.{Places}
 use Rattle.stack_core.proofs.FollowsSend.{Adapts}
 use Rattle.stack_core.proofs.Planning.{plan_is}

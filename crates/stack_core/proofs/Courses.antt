@@ -18,38 +18,38 @@ use Rattle.block_path.specs.Acts.{State, act, tell}
 use Rattle.block_path.specs.Blocks.{Sent, silent}
 use Rattle.block_path.specs.Moves.{first_why}
 use Rattle.block_path.specs.Serial.{plain, plain_tells}
-use Rattle.run_follows.specs.Passed.{fates, rooms, IsPlaced, OneCellEach, fates_of, own_at, recorded, acts_of, Setting, Alters, Reads, Seals, Sets, Shows, Step, Writes, WritesPi, changed, steps_of}
+use Rattle.stack_walk_laws.specs.Passed.{fates, rooms, IsPlaced, OneCellEach, fates_of, own_at, recorded, acts_of, Setting, Alters, Reads, Seals, Sets, Shows, Step, Writes, WritesPi, changed, steps_of}
 use Rattle.dix_adapter.specs.declared.adapter.Adapter.{Adapter}
 use Rattle.dix_adapter.specs.Carried.{Unsent, any_bad, frame_len, sends}
 use Rattle.dix_adapter.specs.Groups.{IsCarriedGroup, IsProtect, blocks_in, first_of}
 use Rattle.dix_adapter.specs.Ways.{CameIn, RecordedIn, RecordedOut, WentOut, blocks_told, shapes_of, site_of}
-use Rattle.run_follows.specs.Following.{Becomes, Follows}
-use Rattle.run_follows.specs.Gate.{AllPlaced, BecomesDone, IsAlone, LetsIn, MayMove, BlockSpot, number, ops_of, parts_at, place}
-use Rattle.run_follows.specs.Pieces.{AllMayMove, all_cut, all_made, with_all}
-use Rattle.run_follows.specs.Sending.{AllGoing, AllSized, NoneBefore, is_carried, with_fate, with_fates, with_status}
-use Rattle.run_follows.specs.Slots.{Admitted, Carried, Cut, Settled, Status, Waits}
-use Rattle.run_follows.proofs.Begins.{begin_all}
-use Rattle.run_follows.proofs.Holding.{held_back}
-use Rattle.run_follows.proofs.Moving.{settled}
-use Rattle.run_follows.proofs.Quietly.{listed_as, settled_quiet}
-use Rattle.run_follows.proofs.Telling.{told_in, told_out}
-use Rattle.run_follows.proofs.Together.{all_admitted, all_are_cut}
-use Rattle.run_follows.proofs.Wholly.{wholly}
-use Rattle.run_follows.specs.Falls.{falling, forgive, forgiven, is_write, left_of, none_falls, over_falls}
-use Rattle.run_follows.specs.FollowsFalling.{FollowsFalling, HasFallen}
-use Rattle.run_follows.proofs.Forgiving.{AllOf, IsOf, op_of}
-use Rattle.run_follows.proofs.OverDevice.{same_steps}
-use Rattle.run_follows.proofs.SentIn.{fallen_in}
-use Rattle.run_follows.proofs.SentOut.{fallen_out}
-use Rattle.run_follows.proofs.Stepping.{IsNotIn, all_admitted_falling, all_cut_falling, held_falling, kept, settled_falling, whole_falling, wait_still}
-use Rattle.run_follows.specs.Spots.{IsRead, op_in, steps_in}
-use Rattle.run_follows.proofs.Found.{found_there}
-use Rattle.run_follows.proofs.Same.{same_statuses, same_within}
-use Rattle.run_follows.proofs.Spots.{steps_count}
-use Rattle.run_follows.specs.Flips.{Flips, flip_op, with_flips}
-use Rattle.run_follows.proofs.Flipped.{all_may_flip, all_placed_flip, before_flip, behind_flip, cut_flip, fates_flip, fates_take, flip_at, flip_here, flip_spot, going_flip, lets_flip, long_flips, made_flip, may_flip, number_flip, op_flip, ops_flip, parts_flip, request_flip, split_flips, with_all_flip}
-use Rattle.run_follows.proofs.Overwriting.{between, flips_to, overwrite_falling}
-use Rattle.run_follows.specs.Slots.{StepParts}
+use Rattle.stack_walk_laws.specs.Following.{Becomes, Follows}
+use Rattle.stack_walk_laws.specs.Gate.{AllPlaced, BecomesDone, IsAlone, LetsIn, MayMove, BlockSpot, number, ops_of, parts_at, place}
+use Rattle.stack_walk_laws.specs.Pieces.{AllMayMove, all_cut, all_made, with_all}
+use Rattle.stack_walk_laws.specs.Sending.{AllGoing, AllSized, NoneBefore, is_carried, with_fate, with_fates, with_status}
+use Rattle.stack_walk_laws.specs.Slots.{Admitted, Carried, Cut, Settled, Status, Waits}
+use Rattle.stack_walk_laws.proofs.Begins.{begin_all}
+use Rattle.stack_walk_laws.proofs.Holding.{held_back}
+use Rattle.stack_walk_laws.proofs.Moving.{settled}
+use Rattle.stack_walk_laws.proofs.Quietly.{listed_as, settled_quiet}
+use Rattle.stack_walk_laws.proofs.Telling.{told_in, told_out}
+use Rattle.stack_walk_laws.proofs.Together.{all_admitted, all_are_cut}
+use Rattle.stack_walk_laws.proofs.Wholly.{wholly}
+use Rattle.stack_walk_laws.specs.Falls.{falling, forgive, forgiven, is_write, left_of, none_falls, over_falls}
+use Rattle.stack_walk_laws.specs.FollowsFalling.{FollowsFalling, HasFallen}
+use Rattle.stack_walk_laws.proofs.Forgiving.{AllOf, IsOf, op_of}
+use Rattle.stack_walk_laws.proofs.OverDevice.{same_steps}
+use Rattle.stack_walk_laws.proofs.SentIn.{fallen_in}
+use Rattle.stack_walk_laws.proofs.SentOut.{fallen_out}
+use Rattle.stack_walk_laws.proofs.Stepping.{IsNotIn, all_admitted_falling, all_cut_falling, held_falling, kept, settled_falling, whole_falling, wait_still}
+use Rattle.stack_walk_laws.specs.Spots.{IsRead, op_in, steps_in}
+use Rattle.stack_walk_laws.proofs.Found.{found_there}
+use Rattle.stack_walk_laws.proofs.Same.{same_statuses, same_within}
+use Rattle.stack_walk_laws.proofs.Spots.{steps_count}
+use Rattle.stack_walk_laws.specs.Flips.{Flips, flip_op, with_flips}
+use Rattle.stack_walk_laws.proofs.Flipped.{all_may_flip, all_placed_flip, before_flip, behind_flip, cut_flip, fates_flip, fates_take, flip_at, flip_here, flip_spot, going_flip, lets_flip, long_flips, made_flip, may_flip, number_flip, op_flip, ops_flip, parts_flip, request_flip, split_flips, with_all_flip}
+use Rattle.stack_walk_laws.proofs.Overwriting.{between, flips_to, overwrite_falling}
+use Rattle.stack_walk_laws.specs.Slots.{StepParts}
 use Rattle.rig_api.specs.declared.change.Change.{Change}
 use Rattle.rig_api.specs.declared.change.Change.TheVariants.{Flip}
 use Rattle.rig_api.specs.State.{RigState}

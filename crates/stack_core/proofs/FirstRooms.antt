@@ -8,14 +8,14 @@ use Rattle.merge_queue.specs.declared.limits.Limits.{Limits}
 use Rattle.volume_table.specs.Tables.{Table}
 use Rattle.volume_table.specs.Places.{volume_len}
 use Rattle.stack_core.specs.declared.kept.Room.{Room}
-use Rattle.run_follows.specs.Sheets.{io_at, op_in}
-use Rattle.run_follows.specs.Requests.{first_page, pages_from, request_of, requests_from}
+use Rattle.stack_walk_laws.specs.Sheets.{io_at, op_in}
+use Rattle.stack_walk_laws.specs.Requests.{first_page, pages_from, request_of, requests_from}
 use Rattle.stack_core.specs.Replies.{HoldsBad}
 use Rattle.stack_core.specs.Rooms.{Suits, blocks_in}
 use Rattle.stack_core.specs.Doing.{CanDo}
 use Rattle.stack_core.specs.Stacks.{AreRooms, room_at}
-use Rattle.run_follows.specs.Starting.{CanStart, IsOp}
-use Rattle.run_follows.proofs.WalksBegin.{all-more, length-requests, pages-grow, placed}
+use Rattle.stack_walk_laws.specs.Starting.{CanStart, IsOp}
+use Rattle.stack_walk_laws.proofs.WalksBegin.{all-more, length-requests, pages-grow, placed}
 
 -- how many blocks an op has doesn't depend on where its tuples lie
 count-any : (op : Op) (page : Option ℕ) → (request_of op page).count ≡ blocks_in op

@@ -4,17 +4,17 @@ use Rattle.std.specs.Vec.{vec_capacity}
 use Rattle.merge_queue.specs.declared.limits.Limits.{Limits}
 use Rattle.volume_table.specs.Tables.{Table}
 use Rattle.stack_ops.specs.declared.op.Op.{Op}
-use Rattle.stack_view.specs.Runs.{blocks_of_requests}
+use Rattle.stack_laws.specs.Runs.{blocks_of_requests}
 use Rattle.stack_steps.specs.Does.{Works}
 use Rattle.stack_core.specs.declared.stack.Stack.{Stack}
-use Rattle.run_follows.specs.Sheets.{op_in, request_in}
-use Rattle.run_follows.specs.Settling.{AreFates}
-use Rattle.run_follows.specs.Requests.{pages_from, requests_from}
+use Rattle.stack_walk_laws.specs.Sheets.{op_in, request_in}
+use Rattle.stack_walk_laws.specs.Settling.{AreFates}
+use Rattle.stack_walk_laws.specs.Requests.{pages_from, requests_from}
 use Rattle.stack_core.specs.Replies.{HoldsBad}
 use Rattle.stack_core.specs.Rooms.{Suits, blocks_in}
 use Rattle.stack_core.specs.Stacks.{HoldsEach, IsStack, plan_in, room_at}
-use Rattle.run_follows.specs.Starting.{CanStart}
-use Rattle.run_follows.proofs.WalksBegin.{length-requests}
+use Rattle.stack_walk_laws.specs.Starting.{CanStart}
+use Rattle.stack_walk_laws.proofs.WalksBegin.{length-requests}
 use Rattle.stack_core.proofs.FirstRooms.{first-rooms}
 use Rattle.stack_core.proofs.Opening.{uniform, wholes}
 

@@ -12,28 +12,28 @@ use Rattle.bio_core.specs.declared.request.Io.{Io}
 use Rattle.dix_adapter.specs.Groups.{data_cells, tuple_cells}
 use Rattle.dix_adapter.specs.Walking.{HasHost}
 use Rattle.stack_ops.specs.declared.op.Op.{Op}
-use Rattle.stack_view.specs.Plan.{Plan}
+use Rattle.stack_laws.specs.Plan.{Plan}
 use Rattle.block_path.specs.declared.route.Route.{Route}
 use Rattle.block_path.specs.Acts.{Act, State, act, tell}
 use Rattle.block_path.specs.Blocks.{ActAnswer, Sent, silent}
 use Rattle.block_path.specs.Moves.{first_why, settle}
 use Rattle.block_path.specs.Routes.{host_type}
 use Rattle.block_path.specs.Serial.{plain, plain_tells}
-use Rattle.run_follows.specs.Passed.{fates, Setting, block_of, route}
-use Rattle.run_follows.specs.Following.{Becomes}
-use Rattle.run_follows.specs.Gate.{MayMove, BlockSpot, number, parts_at, place}
-use Rattle.run_follows.specs.Sending.{with_status}
-use Rattle.run_follows.specs.Slots.{Carried, StepParts, Settled as IsSettled, Status}
-use Rattle.run_follows.proofs.Sends.{with_here, with_other}
-use Rattle.run_follows.proofs.Quietly.{no_second}
-use Rattle.run_follows.specs.Spots.{spot_at}
-use Rattle.run_follows.proofs.Spots.{spot_number, spot_ops, spot_place, steps_count}
+use Rattle.stack_walk_laws.specs.Passed.{fates, Setting, block_of, route}
+use Rattle.stack_walk_laws.specs.Following.{Becomes}
+use Rattle.stack_walk_laws.specs.Gate.{MayMove, BlockSpot, number, parts_at, place}
+use Rattle.stack_walk_laws.specs.Sending.{with_status}
+use Rattle.stack_walk_laws.specs.Slots.{Carried, StepParts, Settled as IsSettled, Status}
+use Rattle.stack_walk_laws.proofs.Sends.{with_here, with_other}
+use Rattle.stack_walk_laws.proofs.Quietly.{no_second}
+use Rattle.stack_walk_laws.specs.Spots.{spot_at}
+use Rattle.stack_walk_laws.proofs.Spots.{spot_number, spot_ops, spot_place, steps_count}
 use Rattle.stack_core.specs.Courses.{Course, FollowsBy}
-use Rattle.run_follows.specs.Moved.{route_to, why_of}
-use Rattle.run_follows.specs.Settled.{MappedBack, ReadSettled, Settled}
-use Rattle.run_follows.specs.Settling.{IsWhole}
-use Rattle.run_follows.specs.Sheets.{io_at, op_in}
-use Rattle.run_follows.proofs.BlockParts.{owner_of, settled_of}
+use Rattle.stack_walk_laws.specs.Moved.{route_to, why_of}
+use Rattle.stack_walk_laws.specs.Settled.{MappedBack, ReadSettled, Settled}
+use Rattle.stack_walk_laws.specs.Settling.{IsWhole}
+use Rattle.stack_walk_laws.specs.Sheets.{io_at, op_in}
+use Rattle.stack_walk_laws.proofs.BlockParts.{owner_of, settled_of}
 use Rattle.stack_core.proofs.Courses.{settled_by}
 use Rattle.stack_core.proofs.FollowsMove.{frames_of}
 use Rattle.stack_core.proofs.InCells.{is-bare, is-mapped-back, is-settle}

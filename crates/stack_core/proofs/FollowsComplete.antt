@@ -13,32 +13,32 @@ use Rattle.bio_core.specs.declared.request.Dir.{Dir}
 use Rattle.bio_core.specs.declared.request.Dir.TheVariants.{Read, Write as WriteDir}
 use Rattle.bio_core.specs.declared.request.Io.{Io}
 use Rattle.stack_ops.specs.declared.op.Op.{Op}
-use Rattle.stack_view.specs.Blocks.{is_settled, place_of}
-use Rattle.stack_view.specs.Plan.{Plan}
+use Rattle.stack_laws.specs.Blocks.{is_settled, place_of}
+use Rattle.stack_laws.specs.Plan.{Plan}
 use Rattle.block_path.specs.Acts.{State}
 use Rattle.block_path.specs.Blocks.{Sent}
 use Rattle.block_path.specs.Routes.{host_type}
-use Rattle.run_follows.specs.Passed.{fates, OpsConflict, Setting, block_of, route, Alters, Reads, Seals, Sets, Shows, Step, Writes, WritesPi}
-use Rattle.run_follows.specs.Gate.{AreOver, is_over}
-use Rattle.run_follows.specs.Sending.{Carriage, IsElsewhere, carriage_of, with_status}
-use Rattle.run_follows.specs.Slots.{Carried, Settled as NowSettled, Status}
-use Rattle.run_follows.proofs.Sends.{over_stays, with_other}
-use Rattle.run_follows.specs.Spots.{IsRead, op_in, step_in, steps_in}
-use Rattle.run_follows.specs.Statuses.{with_settled}
-use Rattle.run_follows.proofs.Spots.{Lets, may_move}
+use Rattle.stack_walk_laws.specs.Passed.{fates, OpsConflict, Setting, block_of, route, Alters, Reads, Seals, Sets, Shows, Step, Writes, WritesPi}
+use Rattle.stack_walk_laws.specs.Gate.{AreOver, is_over}
+use Rattle.stack_walk_laws.specs.Sending.{Carriage, IsElsewhere, carriage_of, with_status}
+use Rattle.stack_walk_laws.specs.Slots.{Carried, Settled as NowSettled, Status}
+use Rattle.stack_walk_laws.proofs.Sends.{over_stays, with_other}
+use Rattle.stack_walk_laws.specs.Spots.{IsRead, op_in, step_in, steps_in}
+use Rattle.stack_walk_laws.specs.Statuses.{with_settled}
+use Rattle.stack_walk_laws.proofs.Spots.{Lets, may_move}
 use Rattle.dix_adapter.specs.Groups.{data_cells, tuple_cells}
 use Rattle.stack_core.specs.Courses.{Course, FollowsBy}
-use Rattle.run_follows.specs.Moved.{why_of}
-use Rattle.run_follows.specs.Settled.{IsSettled, KeptFates, OneSettled}
-use Rattle.run_follows.specs.Settling.{AreFates}
-use Rattle.run_follows.specs.Sheets.{io_at}
+use Rattle.stack_walk_laws.specs.Moved.{why_of}
+use Rattle.stack_walk_laws.specs.Settled.{IsSettled, KeptFates, OneSettled}
+use Rattle.stack_walk_laws.specs.Settling.{AreFates}
+use Rattle.stack_walk_laws.specs.Sheets.{io_at}
 use Rattle.stack_core.specs.Walking.{why_in}
-use Rattle.run_follows.proofs.Chained.{Each, keeps_settled}
+use Rattle.stack_walk_laws.proofs.Chained.{Each, keeps_settled}
 use Rattle.stack_core.proofs.Courses.{found_by}
-use Rattle.run_follows.proofs.Facts.{place-is}
+use Rattle.stack_walk_laws.proofs.Facts.{place-is}
 use Rattle.stack_core.proofs.FollowsBlock.{IsOn, block_settled}
 use Rattle.stack_core.proofs.Spotted.{Stands, block_is, count_is}
-use Rattle.run_follows.proofs.Wholes.{all_stay}
+use Rattle.stack_walk_laws.proofs.Wholes.{all_stay}
 
 -- ---- a read's block is a read of the script
 
@@ -126,7 +126,8 @@ module _ (course : Course) (m : Setting) (n : ℕ) (opening : State) (es : List 
       by Untouched s = subst (λ (k : KeptFates). AreWhole k.pages) (sym s) w
 
   -- one block more is settled
-  one_more : (b : Block) (f : Fate) (bs : List Block) (fs : List Fate) (status : ℕ → ℕ → Status) (old mid : KeptFates) (now : State) → is_settled f ≡ true → (f ≡ Untouched → ⊥) → AreFates ios starts old.held → AllOf m ops ios starts status (b ∷ bs) (f ∷ fs) → Lets m status ops (b.op - 1) → Stands m n (length opening.logs) p ops ios old.pages → AreWhole old.pages → now.bytes ≡ flat old.pages → FollowsBy course m n ops opening status now es →
+  one_more : (b : Block) (f : Fate) (bs : List Block) (fs : List Fate) (status : ℕ → ℕ → Status) (old mid : KeptFates) (now : State) →
+      is_settled f ≡ true → (f ≡ Untouched → ⊥) → AreFates ios starts old.held → AllOf m ops ios starts status (b ∷ bs) (f ∷ fs) → Lets m status ops (b.op - 1) → Stands m n (length opening.logs) p ops ios old.pages → AreWhole old.pages → now.bytes ≡ flat old.pages → FollowsBy course m n ops opening status now es →
       (s : IsSettled m.mode (host_type m.ty) (io_at ios (b.op - 1)) (get_or starts (b.op - 1) 0) b.k b.lba f old mid) → IsOn course m n ops opening es (with_status b.op b.k (NowSettled (why_of s.result)) status) mid.pages now.blocks
   one_more b f bs fs status old mid now t u kept h lets g w same follows s =
       let i = b.op - 1 in
@@ -158,6 +159,12 @@ module _ (course : Course) (m : Setting) (n : ℕ) (opening : State) (es : List 
   stays_over : (b : Block) (w : Option Why) (next : Status) (status : ℕ → ℕ → Status) → status b.op b.k ≡ Carried w → (j q : ℕ) → is_over (status j q) ≡ true → with_status b.op b.k next status j q ≡ status j q
   stays_over b w next status e j q o = with_other b.op b.k j q next status (λ (x : j ≡ b.op) (y : q ≡ b.k). let z : true ≡ false = sym o ∙ (ap is_over (ap (λ t. status t q) x ∙ ap (status b.op) y) ∙ ap is_over e) in cc)
 
+  -- from these pages and fates on, the rest of a command's blocks lead to those
+  abbrev pub GoesOnWith : List Block → List Fate → (mid new : KeptFates) → Type 0
+  GoesOnWith bs fs mid new =
+      (status : ℕ → ℕ → Status) (now : State) → AreFates ios starts mid.held → AllOf m ops ios starts status bs fs → AllLets status bs → Stands m n (length opening.logs) p ops ios mid.pages →
+      AreWhole mid.pages → now.bytes ≡ flat mid.pages → FollowsBy course m n ops opening status now es → IsOn course m n ops opening es (with_settled bs fs (why_in starts new.held) status) new.pages now.blocks
+
   -- all blocks of a command, one after another
   pub all_settled : (bs : List Block) (fs : List Fate) (status : ℕ → ℕ → Status) (old new : KeptFates) (now : State) → AreFates ios starts old.held → AllOf m ops ios starts status bs fs → AllLets status bs → Stands m n (length opening.logs) p ops ios old.pages → AreWhole old.pages → now.bytes ≡ flat old.pages → FollowsBy course m n ops opening status now es →
       Each m.mode (host_type m.ty) ios starts bs fs old new → IsOn course m n ops opening es (with_settled bs fs (why_in starts new.held) status) new.pages now.blocks
@@ -166,7 +173,10 @@ module _ (course : Course) (m : Setting) (n : ℕ) (opening : State) (es : List 
   all_settled (b ∷ bs) (f ∷ fs) status old new now kept a lets g w same follows h =
       by f refl h.1.0 (λ status' now' kept' a' lets' g' w' same' follows'. all_settled bs fs status' h.0 new now' kept' a' lets' g' w' same' follows' h.1.1)
     where
-      touched : (f' : Fate) → f ≡ f' → is_settled f' ≡ true → (f' ≡ Untouched → ⊥) → IsSettled m.mode (host_type m.ty) (io_at ios (b.op - 1)) (get_or starts (b.op - 1) 0) b.k b.lba f' old (h.0) → ((status' : ℕ → ℕ → Status) (now' : State) → AreFates ios starts (h.0).held → AllOf m ops ios starts status' bs fs → AllLets status' bs → Stands m n (length opening.logs) p ops ios (h.0).pages → AreWhole (h.0).pages → now'.bytes ≡ flat (h.0).pages → FollowsBy course m n ops opening status' now' es → IsOn course m n ops opening es (with_settled bs fs (why_in starts new.held) status') new.pages now'.blocks) → IsOn course m n ops opening es (with_settled (b ∷ bs) (f' ∷ fs) (why_in starts new.held) status) new.pages now.blocks
+      touched : (f' : Fate) → f ≡ f' → is_settled f' ≡ true → (f' ≡ Untouched → ⊥) →
+          IsSettled m.mode (host_type m.ty) (io_at ios (b.op - 1)) (get_or starts (b.op - 1) 0) b.k b.lba f' old (h.0) →
+          GoesOnWith bs fs (h.0) new →
+          IsOn course m n ops opening es (with_settled (b ∷ bs) (f' ∷ fs) (why_in starts new.held) status) new.pages now.blocks
       touched f' e t u s more =
           let a' = subst (λ x. AllOf m ops ios starts status (b ∷ bs) (x ∷ fs)) e a in
           let one = one_more b f' bs fs status old (h.0) now t u kept a' lets.0 g w same follows s in
@@ -182,10 +192,15 @@ module _ (course : Course) (m : Setting) (n : ℕ) (opening : State) (es : List 
           let held : get_or new.held (at starts b) Untouched ≡ s.result = each_keeps (at starts b) bs fs (h.0) new a.1.1.1.0 h.1.1 ∙ (ap (λ l. get_or l (at starts b) Untouched) s.held ∙ get_or-set_same old.held (at starts b) s.result Untouched (omega arith)) in
           let same_why : why_in starts new.held (place_of b.op) b.k ≡ why_of s.result = (let z = place-is b.op y in ap (λ i. why_of (get_or new.held (get_or starts i 0 + b.k) Untouched)) z ∙ ap why_of held) in
           let rest = more next one.after kept' (of_on m ops ios starts status b (NowSettled (why_of s.result)) bs fs a.1.1.0 a.1.1.1.1) (all_lets_on status next bs stay lets.1) (stands_on m n (length opening.logs) p ops ios old.pages (h.0).pages pages.pages g) (pages.whole w) one.bytes one.follows in
-          let st : with_settled (b ∷ bs) (f' ∷ fs) (why_in starts new.held) status ≡ with_settled bs fs (why_in starts new.held) next = ap (λ (c : Bool). with_settled bs fs (why_in starts new.held) (if c then with_status b.op b.k (NowSettled (why_in starts new.held (place_of b.op) b.k)) status else status)) t ∙ ap (λ x. with_settled bs fs (why_in starts new.held) (with_status b.op b.k (NowSettled x) status)) same_why in
+          let st : with_settled (b ∷ bs) (f' ∷ fs) (why_in starts new.held) status ≡ with_settled bs fs (why_in starts new.held) next =
+          ap (λ (c : Bool). with_settled bs fs (why_in starts new.held) (if c then with_status b.op b.k (NowSettled (why_in starts new.held (place_of b.op) b.k)) status else status)) t
+          ∙ ap (λ x. with_settled bs fs (why_in starts new.held) (with_status b.op b.k (NowSettled x) status)) same_why in
           record { after = rest.after; bytes = rest.bytes; same_blocks = rest.same_blocks ∙ one.same_blocks; follows = subst (λ x. FollowsBy course m n ops opening x rest.after es) (sym st) rest.follows }
 
-      by : (f' : Fate) → f ≡ f' → OneSettled m.mode (host_type m.ty) (io_at ios (b.op - 1)) (get_or starts (b.op - 1) 0) b.k b.lba f' old (h.0) → ((status' : ℕ → ℕ → Status) (now' : State) → AreFates ios starts (h.0).held → AllOf m ops ios starts status' bs fs → AllLets status' bs → Stands m n (length opening.logs) p ops ios (h.0).pages → AreWhole (h.0).pages → now'.bytes ≡ flat (h.0).pages → FollowsBy course m n ops opening status' now' es → IsOn course m n ops opening es (with_settled bs fs (why_in starts new.held) status') new.pages now'.blocks) → IsOn course m n ops opening es (with_settled (b ∷ bs) (f' ∷ fs) (why_in starts new.held) status) new.pages now.blocks
+      by : (f' : Fate) → f ≡ f' →
+          OneSettled m.mode (host_type m.ty) (io_at ios (b.op - 1)) (get_or starts (b.op - 1) 0) b.k b.lba f' old (h.0) →
+          GoesOnWith bs fs (h.0) new →
+          IsOn course m n ops opening es (with_settled (b ∷ bs) (f' ∷ fs) (why_in starts new.held) status) new.pages now.blocks
       by Good e s more = touched Good e refl (λ (x : Good ≡ Untouched). good_touched x) s more
       by (Bad x) e s more = touched (Bad x) e refl (λ (y : Bad x ≡ Untouched). bad_touched x y) s more
       by Untouched e s more =

@@ -9,23 +9,23 @@ use Rattle.stack_ops.specs.declared.op.Op.{Op}
 use Rattle.stack_ops.specs.declared.op.Op.TheVariants.{Fetch, FetchPi, Fill, Overwrite, Put, Seal, Show, Wait, Write, WritePi}
 use Rattle.stack_ops.specs.declared.reply.Reply.{Reply}
 use Rattle.stack_ops.specs.declared.reply.Reply.TheVariants.{Silent}
-use Rattle.stack_view.specs.Plan.{Plan, request_at}
-use Rattle.stack_view.specs.View.{OpView, View, is_admitted, no_op, op_at}
-use Rattle.stack_view.specs.Steps.{End, Join, step}
-use Rattle.stack_view.proofs.Ops.{AtSet, Other, Past, Same, at_set}
-use Rattle.stack_view.proofs.Keeps.{admitted-ended, admitted-waits}
+use Rattle.stack_laws.specs.Plan.{Plan, request_at}
+use Rattle.stack_laws.specs.View.{OpView, View, is_admitted, no_op, op_at}
+use Rattle.stack_laws.specs.Steps.{End, Join, step}
+use Rattle.stack_laws.proofs.Ops.{AtSet, Other, Past, Same, at_set}
+use Rattle.stack_laws.proofs.Keeps.{admitted-ended, admitted-waits}
 use Rattle.block_path.specs.Acts.{State}
 use Rattle.block_path.specs.Blocks.{Sent}
-use Rattle.run_follows.specs.Passed.{fates_of, bad_from as walk_bad, whole_or_bad, Setting, each_from}
-use Rattle.run_follows.specs.Sending.{NoneBefore, is_carried}
-use Rattle.run_follows.specs.Slots.{Status}
-use Rattle.run_follows.proofs.WalksMoving.{still}
+use Rattle.stack_walk_laws.specs.Passed.{fates_of, bad_from as walk_bad, whole_or_bad, Setting, each_from}
+use Rattle.stack_walk_laws.specs.Sending.{NoneBefore, is_carried}
+use Rattle.stack_walk_laws.specs.Slots.{Status}
+use Rattle.stack_walk_laws.proofs.WalksMoving.{still}
 use Rattle.stack_core.specs.declared.kept.Room.{Room}
 use Rattle.stack_core.specs.declared.kept.Room.TheVariants.{Nothing}
 use Rattle.bio_core.specs.declared.fate.Fate.{Fate}
 use Rattle.stack_core.specs.Replies.{bad_from, reply_of, whole_or}
 use Rattle.stack_core.specs.Rooms.{Suits}
-use Rattle.run_follows.specs.Sheets.{op_in}
+use Rattle.stack_walk_laws.specs.Sheets.{op_in}
 use Rattle.stack_core.specs.Stacks.{room_at}
 use Rattle.stack_core.specs.Walking.{Data, FailedBy, Follow, GoesOn, IsReply, shown_by, shown_in, status_of, why_in}
 use Rattle.stack_ops.specs.Ops.{is_overwrite}

@@ -11,18 +11,18 @@ use Rattle.bio_core.specs.declared.fate.Fate.TheVariants.{Good, Bad, Untouched}
 use Rattle.bio_core.specs.declared.request.Io.{Io}
 use Rattle.dix_adapter.specs.Groups.{blocks_in}
 use Rattle.stack_ops.specs.declared.op.Op.{Op}
-use Rattle.stack_view.specs.Blocks.{is_block, is_settled, place_of, times}
-use Rattle.stack_view.specs.Formed.{Named}
-use Rattle.stack_view.specs.Plan.{Plan, request_at}
-use Rattle.run_follows.specs.Passed.{Setting, block_of, route}
-use Rattle.run_follows.specs.Sending.{IsElsewhere}
-use Rattle.run_follows.specs.Slots.{Carried, Status}
-use Rattle.run_follows.specs.Statuses.{fate_at, id_of, sent_as}
-use Rattle.run_follows.specs.Moved.{why_of}
-use Rattle.run_follows.specs.Settling.{AreFates}
-use Rattle.run_follows.specs.Sheets.{io_at}
-use Rattle.run_follows.proofs.Chained.{one_place}
-use Rattle.run_follows.proofs.Facts.{place-is, there as there_is}
+use Rattle.stack_laws.specs.Blocks.{is_block, is_settled, place_of, times}
+use Rattle.stack_laws.specs.Formed.{Named}
+use Rattle.stack_laws.specs.Plan.{Plan, request_at}
+use Rattle.stack_walk_laws.specs.Passed.{Setting, block_of, route}
+use Rattle.stack_walk_laws.specs.Sending.{IsElsewhere}
+use Rattle.stack_walk_laws.specs.Slots.{Carried, Status}
+use Rattle.stack_walk_laws.specs.Statuses.{fate_at, id_of, sent_as}
+use Rattle.stack_walk_laws.specs.Moved.{why_of}
+use Rattle.stack_walk_laws.specs.Settling.{AreFates}
+use Rattle.stack_walk_laws.specs.Sheets.{io_at}
+use Rattle.stack_walk_laws.proofs.Chained.{one_place}
+use Rattle.stack_walk_laws.proofs.Facts.{place-is, there as there_is}
 use Rattle.stack_core.proofs.FollowsComplete.{AllOf, NotAt, at}
 
 -- the plan's requests and places are the stack's and the script's

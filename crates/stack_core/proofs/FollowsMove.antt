@@ -13,7 +13,7 @@ use Rattle.bio_core.specs.declared.request.Dir.TheVariants.{Read, Write as Write
 use Rattle.bio_core.specs.declared.request.Io.{Io}
 use Rattle.dix_adapter.specs.Groups.{data_cells}
 use Rattle.stack_ops.specs.declared.op.Op.{Op}
-use Rattle.stack_view.specs.Plan.{Plan}
+use Rattle.stack_laws.specs.Plan.{Plan}
 use Rattle.block_path.specs.declared.route.Route.{Route}
 use Rattle.block_path.specs.Acts.{Act, State, act}
 use Rattle.block_path.specs.Blocks.{ActAnswer}
@@ -21,14 +21,14 @@ use Rattle.block_path.specs.Moves.{make_tuple, map_out}
 use Rattle.block_path.specs.Routes.{host_type}
 use Rattle.block_path.specs.Serial.{plain}
 use Rattle.block_path.proofs.InTurn.{plain_append}
-use Rattle.run_follows.specs.Passed.{Setting, block_of, route}
-use Rattle.run_follows.specs.Pieces.{all_cut, all_made}
-use Rattle.run_follows.specs.Spots.{spots_from}
+use Rattle.stack_walk_laws.specs.Passed.{Setting, block_of, route}
+use Rattle.stack_walk_laws.specs.Pieces.{all_cut, all_made}
+use Rattle.stack_walk_laws.specs.Spots.{spots_from}
 use Rattle.stack_core.specs.Done.{MadeBy, WriteMade, WriteMapped}
-use Rattle.run_follows.specs.Moved.{HasFrames, makes, maps_out, route_to, tuple_at}
-use Rattle.run_follows.specs.Settling.{IsWhole}
-use Rattle.run_follows.specs.Sheets.{io_at}
-use Rattle.run_follows.proofs.BlockParts.{cut_of, made_by, made_of}
+use Rattle.stack_walk_laws.specs.Moved.{HasFrames, makes, maps_out, route_to, tuple_at}
+use Rattle.stack_walk_laws.specs.Settling.{IsWhole}
+use Rattle.stack_walk_laws.specs.Sheets.{io_at}
+use Rattle.stack_walk_laws.proofs.BlockParts.{cut_of, made_by, made_of}
 use Rattle.stack_core.proofs.InCells.{are-made, are-mapped}
 use Rattle.stack_core.proofs.Spotted.{Stands, all_cut_are, all_made_are, turns, turns_none, turns_one}
 

@@ -8,30 +8,30 @@ use Rattle.stack_ops.specs.declared.op.Op.{Op}
 use Rattle.stack_ops.specs.declared.op.Op.TheVariants.{Overwrite, Wait}
 use Rattle.stack_ops.specs.declared.reply.Reply.{Reply}
 use Rattle.stack_ops.specs.declared.reply.Reply.TheVariants.{Silent}
-use Rattle.stack_view.specs.Plan.{Plan, request_at}
-use Rattle.stack_view.specs.Sound.{Sound}
-use Rattle.stack_view.specs.View.{OpView, View, is_admitted, no_op, op_at}
+use Rattle.stack_laws.specs.Plan.{Plan, request_at}
+use Rattle.stack_laws.specs.Sound.{Sound}
+use Rattle.stack_laws.specs.View.{OpView, View, is_admitted, no_op, op_at}
 use Rattle.block_path.specs.Acts.{State, act, tell}
 use Rattle.block_path.specs.Blocks.{Sent, silent}
 use Rattle.block_path.specs.Serial.{plain, plain_tells}
-use Rattle.run_follows.specs.Passed.{fates_of, IsPlaced, acts_of, Setting, each_from}
-use Rattle.run_follows.specs.Gate.{BecomesDone, IsAlone, LetsIn}
-use Rattle.run_follows.specs.Sending.{NoneBefore, is_carried}
-use Rattle.run_follows.specs.Slots.{Done, Status}
-use Rattle.run_follows.specs.Ground.{Ground, IsPlanOf}
-use Rattle.run_follows.specs.Statuses.{fate_in}
-use Rattle.run_follows.proofs.Letting.{lets_of}
-use Rattle.run_follows.proofs.WalksMoving.{elsewhere}
-use Rattle.run_follows.proofs.Spots.{cut_at, lets_in, placed_at, placed_front}
-use Rattle.run_follows.proofs.WalksStanding.{is_done, waits}
+use Rattle.stack_walk_laws.specs.Passed.{fates_of, IsPlaced, acts_of, Setting, each_from}
+use Rattle.stack_walk_laws.specs.Gate.{BecomesDone, IsAlone, LetsIn}
+use Rattle.stack_walk_laws.specs.Sending.{NoneBefore, is_carried}
+use Rattle.stack_walk_laws.specs.Slots.{Done, Status}
+use Rattle.stack_walk_laws.specs.Ground.{Ground, IsPlanOf}
+use Rattle.stack_walk_laws.specs.Statuses.{fate_in}
+use Rattle.stack_walk_laws.proofs.Letting.{lets_of}
+use Rattle.stack_walk_laws.proofs.WalksMoving.{elsewhere}
+use Rattle.stack_walk_laws.proofs.Spots.{cut_at, lets_in, placed_at, placed_front}
+use Rattle.stack_walk_laws.proofs.WalksStanding.{is_done, waits}
 use Rattle.stack_core.specs.declared.kept.Room.TheVariants.{Nothing}
 use Rattle.rig_api.specs.declared.change.Change.{Change}
-use Rattle.run_follows.specs.Flips.{Flips}
-use Rattle.run_follows.proofs.Flipped.{flip_at, flip_here, flip_there}
-use Rattle.run_follows.proofs.Overwriting.{between}
+use Rattle.stack_walk_laws.specs.Flips.{Flips}
+use Rattle.stack_walk_laws.proofs.Flipped.{flip_at, flip_here, flip_there}
+use Rattle.stack_walk_laws.proofs.Overwriting.{between}
 use Rattle.stack_core.specs.Courses.{Course, Falling, FollowsBy, Straight}
 use Rattle.stack_core.specs.Rooms.{Suits}
-use Rattle.run_follows.specs.Sheets.{op_in}
+use Rattle.stack_walk_laws.specs.Sheets.{op_in}
 use Rattle.stack_core.specs.Stacks.{room_at}
 use Rattle.stack_core.specs.Walking.{Data, FailedBy, Follow, GoesOn, IsReply, is_medium, shown_by, shown_in, status_of, why_in}
 use Rattle.stack_core.proofs.Courses.{GoesTo, failed_by, no_flip_yet, whole_by}

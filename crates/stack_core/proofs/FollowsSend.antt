@@ -9,31 +9,31 @@ use Rattle.dix_adapter.specs.declared.adapter.Adapter.{Adapter}
 use Rattle.dix_adapter.specs.Groups.{blocks_in, data_cells, mode_of, route_of, tuple_cells}
 use Rattle.range_gate.specs.Gates.{has_ended}
 use Rattle.stack_ops.specs.declared.op.Op.{Op}
-use Rattle.stack_view.specs.Blocks.{blocks, place_of, times}
-use Rattle.stack_view.specs.Formed.{Formed, IsGroup}
-use Rattle.stack_view.specs.Plan.{Plan, request_at}
-use Rattle.stack_view.specs.Sound.{Sound}
-use Rattle.stack_view.specs.View.{View, group_at, is_admitted, no_op, op_at, queue_at}
+use Rattle.stack_laws.specs.Blocks.{blocks, place_of, times}
+use Rattle.stack_laws.specs.Formed.{Formed, IsGroup}
+use Rattle.stack_laws.specs.Plan.{Plan, request_at}
+use Rattle.stack_laws.specs.Sound.{Sound}
+use Rattle.stack_laws.specs.View.{View, group_at, is_admitted, no_op, op_at, queue_at}
 use Rattle.block_path.specs.Acts.{State}
 use Rattle.block_path.specs.Blocks.{Sent}
-use Rattle.run_follows.specs.Passed.{rooms, own_at, Setting, block_of, route}
-use Rattle.run_follows.specs.Gate.{BlockSpot}
-use Rattle.run_follows.specs.Sending.{AllGoing, IsGoing, NoneBefore, carriage_of, with_fates}
-use Rattle.run_follows.specs.Slots.{Cut, Status}
-use Rattle.run_follows.specs.Spots.{op_in, spot_at, step_in}
-use Rattle.run_follows.specs.Statuses.{fate_in, id_of, sent_as}
-use Rattle.run_follows.proofs.Fates.{in_none}
-use Rattle.run_follows.proofs.Groups.{AllNumbered, ids_are}
-use Rattle.run_follows.proofs.Letting.{lets_of}
-use Rattle.run_follows.proofs.Sending.{in_its_queue, sent_statuses}
-use Rattle.run_follows.proofs.Spots.{may_move, spot_number, spot_ops, spot_place, steps_count}
-use Rattle.run_follows.proofs.WalksStanding.{IsOut, is_sent, queued}
+use Rattle.stack_walk_laws.specs.Passed.{rooms, own_at, Setting, block_of, route}
+use Rattle.stack_walk_laws.specs.Gate.{BlockSpot}
+use Rattle.stack_walk_laws.specs.Sending.{AllGoing, IsGoing, NoneBefore, carriage_of, with_fates}
+use Rattle.stack_walk_laws.specs.Slots.{Cut, Status}
+use Rattle.stack_walk_laws.specs.Spots.{op_in, spot_at, step_in}
+use Rattle.stack_walk_laws.specs.Statuses.{fate_in, id_of, sent_as}
+use Rattle.stack_walk_laws.proofs.Fates.{in_none}
+use Rattle.stack_walk_laws.proofs.Groups.{AllNumbered, ids_are}
+use Rattle.stack_walk_laws.proofs.Letting.{lets_of}
+use Rattle.stack_walk_laws.proofs.Sending.{in_its_queue, sent_statuses}
+use Rattle.stack_walk_laws.proofs.Spots.{may_move, spot_number, spot_ops, spot_place, steps_count}
+use Rattle.stack_walk_laws.proofs.WalksStanding.{IsOut, is_sent, queued}
 use Rattle.stack_core.specs.Courses.{Course, FollowsBy}
-use Rattle.run_follows.specs.Sheets.{io_at}
+use Rattle.stack_walk_laws.specs.Sheets.{io_at}
 use Rattle.stack_core.specs.Walking.{Data, Follow, shown_in, status_of, why_in}
 use Rattle.stack_core.proofs.Completes.{all_numbered}
 use Rattle.stack_core.proofs.Courses.{same_by}
-use Rattle.run_follows.proofs.Facts.{place-is}
+use Rattle.stack_walk_laws.proofs.Facts.{place-is}
 use Rattle.stack_core.proofs.FollowsEnd.{none_same}
 use Rattle.stack_core.proofs.FollowsGroup.{AllApart, AllLie, Lies, Places, all_lie, apart_of, is_this}
 use Rattle.stack_core.proofs.Spotted.{Stands, block_is, count_is}

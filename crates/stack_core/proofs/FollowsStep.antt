@@ -11,27 +11,27 @@ use Rattle.range_gate.specs.Gates.{has_ended, is_waiting}
 use Rattle.range_gate.specs.declared.phase.Phase.{Phase}
 use Rattle.range_gate.specs.declared.phase.Phase.TheVariants.{Waiting, Admitted as OpAdmitted, Ended}
 use Rattle.stack_ops.specs.declared.op.Op.{Op}
-use Rattle.stack_view.specs.Plan.{Plan, request_at}
-use Rattle.stack_view.specs.Sound.{Sound}
-use Rattle.stack_view.specs.View.{OpView, View, is_admitted, no_op, op_at}
-use Rattle.stack_view.proofs.Keeps.{admitted-waits}
+use Rattle.stack_laws.specs.Plan.{Plan, request_at}
+use Rattle.stack_laws.specs.Sound.{Sound}
+use Rattle.stack_laws.specs.View.{OpView, View, is_admitted, no_op, op_at}
+use Rattle.stack_laws.proofs.Keeps.{admitted-waits}
 use Rattle.block_path.specs.Acts.{State, act}
 use Rattle.block_path.specs.Blocks.{Sent}
 use Rattle.block_path.specs.Routes.{host_type}
 use Rattle.block_path.specs.Serial.{plain}
-use Rattle.run_follows.specs.Passed.{fates_of, find, Setting, block_of, route}
-use Rattle.run_follows.specs.Pieces.{all_made, with_all}
-use Rattle.run_follows.specs.Sending.{NoneBefore, is_carried}
-use Rattle.run_follows.specs.Slots.{Admitted, Cut, Status, Waits}
-use Rattle.run_follows.specs.Spots.{spots_from, steps_in}
-use Rattle.run_follows.specs.Statuses.{fate_in}
-use Rattle.run_follows.proofs.Letting.{lets_of}
-use Rattle.run_follows.proofs.WalksMoving.{admitted_statuses, cut_statuses}
-use Rattle.run_follows.proofs.Spots.{steps_count}
-use Rattle.run_follows.proofs.WalksStanding.{is_uncut, not_cut, unmarked, waits}
-use Rattle.run_follows.proofs.WalksTogether.{all_may, with_out}
+use Rattle.stack_walk_laws.specs.Passed.{fates_of, find, Setting, block_of, route}
+use Rattle.stack_walk_laws.specs.Pieces.{all_made, with_all}
+use Rattle.stack_walk_laws.specs.Sending.{NoneBefore, is_carried}
+use Rattle.stack_walk_laws.specs.Slots.{Admitted, Cut, Status, Waits}
+use Rattle.stack_walk_laws.specs.Spots.{spots_from, steps_in}
+use Rattle.stack_walk_laws.specs.Statuses.{fate_in}
+use Rattle.stack_walk_laws.proofs.Letting.{lets_of}
+use Rattle.stack_walk_laws.proofs.WalksMoving.{admitted_statuses, cut_statuses}
+use Rattle.stack_walk_laws.proofs.Spots.{steps_count}
+use Rattle.stack_walk_laws.proofs.WalksStanding.{is_uncut, not_cut, unmarked, waits}
+use Rattle.stack_walk_laws.proofs.WalksTogether.{all_may, with_out}
 use Rattle.stack_core.specs.Done.{WriteMade, WriteMapped}
-use Rattle.run_follows.specs.Sheets.{io_at, op_in}
+use Rattle.stack_walk_laws.specs.Sheets.{io_at, op_in}
 use Rattle.stack_core.specs.Walking.{Data, Follow, GoesOn, shown_in, status_of, why_in}
 use Rattle.stack_core.specs.Courses.{Course}
 use Rattle.stack_core.proofs.Courses.{admitted_by, cut_by, same_by}

@@ -2,14 +2,14 @@
 use Rattle.std.proofs.Common.{◌≡◌, ℕ, []}
 use Rattle.rig_api.specs.Log.{Room}
 use Rattle.rig_api.specs.Telling.{Standing, greatest_size}
-use Rattle.stack_view.specs.Steps.{chosen, step}
-use Rattle.stack_view.proofs.Enabled.{chosen-can}
+use Rattle.stack_laws.specs.Steps.{chosen, step}
+use Rattle.stack_laws.proofs.Enabled.{chosen-can}
 use Rattle.stack_steps.specs.declared.choice.Choice.{Choice}
 use Rattle.stack_steps.specs.Does.{CanStep, Chooses, Does}
 use Rattle.stack_steps.specs.Fine.{Fine}
 use Rattle.stack_core.specs.declared.stack.Stack.{Stack}
 use Rattle.stack_core.specs.Stacks.{HasSpare, HasStep, plan_in}
-use Rattle.run_follows.proofs.Spare.{next-spare}
+use Rattle.stack_walk_laws.proofs.Spare.{next-spare}
 use Rattle.stack_core.proofs.Steps.{SendsNot, unanswered}
 
 -- the machine that has a step shows a view with one

@@ -38,11 +38,11 @@ use Rattle.block_path.specs.Moves.{first_why, in_turn, left_by, map_back, on_byt
 use Rattle.block_path.specs.declared.route.Route.{Route}
 use Rattle.block_path.proofs.Sizes.{tuple_length}
 use Rattle.block_path.proofs.Cells.{distinct, gather_length, gather_past, scatter_past, scatter_twice}
-use Rattle.run_follows.specs.Settling.{fate_by}
+use Rattle.stack_walk_laws.specs.Settling.{fate_by}
 use Rattle.bio_core.specs.declared.request.Dir.TheVariants.{Write}
 use Rattle.stack_core.specs.Done.{MadeBy, WriteMade, WriteMapped}
-use Rattle.run_follows.specs.Settled.{Blanked, Judged, LeftBy, MappedBack, ReadSettled, TupleBlanked, said_by}
-use Rattle.run_follows.specs.Moved.{HasFrames, IsSettle, makes, maps_out, route_to, tuple_at, why_of}
+use Rattle.stack_walk_laws.specs.Settled.{Blanked, Judged, LeftBy, MappedBack, ReadSettled, TupleBlanked, said_by}
+use Rattle.stack_walk_laws.specs.Moved.{HasFrames, IsSettle, makes, maps_out, route_to, tuple_at, why_of}
 
 -- ---- lists of cells
 

@@ -3,10 +3,10 @@ use Rattle.std.proofs.Common.{◌≡◌, length, ◌∙◌, arith}
 use Rattle.std.specs.Vec.{vec_capacity}
 use Rattle.stack_steps.specs.Does.{Works}
 use Rattle.stack_core.specs.declared.stack.Stack.{Stack}
-use Rattle.run_follows.specs.Settling.{AreFates}
+use Rattle.stack_walk_laws.specs.Settling.{AreFates}
 use Rattle.stack_core.specs.Stacks.{AreRooms, HoldsEach, IsStack, plan_in}
 use Rattle.stack_core.proofs.Rooms.{rooms-stay}
-use Rattle.run_follows.proofs.Wholes.{all_stay}
+use Rattle.stack_walk_laws.proofs.Wholes.{all_stay}
 
 -- the fields that steps change, with what is asked of them
 pub record Moved (s s₂ : Stack) : Type 0 where

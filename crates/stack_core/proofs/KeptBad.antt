@@ -20,24 +20,24 @@ use Rattle.block_path.specs.declared.mode.Mode.{Mode}
 use Rattle.dix_adapter.specs.Carried.{any_fails}
 use Rattle.dix_adapter.specs.Groups.{blocks_in}
 use Rattle.merge_queue.proofs.Lists.{total-one}
-use Rattle.stack_view.specs.Blocks.{BlockId, blocks, is_block, is_settled, place_of, settled_of, times}
-use Rattle.stack_view.specs.Plan.{Plan, request_at}
-use Rattle.stack_view.specs.Sound.{Sound, is_marked}
-use Rattle.stack_view.specs.Steps.{settle}
-use Rattle.stack_view.specs.View.{Command, OpView, View, command_at, no_command, no_op, op_at}
-use Rattle.stack_view.proofs.Counts.{times-head}
-use Rattle.stack_view.proofs.Enabled.{due-one}
-use Rattle.stack_view.proofs.Keeps.{command-there, settle-room}
-use Rattle.stack_view.proofs.Ops.{marks-settle, this-block}
-use Rattle.run_follows.specs.Statuses.{id_of}
-use Rattle.run_follows.proofs.Groups.{ids_are}
+use Rattle.stack_laws.specs.Blocks.{BlockId, blocks, is_block, is_settled, place_of, settled_of, times}
+use Rattle.stack_laws.specs.Plan.{Plan, request_at}
+use Rattle.stack_laws.specs.Sound.{Sound, is_marked}
+use Rattle.stack_laws.specs.Steps.{settle}
+use Rattle.stack_laws.specs.View.{Command, OpView, View, command_at, no_command, no_op, op_at}
+use Rattle.stack_laws.proofs.Counts.{times-head}
+use Rattle.stack_laws.proofs.Enabled.{due-one}
+use Rattle.stack_laws.proofs.Keeps.{command-there, settle-room}
+use Rattle.stack_laws.proofs.Ops.{marks-settle, this-block}
+use Rattle.stack_walk_laws.specs.Statuses.{id_of}
+use Rattle.stack_walk_laws.proofs.Groups.{ids_are}
 use Rattle.stack_core.specs.OnRecord.{AreTraced, IsKeptBad, IsTraced}
-use Rattle.run_follows.specs.Settled.{Judged, KeptFates, OneSettled, Settled}
-use Rattle.run_follows.specs.Settling.{AreFates, IsOf}
-use Rattle.run_follows.specs.Sheets.{io_at}
-use Rattle.run_follows.proofs.Chained.{Each, one_place}
-use Rattle.run_follows.proofs.Facts.{place-is}
-use Rattle.run_follows.proofs.WalksStanding.{marked as marked_is}
+use Rattle.stack_walk_laws.specs.Settled.{Judged, KeptFates, OneSettled, Settled}
+use Rattle.stack_walk_laws.specs.Settling.{AreFates, IsOf}
+use Rattle.stack_walk_laws.specs.Sheets.{io_at}
+use Rattle.stack_walk_laws.proofs.Chained.{Each, one_place}
+use Rattle.stack_walk_laws.proofs.Facts.{place-is}
+use Rattle.stack_walk_laws.proofs.WalksStanding.{marked as marked_is}
 
 -- ---- where blocks are kept
 

@@ -7,17 +7,17 @@ use Rattle.block_path.specs.declared.mode.Mode.{Mode}
 use Rattle.bio_core.specs.declared.bio.Bio.{Bio}
 use Rattle.bio_core.specs.declared.fate.Fate.{Fate}
 use Rattle.merge_queue.specs.Groups.{size}
-use Rattle.stack_view.specs.Steps.{Complete as StepComplete, can, step}
-use Rattle.stack_view.specs.View.{command_at}
+use Rattle.stack_laws.specs.Steps.{Complete as StepComplete, can, step}
+use Rattle.stack_laws.specs.View.{command_at}
 use Rattle.stack_steps.specs.declared.choice.Choice.TheVariants.{Complete}
 use Rattle.stack_steps.specs.Does.{Lands, Ready}
 use Rattle.stack_core.specs.declared.stack.Stack.{Stack}
 use Rattle.stack_core.specs.OnRecord.{AreTraced, Traces}
-use Rattle.run_follows.specs.Settled.{AllSettled, KeptFates}
-use Rattle.run_follows.specs.Settling.{AreFates, IsOf}
+use Rattle.stack_walk_laws.specs.Settled.{AllSettled, KeptFates}
+use Rattle.stack_walk_laws.specs.Settling.{AreFates, IsOf}
 use Rattle.stack_core.specs.Stacks.{IsStack, plan_in}
-use Rattle.run_follows.proofs.Chained.{all_each, blocks_long}
-use Rattle.run_follows.proofs.Facts.{completed, request-at}
+use Rattle.stack_walk_laws.proofs.Chained.{all_each, blocks_long}
+use Rattle.stack_walk_laws.proofs.Facts.{completed, request-at}
 use Rattle.stack_core.proofs.KeptBad.{completed_traced}
 use Rattle.stack_core.proofs.WalkedFar.{starts_stay}
 

@@ -3,8 +3,8 @@ use Rattle.std.proofs.Common.{◌≡◌, ◌≤◌, ℕ, zero, suc, ◌+◌, Lis
 use Rattle.bio_core.specs.declared.fate.Fate.{Fate}
 use Rattle.bio_core.specs.declared.fate.Fate.TheVariants.{Good, Bad, Untouched}
 use Rattle.stack_ops.specs.declared.reply.BadBlock.{BadBlock}
-use Rattle.run_follows.specs.Passed.{bad_from as walk_bad, whole_or_bad, each_from}
-use Rattle.run_follows.specs.Moved.{why_of}
+use Rattle.stack_walk_laws.specs.Passed.{bad_from as walk_bad, whole_or_bad, each_from}
+use Rattle.stack_walk_laws.specs.Moved.{why_of}
 use Rattle.stack_core.specs.Replies.{bad_from, whole_or}
 use Rattle.stack_core.specs.Walking.{why_in}
 

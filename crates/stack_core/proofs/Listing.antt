@@ -4,8 +4,8 @@ use Rattle.std.proofs.lemmas.List.{take_more}
 use Rattle.range_gate.specs.declared.footprint.Footprint.{Footprint}
 use Rattle.stack_ops.specs.declared.op.Op.{Op}
 use Rattle.stack_ops.specs.Footprints.{footprint}
-use Rattle.run_follows.specs.Sheets.{no_print, op_in, prints_of}
-use Rattle.run_follows.proofs.Gates.{length-prints}
+use Rattle.stack_walk_laws.specs.Sheets.{no_print, op_in, prints_of}
+use Rattle.stack_walk_laws.proofs.Gates.{length-prints}
 
 pub prints-at : (ops : List Op) (shifted : List Bool) (i : ℕ) (d : Footprint) → length shifted ≡ length ops → i < length ops → get_or (prints_of ops shifted) i d ≡ footprint (op_in ops i) (get_or shifted i false)
 prints-at [] bs i d e h = absurd (omega arith)

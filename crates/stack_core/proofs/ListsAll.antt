@@ -10,16 +10,16 @@ use Rattle.stack_ops.specs.declared.op.Op.TheVariants.{Fetch, FetchPi, Fill, Ove
 use Rattle.stack_ops.specs.declared.reply.BadBlock.{BadBlock}
 use Rattle.stack_ops.specs.declared.reply.Reply.{Reply}
 use Rattle.stack_ops.specs.declared.reply.Reply.TheVariants.{Silent}
-use Rattle.stack_view.specs.Plan.{request_at}
-use Rattle.stack_view.specs.View.{View, op_at}
-use Rattle.stack_view.proofs.Enabled.{stuck}
+use Rattle.stack_laws.specs.Plan.{request_at}
+use Rattle.stack_laws.specs.View.{View, op_at}
+use Rattle.stack_laws.proofs.Enabled.{stuck}
 use Rattle.stack_steps.specs.Does.{Holds}
 use Rattle.block_path.specs.Acts.{State}
-use Rattle.run_follows.specs.Passed.{fates_of, recorded, told, bad_from, whole_or_bad, Setting, each_from}
+use Rattle.stack_walk_laws.specs.Passed.{fates_of, recorded, told, bad_from, whole_or_bad, Setting, each_from}
 use Rattle.stack_core.specs.declared.stack.Stack.{Stack}
-use Rattle.run_follows.specs.Moved.{why_of}
+use Rattle.stack_walk_laws.specs.Moved.{why_of}
 use Rattle.stack_core.specs.OnRecord.{IsKeptBad, ListsNone, bad_blocks}
-use Rattle.run_follows.specs.Sheets.{op_in}
+use Rattle.stack_walk_laws.specs.Sheets.{op_in}
 use Rattle.stack_core.specs.Stacks.{IsFinished, IsStack, plan_in}
 use Rattle.stack_core.specs.Walking.{IsReply, Walks, why_in}
 use Rattle.stack_core.proofs.Context.{over_told}

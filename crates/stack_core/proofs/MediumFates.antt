@@ -20,12 +20,12 @@ use Rattle.dix_adapter.specs.Outcomes.{rest_of}
 use Rattle.rig_api.specs.Log.{IsMedium}
 use Rattle.rig_api.specs.declared.rig.Outcome.{Outcome}
 use Rattle.block_path.specs.Senses.{is_medium_why, why_ended}
-use Rattle.run_follows.proofs.Passed.{medium_is}
+use Rattle.stack_walk_laws.proofs.Passed.{medium_is}
 use Rattle.stack_core.specs.Mediums.{mediums, one_medium}
-use Rattle.run_follows.specs.Settled.{IsSettled, Judged, KeptFates, OneSettled, Settled}
-use Rattle.run_follows.specs.Settling.{fate_by}
-use Rattle.run_follows.specs.Sheets.{io_at}
-use Rattle.run_follows.proofs.Chained.{Each}
+use Rattle.stack_walk_laws.specs.Settled.{IsSettled, Judged, KeptFates, OneSettled, Settled}
+use Rattle.stack_walk_laws.specs.Settling.{fate_by}
+use Rattle.stack_walk_laws.specs.Sheets.{io_at}
+use Rattle.stack_walk_laws.proofs.Chained.{Each}
 
 -- ---- a command is completed
 

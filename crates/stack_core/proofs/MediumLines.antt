@@ -9,20 +9,20 @@ use Rattle.stack_ops.specs.declared.op.Op.{Op}
 use Rattle.stack_ops.specs.declared.op.Op.TheVariants.{Fetch, FetchPi, Fill, Overwrite, Put, Seal, Show, Wait, Write, WritePi}
 use Rattle.stack_ops.specs.declared.reply.Reply.{Reply}
 use Rattle.stack_ops.specs.declared.reply.Reply.TheVariants.{Silent, Medium as MediumReply}
-use Rattle.stack_view.proofs.Enabled.{stuck}
+use Rattle.stack_laws.proofs.Enabled.{stuck}
 use Rattle.block_path.specs.Acts.{State}
-use Rattle.run_follows.specs.Passed.{fates_of, recorded, told, bad_from, whole_or_bad, Setting, each_from}
+use Rattle.stack_walk_laws.specs.Passed.{fates_of, recorded, told, bad_from, whole_or_bad, Setting, each_from}
 use Rattle.stack_core.specs.declared.stack.Stack.{Stack}
 use Rattle.stack_core.specs.Mediums.{HasCounted, RoseBy, listed_mediums, medium_lines, medium_replies, mediums, one_medium}
-use Rattle.run_follows.specs.Moved.{why_of}
+use Rattle.stack_walk_laws.specs.Moved.{why_of}
 use Rattle.stack_core.specs.OnRecord.{bad_blocks}
-use Rattle.run_follows.specs.Settling.{blocks_before}
-use Rattle.run_follows.specs.Sheets.{op_in}
+use Rattle.stack_walk_laws.specs.Settling.{blocks_before}
+use Rattle.stack_walk_laws.specs.Sheets.{op_in}
 use Rattle.stack_core.specs.Stacks.{IsFinished, IsStack, plan_in}
 use Rattle.stack_core.specs.Walking.{IsReply, Walks}
 use Rattle.stack_core.proofs.Context.{over_told}
-use Rattle.run_follows.proofs.Counts.{blocks-more}
-use Rattle.run_follows.proofs.Facts.{request-at}
+use Rattle.stack_walk_laws.proofs.Counts.{blocks-more}
+use Rattle.stack_walk_laws.proofs.Facts.{request-at}
 use Rattle.stack_core.proofs.Mediums.{rose_less}
 use Rattle.stack_core.proofs.Walked.{sound, stand}
 use Rattle.stack_core.proofs.ListsAll.{lists_bad}

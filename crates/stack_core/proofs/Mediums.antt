@@ -18,13 +18,13 @@ use Rattle.rig_api.specs.Log.{IsMedium}
 use Rattle.rig_api.specs.declared.rig.Outcome.{Outcome}
 use Rattle.rig_api.specs.State.{RigState}
 use Rattle.stack_ops.specs.declared.reply.Reply.{Reply}
-use Rattle.stack_view.specs.Plan.{Plan}
-use Rattle.stack_view.specs.Sound.{Settles}
-use Rattle.stack_view.specs.Steps.{Step, End as StepEnd, Complete as StepComplete, Admit as StepAdmit, Cut as StepCut, Join as StepJoin, Send as StepSend, can, chosen, enabled, step}
-use Rattle.stack_view.specs.View.{Command, View, command_at, group_at, no_command}
-use Rattle.stack_view.proofs.Counts.{total-set}
-use Rattle.stack_view.proofs.Enabled.{chosen-can}
-use Rattle.stack_view.proofs.Keeps.{command-there}
+use Rattle.stack_laws.specs.Plan.{Plan}
+use Rattle.stack_laws.specs.Sound.{Settles}
+use Rattle.stack_laws.specs.Steps.{Step, End as StepEnd, Complete as StepComplete, Admit as StepAdmit, Cut as StepCut, Join as StepJoin, Send as StepSend, can, chosen, enabled, step}
+use Rattle.stack_laws.specs.View.{Command, View, command_at, group_at, no_command}
+use Rattle.stack_laws.proofs.Counts.{total-set}
+use Rattle.stack_laws.proofs.Enabled.{chosen-can}
+use Rattle.stack_laws.proofs.Keeps.{command-there}
 use Rattle.stack_steps.specs.declared.choice.Choice.{Choice}
 use Rattle.stack_steps.specs.declared.choice.Choice.TheVariants.{Complete, Send}
 use Rattle.stack_steps.specs.declared.machine.Machine.{Machine}

@@ -1,9 +1,9 @@
 -- A new stack follows the walk of its script, over any rig and over one that tells its blocks.
 use Rattle.std.proofs.Common.{◌<◌, ℕ, length}
 use Rattle.page_pool.specs.Pages.{AreWhole}
-use Rattle.stack_view.specs.View.{start}
+use Rattle.stack_laws.specs.View.{start}
 use Rattle.stack_steps.specs.Does.{Holds}
-use Rattle.run_follows.specs.Sheets.{op_in}
+use Rattle.stack_walk_laws.specs.Sheets.{op_in}
 use Rattle.stack_core.specs.declared.stack.Stack.{Stack}
 use Rattle.stack_core.specs.NewStacks.{FollowsAtFirst}
 use Rattle.stack_core.specs.Rooms.{Suits}

@@ -14,23 +14,23 @@ use Rattle.stack_ops.specs.declared.op.Op.{Op}
 use Rattle.stack_ops.specs.declared.op.Op.TheVariants.{Fetch, FetchPi, Fill, Overwrite, Put, Seal, Show, Wait, Write, WritePi}
 use Rattle.stack_ops.specs.declared.reply.Reply.{Reply}
 use Rattle.stack_ops.specs.declared.reply.Reply.TheVariants.{Bad, Medium as MediumReply, Shown, Silent, Whole}
-use Rattle.stack_view.specs.Plan.{request_at}
-use Rattle.stack_view.specs.Steps.{enabled}
-use Rattle.stack_view.specs.View.{OpView, no_op, op_at}
-use Rattle.stack_view.proofs.Enabled.{stuck, all-at}
+use Rattle.stack_laws.specs.Plan.{request_at}
+use Rattle.stack_laws.specs.Steps.{enabled}
+use Rattle.stack_laws.specs.View.{OpView, no_op, op_at}
+use Rattle.stack_laws.proofs.Enabled.{stuck, all-at}
 use Rattle.block_path.specs.Acts.{State}
 use Rattle.block_path.specs.Blocks.{Sent}
-use Rattle.run_follows.specs.Passed.{fates_of, recorded, bad_from, whole_or_bad, Setting, each_from}
-use Rattle.run_follows.specs.Following.{Follows}
-use Rattle.run_follows.specs.Slots.{Status}
-use Rattle.run_follows.specs.Flips.{Flips, flip_op, with_flips}
-use Rattle.run_follows.specs.FollowsFalling.{HasFallen}
+use Rattle.stack_walk_laws.specs.Passed.{fates_of, recorded, bad_from, whole_or_bad, Setting, each_from}
+use Rattle.stack_walk_laws.specs.Following.{Follows}
+use Rattle.stack_walk_laws.specs.Slots.{Status}
+use Rattle.stack_walk_laws.specs.Flips.{Flips, flip_op, with_flips}
+use Rattle.stack_walk_laws.specs.FollowsFalling.{HasFallen}
 use Rattle.stack_ops.specs.Ops.{is_overwrite}
-use Rattle.run_follows.proofs.NoneFell.{none_fell}
-use Rattle.run_follows.specs.Sheets.{op_in}
-use Rattle.run_follows.specs.Statuses.{fate_in}
-use Rattle.run_follows.proofs.Letting.{ended_waits}
-use Rattle.run_follows.proofs.WalksStanding.{is_done, is_settled, past}
+use Rattle.stack_walk_laws.proofs.NoneFell.{none_fell}
+use Rattle.stack_walk_laws.specs.Sheets.{op_in}
+use Rattle.stack_walk_laws.specs.Statuses.{fate_in}
+use Rattle.stack_walk_laws.proofs.Letting.{ended_waits}
+use Rattle.stack_walk_laws.proofs.WalksStanding.{is_done, is_settled, past}
 use Rattle.stack_core.specs.Courses.{Falling}
 use Rattle.stack_core.specs.declared.stack.Stack.{Stack}
 use Rattle.dix_base.specs.Told.{Calm}

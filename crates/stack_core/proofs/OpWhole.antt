@@ -27,18 +27,18 @@ use Rattle.block_path.specs.Blocks.{ActAnswer, silent}
 use Rattle.block_path.specs.Moves.{in_turn, on_bytes}
 use Rattle.block_path.specs.Serial.{plain, plain_tells}
 use Rattle.block_path.proofs.InTurn.{made_in_turn}
-use Rattle.run_follows.specs.Passed.{act_of, acts_of, Setting, Seals, Step, body_of, each_from, tuple_of}
-use Rattle.run_follows.specs.Gate.{IsAlone}
+use Rattle.stack_walk_laws.specs.Passed.{act_of, acts_of, Setting, Seals, Step, body_of, each_from, tuple_of}
+use Rattle.stack_walk_laws.specs.Gate.{IsAlone}
 use Rattle.stack_core.specs.declared.kept.Room.{Room}
 use Rattle.stack_core.specs.declared.kept.Room.TheVariants.{Tuples}
 use Rattle.stack_core.specs.Doing.{CanDo}
 use Rattle.stack_core.specs.Done.{OpDone, Sealed}
 use Rattle.stack_core.specs.Replies.{CanSeal, HoldsSeal, shown}
-use Rattle.run_follows.specs.Requests.{sealed}
+use Rattle.stack_walk_laws.specs.Requests.{sealed}
 use Rattle.stack_core.specs.Rooms.{Suits}
-use Rattle.run_follows.specs.Seals.{IsSealed}
+use Rattle.stack_walk_laws.specs.Seals.{IsSealed}
 use Rattle.stack_core.specs.Walking.{IsReply, op_left, shown_by}
-use Rattle.run_follows.proofs.WalksBegin.{size-is}
+use Rattle.stack_walk_laws.proofs.WalksBegin.{size-is}
 use Rattle.stack_core.proofs.Spotted.{turns, turns_one}
 
 -- these bytes at the first place

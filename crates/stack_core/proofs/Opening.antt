@@ -16,14 +16,14 @@ use Rattle.stack_ops.specs.declared.op.Op.{Op}
 use Rattle.stack_ops.specs.declared.op.Op.TheVariants.{Fill, Put, Show, Seal, Write, Fetch, WritePi, FetchPi, Overwrite, Wait}
 use Rattle.stack_steps.proofs.Keep.{count-few}
 use Rattle.bio_core.specs.Bios.{block_size}
-use Rattle.run_follows.specs.Sheets.{AreInside, HaveNumbers, HaveTuples, IsSheet, io_at, no_io, op_in, request_in}
-use Rattle.run_follows.specs.Settling.{AreAllWhole}
-use Rattle.run_follows.specs.Requests.{first_page, own_blocks, pages_from, request_of, requests_from}
+use Rattle.stack_walk_laws.specs.Sheets.{AreInside, HaveNumbers, HaveTuples, IsSheet, io_at, no_io, op_in, request_in}
+use Rattle.stack_walk_laws.specs.Settling.{AreAllWhole}
+use Rattle.stack_walk_laws.specs.Requests.{first_page, own_blocks, pages_from, request_of, requests_from}
 use Rattle.stack_core.specs.Stacks.{AreUniform}
-use Rattle.run_follows.specs.Starting.{CanStart}
-use Rattle.run_follows.proofs.WalksBegin.{IsFit, fit-request, length-requests, pages-grow, placed, whole-request}
-use Rattle.run_follows.proofs.Facts.{request-at, there}
-use Rattle.run_follows.proofs.Planned.{fine-of}
+use Rattle.stack_walk_laws.specs.Starting.{CanStart}
+use Rattle.stack_walk_laws.proofs.WalksBegin.{IsFit, fit-request, length-requests, pages-grow, placed, whole-request}
+use Rattle.stack_walk_laws.proofs.Facts.{request-at, there}
+use Rattle.stack_walk_laws.proofs.Planned.{fine-of}
 
 short : (table : Table) (devices : List DeviceInfo) (bytes : ℕ) → MadeFor table devices bytes → volume_len table.entries < 2 ^ 63
 short table devices bytes m = let e = few table.entries m.ranges in let c = m.count in omega arith

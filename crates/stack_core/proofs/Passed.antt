@@ -1,4 +1,4 @@
 -- Lemmas of the crates below, for the crates above that stand on this one alone.
-pub use Rattle.answered_record.proofs.Going.{puts_nothing, puts_then}
-pub use Rattle.run_follows.proofs.Spare.{fewer}
-pub use Rattle.run_follows.proofs.WalksBegin.{pages-grow}
+pub use Rattle.record_laws.proofs.Going.{puts_nothing, puts_then}
+pub use Rattle.stack_walk_laws.proofs.Spare.{fewer}
+pub use Rattle.stack_walk_laws.proofs.WalksBegin.{pages-grow}

@@ -20,14 +20,14 @@ use Rattle.volume_table.specs.Tables.{Table}
 use Rattle.stack_ops.specs.declared.op.Op.{Op}
 use Rattle.stack_ops.specs.declared.op.Op.TheVariants.{Fetch, FetchPi, Fill, Overwrite, Put, Seal, Show, Wait, Write, WritePi}
 use Rattle.stack_ops.specs.Footprints.{footprint, is_alone}
-use Rattle.run_follows.specs.Passed.{OpsConflict, is_shifted, Setting}
-use Rattle.run_follows.specs.Ground.{IsPlanOf}
-use Rattle.run_follows.specs.Requests.{requests_from}
-use Rattle.run_follows.specs.Sheets.{do_clash, io_at, layout_of, no_print, op_in, plan_of, prints_of, request_in}
-use Rattle.run_follows.specs.Shifts.{shifted_by, shifts}
-use Rattle.run_follows.proofs.WalksBegin.{length-requests}
-use Rattle.run_follows.proofs.Facts.{request-at}
-use Rattle.run_follows.proofs.Conflicting.{own_layout}
+use Rattle.stack_walk_laws.specs.Passed.{OpsConflict, is_shifted, Setting}
+use Rattle.stack_walk_laws.specs.Ground.{IsPlanOf}
+use Rattle.stack_walk_laws.specs.Requests.{requests_from}
+use Rattle.stack_walk_laws.specs.Sheets.{do_clash, io_at, layout_of, no_print, op_in, plan_of, prints_of, request_in}
+use Rattle.stack_walk_laws.specs.Shifts.{shifted_by, shifts}
+use Rattle.stack_walk_laws.proofs.WalksBegin.{length-requests}
+use Rattle.stack_walk_laws.proofs.Facts.{request-at}
+use Rattle.stack_walk_laws.proofs.Conflicting.{own_layout}
 use Rattle.stack_core.proofs.Listing.{prints-at}
 use Rattle.stack_core.proofs.AtUnits.{io_count}
 

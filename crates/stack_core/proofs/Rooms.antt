@@ -10,7 +10,7 @@ use Rattle.stack_ops.specs.declared.op.Op.{Op}
 use Rattle.stack_ops.specs.declared.op.Op.TheVariants.{Fill, Put, Show, Seal, Write, Fetch, WritePi, FetchPi, Overwrite, Wait}
 use Rattle.stack_core.specs.declared.kept.Room.{Room}
 use Rattle.stack_core.specs.declared.kept.Room.TheVariants.{Nothing, Blocks, Bytes, Tuples}
-use Rattle.run_follows.specs.Sheets.{io_at, op_in}
+use Rattle.stack_walk_laws.specs.Sheets.{io_at, op_in}
 use Rattle.stack_core.specs.Replies.{HoldsBad, HoldsSeal}
 use Rattle.stack_core.specs.Doing.{CanDo}
 use Rattle.stack_core.specs.Stacks.{AreRooms, room_at}

@@ -16,17 +16,17 @@ use Rattle.dix_adapter.specs.Groups as Carry
 use Rattle.dix_adapter.specs.Ways.{any_settled}
 use Rattle.dix_adapter.specs.Walking.{TuplesOnce, WalksTuples}
 use Rattle.stack_ops.specs.declared.op.Op.{Op}
-use Rattle.stack_view.specs.Formed.{Chain, IsGroup, Named}
-use Rattle.stack_view.specs.Plan.{request_at}
-use Rattle.stack_view.specs.Blocks.{place_of, settled_count}
-use Rattle.stack_view.specs.Sound.{HasBlocks, Settles}
+use Rattle.stack_laws.specs.Formed.{Chain, IsGroup, Named}
+use Rattle.stack_laws.specs.Plan.{request_at}
+use Rattle.stack_laws.specs.Blocks.{place_of, settled_count}
+use Rattle.stack_laws.specs.Sound.{HasBlocks, Settles}
 use Rattle.stack_steps.specs.Fine.{Fine}
 use Rattle.stack_steps.proofs.Keep.{count-few}
 use Rattle.stack_steps.proofs.Sums.{group-ends}
-use Rattle.run_follows.specs.Sheets.{HaveNumbers, io_at, plan_of}
-use Rattle.run_follows.specs.Settling.{AreAllWhole, IsWhole}
+use Rattle.stack_walk_laws.specs.Sheets.{HaveNumbers, io_at, plan_of}
+use Rattle.stack_walk_laws.specs.Settling.{AreAllWhole, IsWhole}
 use Rattle.stack_core.specs.Stacks.{AreUniform}
-use Rattle.run_follows.proofs.Facts.{is-of, place-is, request-at}
+use Rattle.stack_walk_laws.proofs.Facts.{is-of, place-is, request-at}
 
 -- the sizes of the two crates are one
 pub same-size : (g : List Bio) → Carry.size g ≡ size g

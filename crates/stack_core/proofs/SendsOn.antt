@@ -6,14 +6,14 @@ use Rattle.bio_core.specs.declared.fate.Fate.TheVariants.{Good}
 use Rattle.dix_adapter.specs.Carried.{any_fails}
 use Rattle.merge_queue.specs.Groups.{size}
 use Rattle.rig_api.specs.Log.{LogEntry as Record}
-use Rattle.stack_view.specs.Comes.{Comes, ComesBy, entry_at}
-use Rattle.stack_view.specs.Plan.{Plan}
-use Rattle.stack_view.specs.Runs.{ScheduleEntry, sent}
-use Rattle.stack_view.specs.Sound.{Settles}
-use Rattle.stack_view.specs.Steps.{Step, End as StepEnd, Complete as StepComplete, Admit as StepAdmit, Cut as StepCut, Join as StepJoin, Send as StepSend, can, chosen, enabled, step}
-use Rattle.stack_view.specs.View.{Command, OpView, View, group_at, no_op}
-use Rattle.stack_view.proofs.Enabled.{chosen-can}
-use Rattle.stack_view.proofs.Ops.{AtSet, Other, Past, Same, at_set}
+use Rattle.stack_laws.specs.Comes.{Comes, ComesBy, entry_at}
+use Rattle.stack_laws.specs.Plan.{Plan}
+use Rattle.stack_laws.specs.Runs.{ScheduleEntry, sent}
+use Rattle.stack_laws.specs.Sound.{Settles}
+use Rattle.stack_laws.specs.Steps.{Step, End as StepEnd, Complete as StepComplete, Admit as StepAdmit, Cut as StepCut, Join as StepJoin, Send as StepSend, can, chosen, enabled, step}
+use Rattle.stack_laws.specs.View.{Command, OpView, View, group_at, no_op}
+use Rattle.stack_laws.proofs.Enabled.{chosen-can}
+use Rattle.stack_laws.proofs.Ops.{AtSet, Other, Past, Same, at_set}
 use Rattle.stack_steps.specs.declared.choice.Choice.{Choice}
 use Rattle.stack_steps.specs.declared.choice.Choice.TheVariants.{Admit, Complete, Cut, End, Join, Send}
 use Rattle.stack_steps.specs.declared.machine.Machine.{Machine}

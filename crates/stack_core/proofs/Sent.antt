@@ -18,18 +18,18 @@ use Rattle.dix_adapter.specs.Groups as Carry
 use Rattle.dix_adapter.specs.Room.{HoldsBlocks, KeepsRoom}
 use Rattle.dix_adapter.proofs.Rooms.{holds-fewer}
 use Rattle.dix_adapter.specs.Ways.{Spends, settled_count as count_settled}
-use Rattle.stack_view.specs.Blocks.{settled_count}
-use Rattle.stack_view.specs.Formed.{IsGroup, Named}
-use Rattle.stack_view.specs.Plan.{Plan}
-use Rattle.stack_view.specs.Room.{exchanges_left, frames_left}
-use Rattle.stack_view.specs.Runs.{blocks_of_requests}
-use Rattle.stack_view.specs.Sound.{HasBlocks, Settles}
-use Rattle.stack_view.specs.Steps.{Send as StepSend, can, step}
-use Rattle.stack_view.specs.View.{View, group_at, queue_at}
-use Rattle.stack_view.proofs.Formed.{queue-groups}
-use Rattle.stack_view.proofs.Keeps.{queue-there}
-use Rattle.stack_view.proofs.Room.{exchanges-fall, frames-fall}
-use Rattle.stack_view.proofs.Runs.{all-settled-good}
+use Rattle.stack_laws.specs.Blocks.{settled_count}
+use Rattle.stack_laws.specs.Formed.{IsGroup, Named}
+use Rattle.stack_laws.specs.Plan.{Plan}
+use Rattle.stack_laws.specs.Room.{exchanges_left, frames_left}
+use Rattle.stack_laws.specs.Runs.{blocks_of_requests}
+use Rattle.stack_laws.specs.Sound.{HasBlocks, Settles}
+use Rattle.stack_laws.specs.Steps.{Send as StepSend, can, step}
+use Rattle.stack_laws.specs.View.{View, group_at, queue_at}
+use Rattle.stack_laws.proofs.Formed.{queue-groups}
+use Rattle.stack_laws.proofs.Keeps.{queue-there}
+use Rattle.stack_laws.proofs.Room.{exchanges-fall, frames-fall}
+use Rattle.stack_laws.proofs.Runs.{all-settled-good}
 use Rattle.stack_steps.specs.declared.choice.Choice.TheVariants.{Send}
 use Rattle.stack_steps.specs.declared.machine.Machine.{Machine}
 use Rattle.stack_steps.specs.Does.{Flies, Holds, Ready, Sending, Takes, Works}
@@ -38,8 +38,8 @@ use Rattle.stack_steps.proofs.Sums.{sends-fit}
 use Rattle.stack_core.specs.declared.stack.Stack.{Stack}
 use Rattle.stack_core.specs.Stacks.{HasSpare, HoldsEach, IsStack, Reaches, plan_in}
 use Rattle.stack_core.proofs.Sending.{carried-group, same-size}
-use Rattle.run_follows.specs.Sheets.{io_at}
-use Rattle.run_follows.proofs.Spare.{fewer}
+use Rattle.stack_walk_laws.specs.Sheets.{io_at}
+use Rattle.stack_walk_laws.proofs.Spare.{fewer}
 
 -- a group that can be sent in one view can be sent in each that the machine shows
 can-too : (p : Plan) (m : Machine) (u v : View) (d i : ℕ) → Holds p m u → Holds p m v → can p v (StepSend d i) ≡ true → can p u (StepSend d i) ≡ true

@@ -8,22 +8,22 @@ use Rattle.dix_adapter.specs.Groups.{data_cells}
 use Rattle.dix_adapter.specs.Walking.{HasHost}
 use Rattle.stack_ops.specs.declared.op.Op.{Op}
 use Rattle.stack_ops.specs.declared.op.Op.TheVariants.{Fetch, FetchPi, Fill, Overwrite, Put, Seal, Show, Wait, Write, WritePi}
-use Rattle.stack_view.specs.Plan.{Plan}
+use Rattle.stack_laws.specs.Plan.{Plan}
 use Rattle.block_path.specs.declared.route.Route.{Route}
 use Rattle.block_path.specs.Acts.{Act}
 use Rattle.block_path.specs.Blocks.{ActAnswer}
 use Rattle.block_path.specs.Moves.{in_turn}
-use Rattle.run_follows.specs.Passed.{fates, rooms, fates_of, own_at, room_of, Setting, block_of, route}
-use Rattle.run_follows.specs.Gate.{parts_at}
-use Rattle.run_follows.specs.Pieces.{all_cut, all_made}
-use Rattle.run_follows.specs.Slots.{StepParts, parts_of}
-use Rattle.run_follows.specs.Ground.{Ground, IsPlanOf}
-use Rattle.run_follows.specs.Spots.{spot_at, spots_from, step_in}
-use Rattle.run_follows.proofs.Spots.{spot_place, steps_count}
-use Rattle.run_follows.specs.Requests.{first_page, own_blocks, page_after, pages_for, request_of, requests_from}
-use Rattle.run_follows.specs.Sheets.{io_at, op_in}
-use Rattle.run_follows.specs.Settling.{AreAllWhole}
-use Rattle.run_follows.proofs.BlockParts.{ArePartsOf, cut_of, made_of, parts_are}
+use Rattle.stack_walk_laws.specs.Passed.{fates, rooms, fates_of, own_at, room_of, Setting, block_of, route}
+use Rattle.stack_walk_laws.specs.Gate.{parts_at}
+use Rattle.stack_walk_laws.specs.Pieces.{all_cut, all_made}
+use Rattle.stack_walk_laws.specs.Slots.{StepParts, parts_of}
+use Rattle.stack_walk_laws.specs.Ground.{Ground, IsPlanOf}
+use Rattle.stack_walk_laws.specs.Spots.{spot_at, spots_from, step_in}
+use Rattle.stack_walk_laws.proofs.Spots.{spot_place, steps_count}
+use Rattle.stack_walk_laws.specs.Requests.{first_page, own_blocks, page_after, pages_for, request_of, requests_from}
+use Rattle.stack_walk_laws.specs.Sheets.{io_at, op_in}
+use Rattle.stack_walk_laws.specs.Settling.{AreAllWhole}
+use Rattle.stack_walk_laws.proofs.BlockParts.{ArePartsOf, cut_of, made_of, parts_are}
 use Rattle.stack_core.proofs.AtUnits.{io_count}
 
 -- ---- moves of blocks in turn

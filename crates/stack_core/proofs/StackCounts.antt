@@ -21,9 +21,9 @@ use Rattle.stack_core.specs.declared.sheet.Sheet.{Sheet}
 use Rattle.stack_core.specs.declared.stack.Stack.{Stack}
 use Rattle.stack_core.specs.Mediums.{Counts, HasCounted, HasCountedBy, RoseBy, Spoils, medium_replies, mediums, one_reply}
 use Rattle.stack_core.specs.Replies.{bad_from, reply_of, whole_or}
-use Rattle.run_follows.specs.Settled.{AllSettled, KeptFates}
+use Rattle.stack_walk_laws.specs.Settled.{AllSettled, KeptFates}
 use Rattle.stack_core.specs.Stacks.{HasStep, StackStays, plan_in}
-use Rattle.run_follows.proofs.Chained.{all_each}
+use Rattle.stack_walk_laws.proofs.Chained.{all_each}
 use Rattle.stack_core.proofs.MediumFates.{each_mediums}
 use Rattle.stack_core.proofs.Mediums.{counts_same, group_counts, no_more_replies, other_counts, rose_less, rose_or_calm, set_replies}
 use Rattle.stack_core.proofs.SendsOn.{KeepsMarks}

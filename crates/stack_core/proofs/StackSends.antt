@@ -14,10 +14,10 @@ use Rattle.dix_adapter.specs.Outcomes.{done_of}
 use Rattle.merge_queue.specs.Groups.{size}
 use Rattle.rig_api.specs.Log.{LogEntry as Record}
 use Rattle.rig_api.specs.State.{RigState}
-use Rattle.stack_view.specs.Formed.{IsGroup}
-use Rattle.stack_view.specs.Plan.{Plan}
-use Rattle.stack_view.specs.Runs.{ScheduleEntry, sent}
-use Rattle.stack_view.specs.Sound.{HasBlocks, Settles}
+use Rattle.stack_laws.specs.Formed.{IsGroup}
+use Rattle.stack_laws.specs.Plan.{Plan}
+use Rattle.stack_laws.specs.Runs.{ScheduleEntry, sent}
+use Rattle.stack_laws.specs.Sound.{HasBlocks, Settles}
 use Rattle.stack_steps.specs.declared.choice.Choice.{Choice}
 use Rattle.stack_steps.specs.declared.choice.Choice.TheVariants.{Complete, Send}
 use Rattle.stack_steps.specs.declared.machine.Machine.{Machine}
@@ -27,7 +27,7 @@ use Rattle.stack_core.specs.declared.sheet.Sheet.{Sheet}
 use Rattle.stack_core.specs.declared.stack.Stack.{Stack}
 use Rattle.stack_core.specs.OnRecord.{Carries, HasSentBy, IsFormed, IsOfRequests, IsRecordOf, SendsOn, Traces}
 use Rattle.stack_core.specs.Stacks.{HasStep, StackStays, plan_in}
-use Rattle.run_follows.proofs.Clear.{clear_in, clear_out, held_fails}
+use Rattle.stack_walk_laws.proofs.Clear.{clear_in, clear_out, held_fails}
 use Rattle.stack_core.proofs.Goes.{either-way}
 use Rattle.stack_core.proofs.Recording.{formed_of, record_of}
 use Rattle.stack_core.proofs.SendsOn.{KeepsMarks, group_held, group_recorded, other_sends, traces_same}

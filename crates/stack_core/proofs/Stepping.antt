@@ -5,8 +5,8 @@ use Rattle.std.specs.Prelude.{is_some}
 use Rattle.dix_base.specs.Told.{Calm}
 use Rattle.rig_api.specs.State.{RigState, Stays as RigStays}
 use Rattle.rig_api.specs.Telling.{IsStanding, units_told}
-use Rattle.answered_record.specs.Answered.{PutsAnswers}
-use Rattle.answered_record.proofs.Going.{puts_nothing}
+use Rattle.record_laws.specs.Answered.{PutsAnswers}
+use Rattle.record_laws.proofs.Going.{puts_nothing}
 use Rattle.stack_ops.specs.Ops.{is_overwrite}
 use Rattle.stack_steps.specs.declared.choice.Choice.{Choice}
 use Rattle.stack_steps.specs.Does.{Chooses, Does}

@@ -2,11 +2,11 @@
 use Rattle.std.proofs.Common.{ℕ, List, []}
 use Rattle.bio_core.specs.declared.bio.Bio.{Bio}
 use Rattle.bio_core.specs.declared.fate.Fate.{Fate}
-use Rattle.stack_view.specs.Plan.{Plan}
-use Rattle.stack_view.specs.Sound.{Answered, Settles}
-use Rattle.stack_view.specs.Steps.{Step, chosen, step}
-use Rattle.stack_view.specs.View.{View, group_at}
-use Rattle.stack_view.proofs.Enabled.{chosen-can}
+use Rattle.stack_laws.specs.Plan.{Plan}
+use Rattle.stack_laws.specs.Sound.{Answered, Settles}
+use Rattle.stack_laws.specs.Steps.{Step, chosen, step}
+use Rattle.stack_laws.specs.View.{View, group_at}
+use Rattle.stack_laws.proofs.Enabled.{chosen-can}
 use Rattle.stack_steps.specs.declared.choice.Choice.{Choice}
 use Rattle.stack_steps.specs.declared.choice.Choice.TheVariants.{Admit, Complete, Cut, End, Join, Send}
 use Rattle.stack_steps.specs.declared.machine.Machine.{Machine}

@@ -15,7 +15,7 @@ use Rattle.rig_api.specs.Telling.{IsStanding, Standing, block_at, can_change, ch
 use Rattle.target_answer.specs.Frames.{stored_size}
 use Rattle.dix_adapter.specs.Ways.{blocks_told, cell_in, shapes_of, site_of}
 use Rattle.dix_adapter.proofs.GoingIn.{long-at}
-use Rattle.run_follows.specs.Units.{AreAtUnits}
+use Rattle.stack_walk_laws.specs.Units.{AreAtUnits}
 use Rattle.stack_core.specs.declared.sheet.Sheet.{Sheet}
 use Rattle.stack_core.proofs.Context.{over_stays}
 use Rattle.dix_adapter.proofs.Puts.{cell-is, told-at, told-puts}
@@ -24,7 +24,7 @@ use Rattle.stack_ops.specs.declared.op.Op.{Op}
 use Rattle.stack_ops.specs.declared.op.Op.TheVariants.{Fetch, FetchPi, Fill, Overwrite, Put, Seal, Show, Wait, Write, WritePi}
 use Rattle.block_path.specs.Acts.{State}
 use Rattle.block_path.specs.Blocks.{Site}
-use Rattle.run_follows.specs.Passed.{recorded, changed, source_of as source_cell, Setting}
+use Rattle.stack_walk_laws.specs.Passed.{recorded, changed, source_of as source_cell, Setting}
 use Rattle.stack_core.specs.Courses.{Course, Falling, Straight}
 use Rattle.stack_core.specs.declared.stack.Stack.{Stack}
 use Rattle.stack_core.specs.Doing.{CanReach}

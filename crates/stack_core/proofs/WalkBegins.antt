@@ -9,21 +9,21 @@ use Rattle.fault_schedule.specs.declared.fault.FaultLine.{FaultLine}
 use Rattle.target_answer.specs.Target.{Stored}
 use Rattle.dix_adapter.specs.Ways.{blocks_told, site_of}
 use Rattle.rig_api.specs.Telling.{Standing, specs_of}
-use Rattle.stack_view.specs.Plan.{PlannedOp, request_at}
-use Rattle.stack_view.specs.View.{is_admitted, no_op, op_at, start, waiting}
+use Rattle.stack_laws.specs.Plan.{PlannedOp, request_at}
+use Rattle.stack_laws.specs.View.{is_admitted, no_op, op_at, start, waiting}
 use Rattle.stack_steps.specs.Does.{Holds}
 use Rattle.block_path.specs.Acts.{State}
-use Rattle.run_follows.specs.Passed.{recorded, told, Setting}
-use Rattle.run_follows.specs.Finished.{FramesFit}
-use Rattle.run_follows.specs.Slots.{Waits}
-use Rattle.run_follows.specs.Statuses.{fate_in}
-use Rattle.run_follows.specs.Units.{AreAtUnits}
-use Rattle.run_follows.proofs.WalksStanding.{waits}
-use Rattle.run_follows.specs.Flips.{no_flips}
+use Rattle.stack_walk_laws.specs.Passed.{recorded, told, Setting}
+use Rattle.stack_walk_laws.specs.Finished.{FramesFit}
+use Rattle.stack_walk_laws.specs.Slots.{Waits}
+use Rattle.stack_walk_laws.specs.Statuses.{fate_in}
+use Rattle.stack_walk_laws.specs.Units.{AreAtUnits}
+use Rattle.stack_walk_laws.proofs.WalksStanding.{waits}
+use Rattle.stack_walk_laws.specs.Flips.{no_flips}
 use Rattle.stack_core.specs.Courses.{Course, Falling, Straight}
 use Rattle.stack_core.specs.declared.stack.Stack.{Stack}
 use Rattle.stack_core.specs.Rooms.{Suits}
-use Rattle.run_follows.specs.Sheets.{op_in, request_in}
+use Rattle.stack_walk_laws.specs.Sheets.{op_in, request_in}
 use Rattle.stack_core.specs.Stacks.{IsStack, plan_in, room_at}
 use Rattle.stack_core.proofs.Courses.{FlipsNone, begins_by}
 use Rattle.stack_core.specs.Walking.{IsOver, Opens, SizesFit, Walks, WalksAtTarget, WalksBy, WalksFalling, WalksOver, WalksTold, data_of, shown_in, status_of, why_in}

@@ -13,29 +13,29 @@ use Rattle.stack_ops.specs.declared.op.Op.{Op}
 use Rattle.stack_ops.specs.declared.op.Op.TheVariants.{Fetch, FetchPi, Fill, Overwrite, Put, Seal, Show, Wait, Write, WritePi}
 use Rattle.stack_ops.specs.declared.reply.Reply.{Reply}
 use Rattle.stack_ops.specs.declared.reply.Reply.TheVariants.{Medium, Shown, Silent}
-use Rattle.stack_view.specs.Plan.{Plan, request_at}
-use Rattle.stack_view.specs.Steps.{enabled}
-use Rattle.stack_view.specs.View.{op_at}
-use Rattle.stack_view.proofs.Enabled.{stuck, all-at}
+use Rattle.stack_laws.specs.Plan.{Plan, request_at}
+use Rattle.stack_laws.specs.Steps.{enabled}
+use Rattle.stack_laws.specs.View.{op_at}
+use Rattle.stack_laws.proofs.Enabled.{stuck, all-at}
 use Rattle.block_path.specs.Acts.{State}
 use Rattle.block_path.specs.Blocks.{ActAnswer, Sent}
 use Rattle.block_path.specs.Moves.{hidden}
-use Rattle.run_follows.specs.Passed.{IsBoundRun, fates_of, Backed, recorded, told, bad_from, reply_of, whole_or_bad, Setting, Step, each_from, steps_of}
-use Rattle.run_follows.specs.Finished.{AllEnded, HasEnded, HaveEnded, answer_of, answers_of, replies_of}
-use Rattle.run_follows.specs.Slots.{Done, Settled, Status}
-use Rattle.run_follows.proofs.Backing.{is_backed, told_carried}
-use Rattle.run_follows.proofs.Ends.{ends_as_walk}
-use Rattle.run_follows.specs.Takes.{AllTakeAny}
-use Rattle.run_follows.specs.AtTheEnd.{EndsAsFalling}
-use Rattle.run_follows.proofs.Ending.{ends_as_falling}
-use Rattle.run_follows.specs.Statuses.{fate_in}
-use Rattle.run_follows.proofs.Letting.{ended_waits}
-use Rattle.run_follows.proofs.WalksStanding.{is_done, is_settled}
-use Rattle.run_follows.specs.Flips.{with_flips}
-use Rattle.run_follows.proofs.Flipped.{FineByLength, bound_flip, ended_flip, replies_flip, takes_flip}
+use Rattle.stack_walk_laws.specs.Passed.{IsBoundRun, fates_of, Backed, recorded, told, bad_from, reply_of, whole_or_bad, Setting, Step, each_from, steps_of}
+use Rattle.stack_walk_laws.specs.Finished.{AllEnded, HasEnded, HaveEnded, answer_of, answers_of, replies_of}
+use Rattle.stack_walk_laws.specs.Slots.{Done, Settled, Status}
+use Rattle.stack_walk_laws.proofs.Backing.{is_backed, told_carried}
+use Rattle.stack_walk_laws.proofs.Ends.{ends_as_walk}
+use Rattle.stack_walk_laws.specs.Takes.{AllTakeAny}
+use Rattle.stack_walk_laws.specs.AtTheEnd.{EndsAsFalling}
+use Rattle.stack_walk_laws.proofs.Ending.{ends_as_falling}
+use Rattle.stack_walk_laws.specs.Statuses.{fate_in}
+use Rattle.stack_walk_laws.proofs.Letting.{ended_waits}
+use Rattle.stack_walk_laws.proofs.WalksStanding.{is_done, is_settled}
+use Rattle.stack_walk_laws.specs.Flips.{with_flips}
+use Rattle.stack_walk_laws.proofs.Flipped.{FineByLength, bound_flip, ended_flip, replies_flip, takes_flip}
 use Rattle.stack_core.specs.Courses.{Course}
 use Rattle.stack_core.specs.declared.stack.Stack.{Stack}
-use Rattle.run_follows.specs.Sheets.{op_in}
+use Rattle.stack_walk_laws.specs.Sheets.{op_in}
 use Rattle.stack_core.specs.Stacks.{IsStack, plan_in}
 use Rattle.stack_ops.specs.Ops.{is_overwrite}
 use Rattle.stack_core.specs.Walking.{EndsFallen, EndsTold, HasFails, IsOver, IsReply, Walks, WalksBy, WalksTold, data_of, is_medium, shown_by, shown_in, status_of, why_in, WalksFalling}

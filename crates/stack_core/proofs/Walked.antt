@@ -19,15 +19,15 @@ use Rattle.range_gate.specs.Gates.{is_waiting}
 use Rattle.range_gate.specs.declared.phase.Phase.TheVariants.{Admitted as OpAdmitted, Ended}
 use Rattle.stack_ops.specs.declared.op.Op.{Op}
 use Rattle.stack_ops.specs.declared.reply.Reply.{Reply}
-use Rattle.stack_view.specs.Formed.{Named}
-use Rattle.stack_view.specs.Pieces.{bio_of, cut_to, greatest_piece}
-use Rattle.stack_view.specs.Plan.{Plan, request_at}
-use Rattle.stack_view.specs.Sound.{Sound}
-use Rattle.stack_view.specs.Steps.{Admit as StepAdmit, Cut as StepCut, End as StepEnd, Join as StepJoin, Step, can, chosen, enabled, step}
-use Rattle.stack_view.specs.View.{View, all_true, is_admitted, op_at}
-use Rattle.stack_view.proofs.Enabled.{chosen-can}
-use Rattle.stack_view.proofs.Formed.{longest-some, piece-group, piece-longest}
-use Rattle.stack_view.proofs.Keeps.{cut-some, cut-within, piece-some}
+use Rattle.stack_laws.specs.Formed.{Named}
+use Rattle.stack_laws.specs.Pieces.{bio_of, cut_to, greatest_piece}
+use Rattle.stack_laws.specs.Plan.{Plan, request_at}
+use Rattle.stack_laws.specs.Sound.{Sound}
+use Rattle.stack_laws.specs.Steps.{Admit as StepAdmit, Cut as StepCut, End as StepEnd, Join as StepJoin, Step, can, chosen, enabled, step}
+use Rattle.stack_laws.specs.View.{View, all_true, is_admitted, op_at}
+use Rattle.stack_laws.proofs.Enabled.{chosen-can}
+use Rattle.stack_laws.proofs.Formed.{longest-some, piece-group, piece-longest}
+use Rattle.stack_laws.proofs.Keeps.{cut-some, cut-within, piece-some}
 use Rattle.stack_steps.specs.declared.choice.Choice.{Choice}
 use Rattle.stack_steps.specs.declared.choice.Choice.TheVariants.{Admit, Cut, End, Join}
 use Rattle.stack_steps.specs.Does.{Cuts, Does, Holds, OfOp, Ready}
@@ -35,24 +35,24 @@ use Rattle.stack_steps.specs.Shows.{Means, live_ops, op_of}
 use Rattle.block_path.specs.Acts.{State, act}
 use Rattle.block_path.specs.Blocks.{Sent}
 use Rattle.block_path.specs.Serial.{plain}
-use Rattle.run_follows.specs.Passed.{acts_of, Setting, block_of, route}
-use Rattle.run_follows.specs.Sending.{NoneBefore}
+use Rattle.stack_walk_laws.specs.Passed.{acts_of, Setting, block_of, route}
+use Rattle.stack_walk_laws.specs.Sending.{NoneBefore}
 use Rattle.stack_core.specs.declared.kept.Room.TheVariants.{Nothing}
 use Rattle.stack_core.specs.declared.sheet.Sheet.{Sheet}
 use Rattle.stack_core.specs.declared.stack.Stack.{Stack}
 use Rattle.rig_api.specs.declared.change.Change.{Change}
-use Rattle.run_follows.specs.Flips.{Flips}
-use Rattle.run_follows.proofs.Flipped.{flip_at}
-use Rattle.run_follows.proofs.Overwriting.{between}
+use Rattle.stack_walk_laws.specs.Flips.{Flips}
+use Rattle.stack_walk_laws.proofs.Flipped.{flip_at}
+use Rattle.stack_walk_laws.proofs.Overwriting.{between}
 use Rattle.stack_ops.specs.declared.op.Op.TheVariants.{Overwrite}
 use Rattle.stack_core.specs.Courses.{Course, Falling}
 use Rattle.stack_core.specs.Done.{MadeBy, OpDone, WriteMade, WriteMapped}
 use Rattle.stack_core.specs.Replies.{reply_of}
-use Rattle.run_follows.specs.Sheets.{io_at, op_in}
+use Rattle.stack_walk_laws.specs.Sheets.{io_at, op_in}
 use Rattle.stack_core.specs.Stacks.{IsStack, StackStays, plan_in, room_at}
 use Rattle.stack_core.specs.Walking.{Data, Follow, GoesOn, IsChosen, IsOver, WalksBy, data_of, is_medium, op_left, status_of}
 use Rattle.stack_core.proofs.Context.{places, stands}
-use Rattle.run_follows.proofs.Facts.{op-ends, op-enters, there as there_is}
+use Rattle.stack_walk_laws.proofs.Facts.{op-ends, op-enters, there as there_is}
 use Rattle.stack_core.proofs.FollowsEnd.{ends, joins}
 use Rattle.stack_core.proofs.FollowsGroup.{Places}
 use Rattle.stack_core.proofs.FollowsOp.{QuietBy, alone, op_fails, op_goes}

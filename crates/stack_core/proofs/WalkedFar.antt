@@ -15,15 +15,15 @@ use Rattle.dix_adapter.specs.Groups as Carry
 use Rattle.dix_adapter.specs.Groups.{blocks_in, first_of, mode_of}
 use Rattle.rig_api.specs.Telling.{Standing, spec_at}
 use Rattle.merge_queue.specs.Groups.{size}
-use Rattle.stack_view.specs.Blocks.{blocks, place_of, times}
-use Rattle.stack_view.specs.Formed.{Formed, IsGroup, Named}
-use Rattle.stack_view.specs.Plan.{Plan, request_at}
-use Rattle.stack_view.specs.Sound.{HasBlocks, Settles}
-use Rattle.stack_view.specs.Steps.{Complete as StepComplete, Send as StepSend, can, step}
-use Rattle.stack_view.specs.View.{View, command_at, group_at, no_op, queue_at}
-use Rattle.stack_view.proofs.Formed.{queue-groups}
-use Rattle.stack_view.proofs.Keeps.{queue-there}
-use Rattle.stack_view.proofs.Enabled.{due-one}
+use Rattle.stack_laws.specs.Blocks.{blocks, place_of, times}
+use Rattle.stack_laws.specs.Formed.{Formed, IsGroup, Named}
+use Rattle.stack_laws.specs.Plan.{Plan, request_at}
+use Rattle.stack_laws.specs.Sound.{HasBlocks, Settles}
+use Rattle.stack_laws.specs.Steps.{Complete as StepComplete, Send as StepSend, can, step}
+use Rattle.stack_laws.specs.View.{View, command_at, group_at, no_op, queue_at}
+use Rattle.stack_laws.proofs.Formed.{queue-groups}
+use Rattle.stack_laws.proofs.Keeps.{queue-there}
+use Rattle.stack_laws.proofs.Enabled.{due-one}
 use Rattle.stack_steps.specs.declared.choice.Choice.TheVariants.{Complete, Send}
 use Rattle.stack_steps.specs.declared.machine.Machine.{Machine}
 use Rattle.stack_steps.specs.Does.{Does, Flies, Holds, Lands, Takes}
@@ -31,22 +31,22 @@ use Rattle.stack_steps.proofs.Sums.{sends-fit}
 use Rattle.block_path.specs.Acts.{State}
 use Rattle.block_path.specs.Blocks.{Sent}
 use Rattle.volume_table.specs.Places.{place_in, volume_len}
-use Rattle.run_follows.specs.Passed.{Setting}
-use Rattle.run_follows.specs.Sending.{AllGoing, NoneBefore, with_fates}
-use Rattle.run_follows.specs.Slots.{Status}
-use Rattle.run_follows.proofs.Sending.{in_its_queue}
+use Rattle.stack_walk_laws.specs.Passed.{Setting}
+use Rattle.stack_walk_laws.specs.Sending.{AllGoing, NoneBefore, with_fates}
+use Rattle.stack_walk_laws.specs.Slots.{Status}
+use Rattle.stack_walk_laws.proofs.Sending.{in_its_queue}
 use Rattle.stack_core.specs.Courses.{Course, FollowsBy}
 use Rattle.stack_core.specs.declared.sheet.Sheet.{Sheet}
 use Rattle.stack_core.specs.declared.stack.Stack.{Stack}
-use Rattle.run_follows.specs.Settled.{AllSettled, KeptFates}
-use Rattle.run_follows.specs.Settling.{AreFates}
-use Rattle.run_follows.specs.Sheets.{io_at}
+use Rattle.stack_walk_laws.specs.Settled.{AllSettled, KeptFates}
+use Rattle.stack_walk_laws.specs.Settling.{AreFates}
+use Rattle.stack_walk_laws.specs.Sheets.{io_at}
 use Rattle.stack_core.specs.Stacks.{IsStack, StackStays, plan_in}
 use Rattle.stack_core.specs.Walking.{Data, Follow, IsChosen, IsOver, SizesFit, WalksBy, data_of, status_of}
 use Rattle.stack_core.proofs.Completes.{completes}
 use Rattle.stack_core.proofs.Courses.{held_by, none_held}
 use Rattle.stack_core.proofs.Context.{adapts, places, stands}
-use Rattle.run_follows.proofs.Facts.{completed, place-is}
+use Rattle.stack_walk_laws.proofs.Facts.{completed, place-is}
 use Rattle.stack_core.proofs.FollowsSend.{all_going, sent_before, sent_follows, spots_of}
 use Rattle.stack_core.proofs.Sending.{carried-group}
 use Rattle.stack_core.proofs.Walked.{can_be, lie, meant, ready, sound, stand, taken, walked}

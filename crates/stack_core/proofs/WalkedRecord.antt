@@ -15,22 +15,22 @@ use Rattle.dix_adapter.specs.Ways.{IsRecord, RecordedIn, RecordedOut}
 use Rattle.rig_api.specs.Log.{LogEntry}
 use Rattle.rig_api.specs.Telling.{Standing, spec_at}
 use Rattle.rig_api.specs.State.{RigState}
-use Rattle.stack_view.specs.Plan.{Plan}
-use Rattle.stack_view.specs.Sound.{Settles}
-use Rattle.stack_view.specs.View.{View, group_at}
+use Rattle.stack_laws.specs.Plan.{Plan}
+use Rattle.stack_laws.specs.Sound.{Settles}
+use Rattle.stack_laws.specs.View.{View, group_at}
 use Rattle.stack_steps.specs.declared.choice.Choice.TheVariants.{Send}
 use Rattle.stack_steps.specs.declared.machine.Machine.{Machine}
 use Rattle.stack_steps.specs.Does.{Flies, Takes}
 use Rattle.block_path.specs.Acts.{State}
 use Rattle.block_path.specs.Blocks.{Sent}
 use Rattle.block_path.specs.Routes.{wire_size}
-use Rattle.run_follows.specs.Passed.{recorded, told, Block as ScriptBlock, Setting, route}
-use Rattle.run_follows.specs.Finished.{FramesFit}
-use Rattle.run_follows.specs.Following.{Follows}
-use Rattle.run_follows.specs.Sending.{AllGoing, FollowsOn, NoneBefore, with_fates}
-use Rattle.run_follows.specs.Slots.{Status}
-use Rattle.run_follows.proofs.Fitting.{fit_in, fit_out}
-use Rattle.run_follows.proofs.Recording.{sent_in, sent_out}
+use Rattle.stack_walk_laws.specs.Passed.{recorded, told, Block as ScriptBlock, Setting, route}
+use Rattle.stack_walk_laws.specs.Finished.{FramesFit}
+use Rattle.stack_walk_laws.specs.Following.{Follows}
+use Rattle.stack_walk_laws.specs.Sending.{AllGoing, FollowsOn, NoneBefore, with_fates}
+use Rattle.stack_walk_laws.specs.Slots.{Status}
+use Rattle.stack_walk_laws.proofs.Fitting.{fit_in, fit_out}
+use Rattle.stack_walk_laws.proofs.Recording.{sent_in, sent_out}
 use Rattle.stack_core.specs.declared.stack.Stack.{Stack}
 use Rattle.stack_core.specs.Stacks.{IsStack, StackStays, plan_in}
 use Rattle.stack_core.specs.Walking.{IsChosen, IsOver, Walks, WalksOver, data_of, status_of}

@@ -33,19 +33,19 @@ use Rattle.dix_adapter.proofs.GoingIn.{long-at, sent-long-in}
 use Rattle.dix_adapter.proofs.Landing.{group-width}
 use Rattle.dix_adapter.proofs.Runs.{Next, Run, group-run, width_for}
 use Rattle.dix_adapter.proofs.Units.{Stands as UnitStands, unit-stands}
-use Rattle.run_follows.proofs.Puts.{InTurn, bios_turn}
+use Rattle.stack_walk_laws.proofs.Puts.{InTurn, bios_turn}
 use Rattle.range_gate.specs.Gates.{has_ended}
 use Rattle.rig_api.specs.Log.{LogEntry}
 use Rattle.rig_api.specs.Telling.{HasCause, IsStanding, Standing, frame_size, spec_at, specs_of, unit_at, units_told}
 use Rattle.rig_api.specs.State.{RigState}
 use Rattle.merge_queue.specs.Groups.{size}
 use Rattle.stack_ops.specs.declared.op.Op.{Op}
-use Rattle.stack_view.specs.Blocks.{blocks, place_of, times}
-use Rattle.stack_view.specs.Formed.{Named}
-use Rattle.stack_view.specs.Plan.{Plan, no_request, request_at}
-use Rattle.stack_view.specs.Sound.{HasBlocks, Settles}
-use Rattle.stack_view.specs.View.{View, group_at, op_at, queue_at}
-use Rattle.stack_view.proofs.Enabled.{all-at}
+use Rattle.stack_laws.specs.Blocks.{blocks, place_of, times}
+use Rattle.stack_laws.specs.Formed.{Named}
+use Rattle.stack_laws.specs.Plan.{Plan, no_request, request_at}
+use Rattle.stack_laws.specs.Sound.{HasBlocks, Settles}
+use Rattle.stack_laws.specs.View.{View, group_at, op_at, queue_at}
+use Rattle.stack_laws.proofs.Enabled.{all-at}
 use Rattle.stack_steps.specs.declared.choice.Choice.TheVariants.{Send}
 use Rattle.stack_steps.specs.declared.machine.Machine.{Machine}
 use Rattle.stack_steps.specs.Does.{Flies, Takes}
@@ -53,23 +53,23 @@ use Rattle.block_path.specs.Acts.{State}
 use Rattle.block_path.specs.Blocks.{Sent, Site, fetched_cell}
 use Rattle.block_path.specs.declared.route.Route.{Route}
 use Rattle.block_path.specs.Routes.{by_target, passage}
-use Rattle.run_follows.specs.Passed.{is_shifted, fates_of, recorded, Setting, block_of, route}
-use Rattle.run_follows.specs.Sending.{AllGoing, AllSized, NoneBefore, with_fates}
-use Rattle.run_follows.specs.Slots.{Status}
-use Rattle.run_follows.proofs.Recording.{none_in, none_out}
+use Rattle.stack_walk_laws.specs.Passed.{is_shifted, fates_of, recorded, Setting, block_of, route}
+use Rattle.stack_walk_laws.specs.Sending.{AllGoing, AllSized, NoneBefore, with_fates}
+use Rattle.stack_walk_laws.specs.Slots.{Status}
+use Rattle.stack_walk_laws.proofs.Recording.{none_in, none_out}
 use Rattle.stack_ops.specs.Ops.{first_virt}
-use Rattle.run_follows.specs.Units.{AreAtUnits, IsAtUnit}
-use Rattle.run_follows.proofs.WalksStanding.{IsOut}
+use Rattle.stack_walk_laws.specs.Units.{AreAtUnits, IsAtUnit}
+use Rattle.stack_walk_laws.proofs.WalksStanding.{IsOut}
 use Rattle.stack_core.specs.Courses.{Course, Falling, FollowsBy, Straight}
 use Rattle.stack_core.specs.declared.sheet.Sheet.{Sheet}
 use Rattle.stack_core.specs.declared.stack.Stack.{Stack}
-use Rattle.run_follows.specs.Sheets.{io_at, op_in}
+use Rattle.stack_walk_laws.specs.Sheets.{io_at, op_in}
 use Rattle.stack_core.specs.Stacks.{IsStack, StackStays, plan_in}
 use Rattle.stack_core.specs.Walking.{IsChosen, WalksAtTarget, WalksBy, data_of, status_of}
 use Rattle.stack_core.proofs.AtUnits.{EachIn, both_still, fewer_behind, first_block, io_count, io_first, range_in, still}
 use Rattle.stack_core.proofs.Context.{adapts, over_stays, places, stands}
 use Rattle.stack_core.proofs.Courses.{StopsBy, in_by, out_by}
-use Rattle.run_follows.proofs.Facts.{place-is}
+use Rattle.stack_walk_laws.proofs.Facts.{place-is}
 use Rattle.stack_core.proofs.FollowsGroup.{AllLie, Lies}
 use Rattle.stack_core.proofs.FollowsSend.{all_going, group_lies, ids, out_is, spots_of}
 use Rattle.stack_core.proofs.Walked.{sound, stand}

@@ -3,12 +3,12 @@ use Rattle.std.specs.Prelude.{◌≡◌, ℕ, true, List, IfSome}
 use Rattle.stack_ops.specs.declared.op.Op.{Op}
 use Rattle.block_path.specs.Acts.{State}
 use Rattle.block_path.specs.Blocks.{Sent}
-use Rattle.run_follows.specs.Passed.{Setting}
-use Rattle.run_follows.specs.Following.{Follows}
-use Rattle.run_follows.specs.Sending.{is_carried}
-use Rattle.run_follows.specs.Slots.{Status}
-use Rattle.run_follows.specs.Flips.{Flips, with_flips}
-use Rattle.run_follows.specs.FollowsFalling.{FollowsFalling}
+use Rattle.stack_walk_laws.specs.Passed.{Setting}
+use Rattle.stack_walk_laws.specs.Following.{Follows}
+use Rattle.stack_walk_laws.specs.Sending.{is_carried}
+use Rattle.stack_walk_laws.specs.Slots.{Status}
+use Rattle.stack_walk_laws.specs.Flips.{Flips, with_flips}
+use Rattle.stack_walk_laws.specs.FollowsFalling.{FollowsFalling}
 
 -- No store call failed, or it isn't known. Or some failed, and it is known which: each overwrite among them flips its block.
 pub data Course : Type 0 where

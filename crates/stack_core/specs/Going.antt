@@ -3,9 +3,9 @@ use Rattle.std.specs.Prelude.{◌≡◌, ℕ, ◌+◌, ◌≤◌, List, false, i
 use Rattle.std.specs.List.{list_any}
 use Rattle.dix_base.specs.Told.{Calm}
 use Rattle.rig_api.specs.State.{KeepsRecords, RigState, Stays as RigStays}
-use Rattle.answered_record.specs.Answered.{PutsAnswers}
+use Rattle.record_laws.specs.Answered.{PutsAnswers}
 use Rattle.block_path.specs.Acts.{State}
-use Rattle.run_follows.specs.Passed.{Setting}
+use Rattle.stack_walk_laws.specs.Passed.{Setting}
 use Rattle.stack_ops.specs.declared.op.Op.{Op}
 use Rattle.stack_ops.specs.declared.reply.Reply.{Reply}
 use Rattle.stack_ops.specs.Ops.{is_overwrite}

@@ -7,10 +7,10 @@ use Rattle.stack_ops.specs.declared.reply.BadBlock.{BadBlock}
 use Rattle.stack_ops.specs.declared.reply.Reply.{Reply}
 use Rattle.stack_ops.specs.declared.reply.Reply.TheVariants.{Silent, Whole, Bad as BadReply, Shown, Medium as MediumReply}
 use Rattle.bio_core.specs.declared.bio.Bio.{Bio}
-use Rattle.stack_view.specs.Plan.{Plan}
-use Rattle.stack_view.specs.Sound.{Settles}
-use Rattle.stack_view.specs.Steps.{Step, can, step}
-use Rattle.stack_view.specs.View.{Command, View}
+use Rattle.stack_laws.specs.Plan.{Plan}
+use Rattle.stack_laws.specs.Sound.{Settles}
+use Rattle.stack_laws.specs.Steps.{Step, can, step}
+use Rattle.stack_laws.specs.View.{Command, View}
 use Rattle.stack_steps.specs.declared.choice.Choice.{Choice}
 use Rattle.stack_steps.specs.declared.machine.Machine.{Machine}
 use Rattle.stack_steps.specs.Does.{Flies, Holds, Takes}

@@ -10,12 +10,12 @@ use Rattle.volume_table.specs.Places.{place_in, volume_len}
 use Rattle.volume_table.specs.Tables.{Table}
 use Rattle.stack_ops.specs.declared.op.Op.{Op}
 use Rattle.stack_ops.specs.declared.reply.Reply.TheVariants.{Silent}
-use Rattle.stack_view.specs.Runs.{blocks_of_requests}
-use Rattle.stack_view.specs.View.{start}
+use Rattle.stack_laws.specs.Runs.{blocks_of_requests}
+use Rattle.stack_laws.specs.View.{start}
 use Rattle.stack_steps.specs.Does.{Holds}
-use Rattle.run_follows.specs.Requests.{pages_from, requests_from}
-use Rattle.run_follows.specs.Sheets.{request_in}
-use Rattle.run_follows.specs.Shifts.{shifted_by}
+use Rattle.stack_walk_laws.specs.Requests.{pages_from, requests_from}
+use Rattle.stack_walk_laws.specs.Sheets.{request_in}
+use Rattle.stack_walk_laws.specs.Shifts.{shifted_by}
 use Rattle.stack_core.specs.declared.setup.Setup.{Setup}
 use Rattle.stack_core.specs.declared.sheet.Sheet.{Sheet}
 use Rattle.stack_core.specs.declared.stack.Stack.{Stack}

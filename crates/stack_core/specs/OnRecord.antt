@@ -25,17 +25,17 @@ use Rattle.target_answer.specs.declared.request.Request.TheVariants.{Read, Write
 use Rattle.stack_ops.specs.declared.reply.BadBlock.{BadBlock}
 use Rattle.stack_ops.specs.declared.reply.Reply.{Reply}
 use Rattle.stack_ops.specs.declared.reply.Reply.TheVariants.{Silent, Whole, Bad as BadReply, Shown, Medium}
-use Rattle.stack_view.specs.Comes.{Comes, entry_at}
-use Rattle.stack_view.specs.Formed.{IsGroup}
-use Rattle.stack_view.specs.Plan.{Plan}
-use Rattle.stack_view.specs.Runs.{ScheduleEntry, SentCommand, sent}
-use Rattle.stack_view.specs.Steps.{Step, can, step}
-use Rattle.stack_view.specs.View.{Command, OpView, View, no_op}
+use Rattle.stack_laws.specs.Comes.{Comes, entry_at}
+use Rattle.stack_laws.specs.Formed.{IsGroup}
+use Rattle.stack_laws.specs.Plan.{Plan}
+use Rattle.stack_laws.specs.Runs.{ScheduleEntry, SentCommand, sent}
+use Rattle.stack_laws.specs.Steps.{Step, can, step}
+use Rattle.stack_laws.specs.View.{Command, OpView, View, no_op}
 use Rattle.stack_steps.specs.declared.choice.Choice.{Choice}
 use Rattle.stack_steps.specs.declared.machine.Machine.{Machine}
 use Rattle.stack_steps.specs.Does.{Flies, Holds, Takes}
 use Rattle.stack_steps.specs.Shows.{Means}
-use Rattle.stack_view.specs.Sound.{HasBlocks, OnDevices, Settles}
+use Rattle.stack_laws.specs.Sound.{HasBlocks, OnDevices, Settles}
 use Rattle.stack_core.specs.declared.stack.Stack.{Stack}
 use Rattle.stack_core.specs.Stacks.{plan_in}
 

@@ -8,7 +8,7 @@ use Rattle.stack_ops.specs.declared.op.Op.TheVariants.{Fill, Put, Show, Seal, Wr
 use Rattle.stack_core.specs.declared.kept.Room.{Room}
 use Rattle.stack_core.specs.declared.kept.Room.TheVariants.{Blocks, Bytes, Tuples}
 use Rattle.stack_core.specs.Replies.{HoldsShown}
-use Rattle.run_follows.specs.Requests.{request_of, sealed}
+use Rattle.stack_walk_laws.specs.Requests.{request_of, sealed}
 
 -- how many blocks an op has
 abbrev pub blocks_in : Op → ℕ

@@ -16,20 +16,20 @@ use Rattle.rig_api.specs.Log.{LogEntry, HasRoom, Room as Spare}
 use Rattle.rig_api.specs.State.{RigState}
 use Rattle.rig_api.specs.Telling.{Standing, greatest_size}
 use Rattle.stack_ops.specs.declared.op.Op.{Op}
-use Rattle.stack_view.specs.Plan.{Plan}
-use Rattle.stack_view.specs.Room.{exchanges_left, frames_left}
-use Rattle.stack_view.specs.Runs.{blocks_of_requests}
-use Rattle.stack_view.specs.Sound.{Answered}
-use Rattle.stack_view.specs.Steps.{chosen, enabled, step}
-use Rattle.stack_view.specs.View.{View}
+use Rattle.stack_laws.specs.Plan.{Plan}
+use Rattle.stack_laws.specs.Room.{exchanges_left, frames_left}
+use Rattle.stack_laws.specs.Runs.{blocks_of_requests}
+use Rattle.stack_laws.specs.Sound.{Answered}
+use Rattle.stack_laws.specs.Steps.{chosen, enabled, step}
+use Rattle.stack_laws.specs.View.{View}
 use Rattle.stack_steps.specs.declared.machine.Machine.{Machine}
 use Rattle.stack_steps.specs.Does.{Holds, Works}
 use Rattle.stack_core.specs.declared.kept.Room.{Room}
 use Rattle.stack_core.specs.declared.kept.Room.TheVariants.{Nothing}
 use Rattle.stack_core.specs.declared.sheet.Sheet.{Sheet}
 use Rattle.stack_core.specs.declared.stack.Stack.{Stack}
-use Rattle.run_follows.specs.Sheets.{io_at, op_in, plan_of}
-use Rattle.run_follows.specs.Settling.{AreAllWhole, AreFates}
+use Rattle.stack_walk_laws.specs.Sheets.{io_at, op_in, plan_of}
+use Rattle.stack_walk_laws.specs.Settling.{AreAllWhole, AreFates}
 use Rattle.stack_core.specs.Replies.{HoldsBad}
 use Rattle.stack_core.specs.Doing.{CanDo, CanReach}
 use Rattle.pi_tuple.specs.declared.TheConstants.{LARGEST_BLOCK}

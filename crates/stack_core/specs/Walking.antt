@@ -17,8 +17,8 @@ use Rattle.stack_ops.specs.declared.op.Op.{Op}
 use Rattle.stack_ops.specs.declared.op.Op.TheVariants.{Fill, Put, Show, Seal, Write, Fetch, WritePi, FetchPi, Overwrite, Wait}
 use Rattle.stack_ops.specs.declared.reply.Reply.{Reply}
 use Rattle.stack_ops.specs.declared.reply.Reply.TheVariants.{Silent, Whole, Bad, Shown, Medium}
-use Rattle.stack_view.specs.Plan.{Plan, request_at}
-use Rattle.stack_view.specs.View.{View, is_admitted, op_at}
+use Rattle.stack_laws.specs.Plan.{Plan, request_at}
+use Rattle.stack_laws.specs.View.{View, is_admitted, op_at}
 use Rattle.stack_steps.specs.declared.choice.Choice.{Choice}
 use Rattle.stack_steps.specs.Does.{Chooses, Holds}
 use Rattle.block_path.specs.Acts.{State}
@@ -30,28 +30,28 @@ use Rattle.dix_adapter.specs.Groups.{mode_of}
 use Rattle.dix_adapter.specs.Ways.{blocks_told, site_of}
 use Rattle.block_path.specs.Moves.{hidden}
 use Rattle.volume_table.specs.Places.{place_in, volume_len}
-use Rattle.run_follows.specs.Passed.{fates, fates_of, Backed, Carried, recorded, told, bad_from, changed, script_replies, script_walk, source_of as source_cell, whole_or_bad, Setting, each_from}
-use Rattle.run_follows.specs.Finished.{FramesFit}
-use Rattle.run_follows.specs.Sending.{NoneBefore}
-use Rattle.run_follows.specs.Slots.{Status}
-use Rattle.run_follows.specs.Ground.{Ground}
-use Rattle.run_follows.specs.Seals.{IsSealed}
-use Rattle.run_follows.specs.Statuses.{status_in}
-use Rattle.run_follows.specs.Units.{AreAtUnits}
+use Rattle.stack_walk_laws.specs.Passed.{fates, fates_of, Backed, Carried, recorded, told, bad_from, changed, script_replies, script_walk, source_of as source_cell, whole_or_bad, Setting, each_from}
+use Rattle.stack_walk_laws.specs.Finished.{FramesFit}
+use Rattle.stack_walk_laws.specs.Sending.{NoneBefore}
+use Rattle.stack_walk_laws.specs.Slots.{Status}
+use Rattle.stack_walk_laws.specs.Ground.{Ground}
+use Rattle.stack_walk_laws.specs.Seals.{IsSealed}
+use Rattle.stack_walk_laws.specs.Statuses.{status_in}
+use Rattle.stack_walk_laws.specs.Units.{AreAtUnits}
 use Rattle.stack_core.specs.declared.kept.Room.{Room}
 use Rattle.stack_core.specs.declared.sheet.Sheet.{Sheet}
 use Rattle.stack_core.specs.declared.stack.Stack.{Stack}
-use Rattle.run_follows.specs.AtTheEnd.{EndsAsFalling}
-use Rattle.run_follows.specs.Flips.{Flips, with_flips}
+use Rattle.stack_walk_laws.specs.AtTheEnd.{EndsAsFalling}
+use Rattle.stack_walk_laws.specs.Flips.{Flips, with_flips}
 use Rattle.rig_api.specs.declared.change.Change.{Change}
 use Rattle.stack_ops.specs.Ops.{is_overwrite}
 use Rattle.stack_core.specs.Courses.{Course, Falling, FollowsBy, Straight}
 use Rattle.stack_core.specs.Doing.{CanReach}
-use Rattle.run_follows.specs.Moved.{why_of}
-use Rattle.run_follows.specs.Requests.{requests_from}
+use Rattle.stack_walk_laws.specs.Moved.{why_of}
+use Rattle.stack_walk_laws.specs.Requests.{requests_from}
 use Rattle.stack_core.specs.Rooms.{Suits}
-use Rattle.run_follows.specs.Sheets.{io_at, op_in}
-use Rattle.run_follows.specs.Shifts.{shifted_by}
+use Rattle.stack_walk_laws.specs.Sheets.{io_at, op_in}
+use Rattle.stack_walk_laws.specs.Shifts.{shifted_by}
 use Rattle.stack_core.specs.Stacks.{HasStep, plan_in, room_at}
 use Rattle.page_pool.specs.declared.TheConstants.{PAGE}
 

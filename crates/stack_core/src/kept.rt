@@ -3,9 +3,9 @@
 ghost use Rattle.std.specs.Prelude.{◌≡◌, ◌<◌, ◌≤◌, ◌+◌, ◌^◌, ◌++◌, [], ◌∷◌, IfOk, length, map, take, drop, replicate, slice_index_or, slice_set};
 ghost use Rattle.bio_core.specs.declared.fate.Fate.TheVariants.{Untouched};
 ghost use Rattle.std.specs.Vec.{vec_capacity};
-ghost use Rattle.stack_view.specs.Runs.{blocks_of_requests};
-ghost use Rattle.run_follows.specs.Sheets.{request_in};
-ghost use Rattle.run_follows.specs.Settling.{AreFates};
+ghost use Rattle.stack_laws.specs.Runs.{blocks_of_requests};
+ghost use Rattle.stack_walk_laws.specs.Sheets.{request_in};
+ghost use Rattle.stack_walk_laws.specs.Settling.{AreFates};
 ghost use Rattle.stack_core.specs.Rooms.{IsForBlocks, Suits, blocks_in};
 ghost use Rattle.stack_core.specs.Replies.{HoldsBad, HoldsShown, bad_from, reply_of, shown};
 ghost use Rattle.bio_core.specs.declared.TheConstants.{MOST_BLOCKS};

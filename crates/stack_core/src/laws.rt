@@ -6,9 +6,9 @@ ghost use Rattle.fault_schedule.specs.declared.fault.FaultLine.{FaultLine};
 ghost use Rattle.target_answer.specs.Target.{Stored};
 ghost use Rattle.rig_api.specs.Log.{LogEntry};
 ghost use Rattle.rig_api.specs.Telling.{Standing};
-ghost use Rattle.stack_view.specs.Runs.{ScheduleEntry as AnyEntry, blocks_of_requests, sends_of};
-ghost use Rattle.run_follows.specs.Passed.{IsBoundRun, Backed, recorded, told, Setting};
-ghost use Rattle.run_follows.specs.Takes.{AllTakeAny};
+ghost use Rattle.stack_laws.specs.Runs.{ScheduleEntry as AnyEntry, blocks_of_requests, sends_of};
+ghost use Rattle.stack_walk_laws.specs.Passed.{IsBoundRun, Backed, recorded, told, Setting};
+ghost use Rattle.stack_walk_laws.specs.Takes.{AllTakeAny};
 ghost use Rattle.dix_adapter.specs.Ways.{blocks_told};
 ghost use Rattle.stack_core.specs.declared.stack.Stack.{Stack as AnyStack};
 ghost use Rattle.stack_core.specs.Mediums.{HasCounted, RoseBy, medium_lines};
@@ -32,8 +32,8 @@ ghost use Rattle.block_path.specs.Routes.{host_type};
 ghost use Rattle.block_path.specs.Serial.{plain};
 ghost use Rattle.dix_adapter.specs.Groups.{data_cells};
 ghost use Rattle.stack_core.specs.Done.{WriteMade, WriteMapped};
-ghost use Rattle.run_follows.specs.Settled.{MappedBack, ReadSettled};
-ghost use Rattle.run_follows.specs.Moved.{HasFrames, IsSettle, makes, maps_out, route_to, tuple_at, why_of};
+ghost use Rattle.stack_walk_laws.specs.Settled.{MappedBack, ReadSettled};
+ghost use Rattle.stack_walk_laws.specs.Moved.{HasFrames, IsSettle, makes, maps_out, route_to, tuple_at, why_of};
 
 /// A write whose tuples are made as it is admitted, and whose tags are mapped out as it is cut and back as it is
 /// settled, is one move a block further each time: the pages are those that the moves leave.

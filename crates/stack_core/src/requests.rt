@@ -2,8 +2,8 @@
 
 ghost use Rattle.std.specs.Prelude.{◌≡◌, ◌+◌, ◌<◌, ◌≤◌, ◌^◌, IfOk};
 ghost use Rattle.std.specs.Option.{ForSome};
-ghost use Rattle.run_follows.specs.Sheets.{no_io};
-ghost use Rattle.run_follows.specs.Requests.{of_app, of_block, own_blocks, own_tuples, pages_for, private_tuples, request_of, sealed, tuple_page};
+ghost use Rattle.stack_walk_laws.specs.Sheets.{no_io};
+ghost use Rattle.stack_walk_laws.specs.Requests.{of_app, of_block, own_blocks, own_tuples, pages_for, private_tuples, request_of, sealed, tuple_page};
 ghost use Rattle.bio_core.specs.declared.TheConstants.{MOST_BLOCKS};
 
 use bio_core::{Dir, Io};

@@ -9,8 +9,8 @@ ghost use Rattle.ref_remap.specs.Remapped.{AreRemapped};
 ghost use Rattle.bio_core.specs.Bios.{block_size};
 ghost use Rattle.bio_core.specs.declared.request.Dir.TheVariants.{Read};
 ghost use Rattle.merge_queue.specs.Groups.{size};
-ghost use Rattle.run_follows.specs.Settling.{AreAllWhole, AreFates, HasTuples, IsOf, IsWhole};
-ghost use Rattle.run_follows.specs.Settled.{AllSettled, BioSettled, Blanked, Judged, LeftBy, MappedBack, OneSettled, ReadSettled, Settled, TupleBlanked, said_by};
+ghost use Rattle.stack_walk_laws.specs.Settling.{AreAllWhole, AreFates, HasTuples, IsOf, IsWhole};
+ghost use Rattle.stack_walk_laws.specs.Settled.{AllSettled, BioSettled, Blanked, Judged, LeftBy, MappedBack, OneSettled, ReadSettled, Settled, TupleBlanked, said_by};
 ghost use Rattle.stack_core.specs.Places.{HoldsFates, KeepsPlaces};
 
 use crate::kept::Fates;
@@ -22,14 +22,24 @@ use page_pool::{PagePool, SgList};
 use pi_tuple::{PiType, TUPLE};
 use ref_remap::map_back;
 
+/// How what comes back is settled.
+#[derive(Clone, Copy, Debug, PartialEq, Eq)]
+pub(crate) struct Settling {
+    /// How tuples travel.
+    pub(crate) mode: Mode,
+    /// The type of the tuples in the host's memory.
+    pub(crate) ty: PiType,
+}
+
 /// What the owner of its tuple says of a block that came.
-fn verified(pool: &PagePool, io: &Io, pi: &Payload, mode: Mode, ty: PiType, k: u32) -> Fate
+fn verified(pool: &PagePool, io: &Io, pi: &Payload, how: Settling, k: u32) -> Fate
     requires whole { IsWhole pool.now io.now }
     requires tuples { HasTuples pool.now io.now pi.now }
     requires within { k < io.now.count }
-    ensures { result ≡ said_by pi.now mode ty pool.now io.now k }
+    ensures { result ≡ said_by pi.now how.mode how.ty pool.now io.now k }
 {
-    match pi.verify(pool, &io.body, mode.kind, ty, k, mode.app, mode.mask) {
+    let mode = how.mode;
+    match pi.verify(pool, &io.body, mode.kind, how.ty, k, mode.app, mode.mask) {
         Some(check) => Fate::Bad(owner_says(pi.owner, check)),
         None => Fate::Good,
     }
@@ -43,7 +53,7 @@ fn blank_data(pool: &mut PagePool, io: &Io, k: u32)
     ensures pages { length pool.new ≡ length pool.old }
     ensures zeros { Wrote pool.old pool.new (range_of io.now.body (k * block_size io.now) (block_size io.now)) (replicate (block_size io.now) 0) }
 {
-    // The body's bytes are known to be few once it was looked at.
+    // A look for the proof: the body has few bytes.
     let _segs = io.body.as_slice();
     let size = io.block_size();
     pool.zero(&io.body, k * size, size);
@@ -68,7 +78,7 @@ fn zero_tuple(pool: &mut PagePool, tuples: &SgList, k: u32)
     ensures pages { length pool.new ≡ length pool.old }
     ensures zeros { Wrote pool.old pool.new (tuple_places tuples.now k) (replicate TUPLE 0) }
 {
-    // The list's bytes are known to be few once it was looked at.
+    // A look for the proof: the list has few bytes.
     let _segs = tuples.as_slice();
     pool.zero(tuples, TUPLE as u32 * k, TUPLE as u32);
 }
@@ -86,45 +96,29 @@ fn blank(pool: &mut PagePool, io: &Io, k: u32)
 }
 
 /// A good block that was read has its tag mapped back and is looked at by its owner.
-fn look_at(
-    pool: &mut PagePool,
-    io: &Io,
-    pi: &Payload,
-    mode: Mode,
-    ty: PiType,
-    k: u32,
-    lba: u64,
-) -> Fate
+fn look_at(pool: &mut PagePool, io: &Io, pi: &Payload, how: Settling, k: u32, lba: u64) -> Fate
     requires whole { IsWhole pool.old io.now }
     requires tuples { HasTuples pool.old io.now pi.now }
     requires within { k < io.now.count }
     requires ends { lba + 1 < 2 ^ 64 }
     ensures pages { length pool.new ≡ length pool.old }
-    ensures mapped { AreRemapped pool.old pool.new pi.now.tuples ty k 1 lba (pi.now.seed + k) }
-    ensures said { result ≡ said_by pi.now mode ty pool.new io.now k }
+    ensures mapped { AreRemapped pool.old pool.new pi.now.tuples how.ty k 1 lba (pi.now.seed + k) }
+    ensures said { result ≡ said_by pi.now how.mode how.ty pool.new io.now k }
 {
-    map_back(pool, pi, ty, k, 1, lba);
-    verified(pool, io, pi, mode, ty, k)
+    map_back(pool, pi, how.ty, k, 1, lba);
+    verified(pool, io, pi, how, k)
 }
 
 /// What becomes of a block that was read.
-fn judge_read(
-    pool: &mut PagePool,
-    io: &Io,
-    mode: Mode,
-    ty: PiType,
-    k: u32,
-    lba: u64,
-    fate: Fate,
-) -> Fate
+fn judge_read(pool: &mut PagePool, io: &Io, how: Settling, k: u32, lba: u64, fate: Fate) -> Fate
     requires whole { IsWhole pool.old io.now }
     requires within { k < io.now.count }
     requires ends { lba + 1 < 2 ^ 64 }
     ensures pages { length pool.new ≡ length pool.old }
-    ensures judged { Judged io.now.pi fate mode ty io.now k lba pool.old pool.new result }
+    ensures judged { Judged io.now.pi fate how.mode how.ty io.now k lba pool.old pool.new result }
 {
     match (fate, &io.pi) {
-        (Fate::Good, Some(pi)) => look_at(pool, io, pi, mode, ty, k, lba),
+        (Fate::Good, Some(pi)) => look_at(pool, io, pi, how, k, lba),
         _ => fate,
     }
 }
@@ -143,23 +137,15 @@ fn blank_unless_good(pool: &mut PagePool, io: &Io, k: u32, fate: Fate)
 
 /// Settles a block that was read: a good one has its tag mapped back and is looked at by its owner; zeros stand in
 /// place of a bad one.
-fn settle_read(
-    pool: &mut PagePool,
-    io: &Io,
-    mode: Mode,
-    ty: PiType,
-    k: u32,
-    lba: u64,
-    fate: Fate,
-) -> Fate
+fn settle_read(pool: &mut PagePool, io: &Io, how: Settling, k: u32, lba: u64, fate: Fate) -> Fate
     requires whole { IsWhole pool.old io.now }
     requires read { io.now.dir ≡ Read }
     requires within { k < io.now.count }
     requires ends { lba + 1 < 2 ^ 64 }
     ensures pages { length pool.new ≡ length pool.old }
-    ensures settled { ReadSettled mode ty io.now k lba fate pool.old pool.new result }
+    ensures settled { ReadSettled how.mode how.ty io.now k lba fate pool.old pool.new result }
 {
-    let settled = judge_read(pool, io, mode, ty, k, lba, fate);
+    let settled = judge_read(pool, io, how, k, lba, fate);
     blank_unless_good(pool, io, k, settled);
     settled
 }
@@ -178,25 +164,17 @@ fn settle_write(pool: &mut PagePool, io: &Io, ty: PiType, k: u32, lba: u64)
 }
 
 /// Settles block `k` of a request, which lies at this address.
-fn settle_block(
-    pool: &mut PagePool,
-    io: &Io,
-    mode: Mode,
-    ty: PiType,
-    k: u32,
-    lba: u64,
-    fate: Fate,
-) -> Fate
+fn settle_block(pool: &mut PagePool, io: &Io, how: Settling, k: u32, lba: u64, fate: Fate) -> Fate
     requires whole { IsWhole pool.old io.now }
     requires within { k < io.now.count }
     requires ends { lba + 1 < 2 ^ 64 }
     ensures pages { length pool.new ≡ length pool.old }
-    ensures settled { Settled io.now.dir mode ty io.now k lba fate pool.old pool.new result }
+    ensures settled { Settled io.now.dir how.mode how.ty io.now k lba fate pool.old pool.new result }
 {
     match io.dir {
-        Dir::Read => settle_read(pool, io, mode, ty, k, lba, fate),
+        Dir::Read => settle_read(pool, io, how, k, lba, fate),
         Dir::Write => {
-            settle_write(pool, io, ty, k, lba);
+            settle_write(pool, io, how.ty, k, lba);
             fate
         }
     }
@@ -206,8 +184,7 @@ fn settle_block(
 fn settle_one(
     pool: &mut PagePool,
     io: &Io,
-    mode: Mode,
-    ty: PiType,
+    how: Settling,
     bio: &Bio,
     i: u32,
     fate: Fate,
@@ -220,15 +197,15 @@ fn settle_one(
     requires held { HoldsFates io.now bio.now kept.old }
     ensures pages { length pool.new ≡ length pool.old }
     ensures places { KeepsPlaces kept.old kept.new }
-    ensures settled { OneSettled mode ty io.now (slice_index_or kept.old.starts.items (bio.now.op - 1) 0) (bio.now.k + i) (bio.now.lba + i) fate
+    ensures settled { OneSettled how.mode how.ty io.now (slice_index_or kept.old.starts.items (bio.now.op - 1) 0) (bio.now.k + i) (bio.now.lba + i) fate
         (record { pages = pool.old; held = kept.old.held.items }) (record { pages = pool.new; held = kept.new.held.items }) }
 {
-    // That the request has few blocks is known once their number was looked at.
+    // A look for the proof: the request has few blocks.
     let _blocks = io.count;
     if fate != Fate::Untouched {
         let k = bio.k + i;
         let lba = bio.lba + i as u64;
-        let settled = settle_block(pool, io, mode, ty, k, lba, fate);
+        let settled = settle_block(pool, io, how, k, lba, fate);
         kept.set(bio.op as usize - 1, k, settled);
     }
 }
@@ -237,8 +214,7 @@ fn settle_one(
 fn settle_bio(
     pool: &mut PagePool,
     io: &Io,
-    mode: Mode,
-    ty: PiType,
+    how: Settling,
     bio: &Bio,
     fates: &[Fate],
     at: usize,
@@ -251,11 +227,11 @@ fn settle_bio(
     requires fates { at + bio.now.count ≤ length fates.now }
     ensures pages { length pool.new ≡ length pool.old }
     ensures places { KeepsPlaces kept.old kept.new }
-    ensures settled { BioSettled mode ty io.now (slice_index_or kept.old.starts.items (bio.now.op - 1) 0) bio.now fates.now at bio.now.count
+    ensures settled { BioSettled how.mode how.ty io.now (slice_index_or kept.old.starts.items (bio.now.op - 1) 0) bio.now fates.now at bio.now.count
         (record { pages = pool.old; held = kept.old.held.items }) (record { pages = pool.new; held = kept.new.held.items }) }
 {
     for i in 0..bio.count {
-        settle_one(pool, io, mode, ty, bio, i, fates[at + i as usize], kept);
+        settle_one(pool, io, how, bio, i, fates[at + i as usize], kept);
     }
 }
 
@@ -263,8 +239,7 @@ fn settle_bio(
 pub(crate) fn settle_all(
     pool: &mut PagePool,
     ios: &[Io],
-    mode: Mode,
-    ty: PiType,
+    how: Settling,
     bios: &[Bio],
     fates: &[Fate],
     kept: &mut Fates,
@@ -275,13 +250,13 @@ pub(crate) fn settle_all(
     requires kept { AreFates ios.now kept.old.starts.items kept.old.held.items }
     ensures pages { length pool.new ≡ length pool.old }
     ensures kept { AreFates ios.now kept.new.starts.items kept.new.held.items }
-    ensures settled { AllSettled mode ty ios.now kept.old.starts.items bios.now fates.now (length bios.now)
+    ensures settled { AllSettled how.mode how.ty ios.now kept.old.starts.items bios.now fates.now (length bios.now)
         (record { pages = pool.old; held = kept.old.held.items }) (record { pages = pool.new; held = kept.new.held.items }) }
 {
     let mut at = 0usize;
     for bio in bios {
         let io = &ios[bio.op as usize - 1];
-        settle_bio(pool, io, mode, ty, bio, fates, at, kept);
+        settle_bio(pool, io, how, bio, fates, at, kept);
         at += bio.count as usize;
     }
 }

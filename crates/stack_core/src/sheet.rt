@@ -3,7 +3,7 @@
 ghost use Rattle.std.specs.Prelude.{◌≡◌, ◌<◌, ◌≤◌, ◌+◌, ◌^◌, ℕ, length};
 ghost use Rattle.bio_core.specs.Bios.{block_size};
 ghost use Rattle.volume_table.specs.Places.{place_in, volume_len};
-ghost use Rattle.run_follows.specs.Sheets.{HaveNumbers, IsSheet, io_at, op_in, plan_of};
+ghost use Rattle.stack_walk_laws.specs.Sheets.{HaveNumbers, IsSheet, io_at, op_in, plan_of};
 ghost use Rattle.pi_tuple.specs.declared.TheConstants.{LARGEST_BLOCK};
 
 use bio_core::Io;

@@ -1,13 +1,13 @@
 //! The stack and its steps.
 
 ghost use Rattle.std.specs.Prelude.{◌≡◌, ◌<◌, ◌≤◌, ◌+◌, ◌*◌, ◌↔◌, ◌^◌, ◌⊎◌, ℕ, IsTrue, true, false, List, [], Some, is_some, length, slice_index_or, slice_set};
-ghost use Rattle.stack_view.specs.Runs.{blocks_of_requests};
-ghost use Rattle.stack_view.specs.Steps.{enabled};
-ghost use Rattle.stack_view.specs.View.{View};
+ghost use Rattle.stack_laws.specs.Runs.{blocks_of_requests};
+ghost use Rattle.stack_laws.specs.Steps.{enabled};
+ghost use Rattle.stack_laws.specs.View.{View};
 ghost use Rattle.stack_steps.specs.declared.choice.Choice.TheVariants.{End, Complete, Admit, Cut, Join, Send};
 ghost use Rattle.stack_steps.specs.Does.{Does, Holds, Ready};
 ghost use Rattle.stack_core.specs.declared.kept.Room.TheVariants.{Nothing};
-ghost use Rattle.run_follows.specs.Settling.{HasTuples, IsWhole};
+ghost use Rattle.stack_walk_laws.specs.Settling.{HasTuples, IsWhole};
 ghost use Rattle.stack_core.specs.Replies.{HoldsSeal};
 ghost use Rattle.stack_ops.specs.declared.reply.Reply.TheVariants.{Medium, Silent};
 ghost use Rattle.stack_core.specs.Done.{MadeBy, OpDone, Sealed, WriteMade, WriteMapped};
@@ -23,7 +23,7 @@ ghost use Rattle.stack_core.specs.Stacks.{GoesOn, HasStep, IsStack, StackStays, 
 ghost use Rattle.stack_core.specs.Going.{AdmitsOver, FailsCounted, SettlesNone, StandsOver, Went};
 
 use crate::kept::{Fates, Room, reply_of, shown};
-use crate::settle::settle_all;
+use crate::settle::{Settling, settle_all};
 use crate::sheet::Sheet;
 use bio_core::{Bio, Dir, Fate, Io};
 use dix_adapter::{Adapter, Scratch};
@@ -69,7 +69,7 @@ impl Stack {
         requires { IsStack self.now }
         ensures { (v : View) → Holds (plan_in self.now.sheet) self.now.machine v → IsTrue result ↔ enabled (plan_in self.now.sheet) v ≡ [] }
     {
-        self.machine.finished(&self.sheet)
+        self.machine.finished()
     }
 
     /// What each op replied, once it has ended.
@@ -138,7 +138,7 @@ impl Stack {
         ensures kept { self.new.kept ≡ self.old.kept }
         ensures few { medium_replies self.new.replies.items ≤ medium_replies self.old.replies.items }
     {
-        let op = self.machine.end(&self.sheet, q) as usize;
+        let op = self.machine.end(q) as usize;
         let room = take_room(&mut self.rooms, op);
         let fates = self.kept.of(op, self.sheet.request(op).count);
         set_reply(&mut self.replies, op, reply_of(fates, room));
@@ -160,8 +160,10 @@ impl Stack {
         settle_all(
             &mut self.pool,
             self.sheet.ios(),
-            self.adapter.mode(),
-            self.host,
+            Settling {
+                mode: self.adapter.mode(),
+                ty: self.host,
+            },
             &self.group,
             &self.fates,
             &mut self.kept,
@@ -227,7 +229,7 @@ impl Stack {
         ensures walks { IsChosen self.old (Join d i j) → WalksOn self.old self.new }
         ensures settles { SettlesNone self.old self.new }
     {
-        self.machine.join(&self.sheet, d, i, j);
+        self.machine.join(d, i, j);
     }
 
     fn send<R: Rig>(&mut self, d: u32, i: u32, rig: &mut R)
@@ -242,7 +244,7 @@ impl Stack {
         ensures carries { Carries self.old.adapter (plan_in self.old.sheet) self.old.machine d i self.new.machine (R.state rig.old).log (R.state rig.new).log }
         ensures spoils { Spoils (plan_in self.old.sheet) self.old.machine d i self.new.machine (R.state rig.old).faults (R.state rig.new).faults }
     {
-        self.machine.take(&self.sheet, d, i, &mut self.group);
+        self.machine.take(d, i, &mut self.group);
         self.adapter.carry(
             &mut self.pool,
             self.sheet.ios(),
@@ -251,7 +253,7 @@ impl Stack {
             &mut self.scratch,
             &mut self.fates,
         );
-        self.machine.fly(&self.sheet, d, &self.group, &self.fates);
+        self.machine.fly(d, &self.group, &self.fates);
     }
 }
 

@@ -8,7 +8,7 @@ use test_table::{Judge, cut};
 
 /// The image from here on, and the row that is read.
 #[derive(Drop)]
-pub(crate) struct Table {
+pub struct Table {
     image: Image,
     row: Row,
 }
@@ -25,7 +25,8 @@ fn add_other(text: &mut Vec<u8>, came: &[u8], wanted: &[u8]) -> Result<(), Alloc
 }
 
 impl Table {
-    pub(crate) fn new(alloc: Global) -> Table {
+    /// Over no image.
+    pub fn new(alloc: Global) -> Table {
         Table {
             image: Image::none(alloc),
             row: Row::new(alloc),

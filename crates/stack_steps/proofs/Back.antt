@@ -5,9 +5,9 @@ use Rattle.std.proofs.lemmas.List.{drop_all}
 use Rattle.bio_core.specs.declared.bio.Bio.{Bio}
 use Rattle.bio_core.specs.declared.fate.Fate.{Fate}
 use Rattle.bio_core.specs.declared.fate.Fate.TheVariants.{Good, Bad, Untouched}
-use Rattle.stack_view.specs.Plan.{Plan}
+use Rattle.stack_laws.specs.Plan.{Plan}
 use Rattle.merge_queue.specs.Groups.{Group, put, put_all}
-use Rattle.stack_view.specs.Rests.{Run, front, behind, with_place, untouched_runs}
+use Rattle.stack_laws.specs.Rests.{Run, front, behind, with_place, untouched_runs}
 use Rattle.merge_queue.specs.Index.{bios_in}
 use Rattle.stack_steps.specs.Parts.{untouched_front, rests_from}
 

@@ -2,18 +2,18 @@
 use Rattle.std.proofs.Common.{◌≡◌, ◌<◌, ◌≤◌, ℕ, zero, suc, ◌+◌, true, false, List, [], ◌∷◌, ◌++◌, length, map, replicate, take, get_or, refl, sym, ap, ◌∙◌, ⊎_elim, arith}
 use Rattle.std.proofs.lemmas.Bool.{cases_lt}
 use Rattle.std.proofs.lemmas.List.{get_or_past, get_or-map, length-map, map-append}
-use Rattle.stack_view.specs.Plan.{Plan, PlannedOp, no_request}
+use Rattle.stack_laws.specs.Plan.{Plan, PlannedOp, no_request}
 use Rattle.merge_queue.specs.Groups.{numbers}
-use Rattle.stack_view.specs.View.{is_admitted, waiting, start, no_op}
-use Rattle.stack_view.specs.Runs.{blocks_of_requests}
+use Rattle.stack_laws.specs.View.{is_admitted, waiting, start, no_op}
+use Rattle.stack_laws.specs.Runs.{blocks_of_requests}
 use Rattle.std.specs.List.{All}
 use Rattle.std.proofs.lemmas.List.Elements.{All-push}
 use Rattle.merge_queue.specs.Index.{Queued}
-use Rattle.stack_view.proofs.Starts.{starts}
-use Rattle.stack_view.proofs.Formed.{formed-start}
-use Rattle.stack_view.proofs.Room.{accounted-start}
-use Rattle.stack_view.proofs.Measure.{counted-start}
-use Rattle.stack_view.proofs.Ops.{unmarked_in}
+use Rattle.stack_laws.proofs.Starts.{starts}
+use Rattle.stack_laws.proofs.Formed.{formed-start}
+use Rattle.stack_laws.proofs.Room.{accounted-start}
+use Rattle.stack_laws.proofs.Measure.{counted-start}
+use Rattle.stack_laws.proofs.Ops.{unmarked_in}
 use Rattle.range_gate.specs.Gates.{Gated}
 use Rattle.stack_steps.specs.Flights.{Flights}
 use Rattle.range_gate.specs.declared.phase.Phase.TheVariants.{Waiting}

@@ -7,21 +7,21 @@ use Rattle.std.proofs.lemmas.Bool.{cases_Bool, cases_lt, and_parts, and_left, an
 use Rattle.std.proofs.lemmas.List.{length-map, get_or-map, get_or_append_left, get_or-append_right}
 use Rattle.std.proofs.lemmas.List.Elements.{filter-append, All-nil, All-cons, All-get_or}
 use Rattle.merge_queue.specs.declared.limits.Limits.{Limits}
-use Rattle.stack_view.specs.Plan.{Plan}
+use Rattle.stack_laws.specs.Plan.{Plan}
 use Rattle.merge_queue.specs.Groups.{numbers, pairs}
 use Rattle.merge_queue.specs.Index.{Queued}
-use Rattle.stack_view.specs.View.{View, OpView, Command, is_admitted, all_true, no_op, op_at}
+use Rattle.stack_laws.specs.View.{View, OpView, Command, is_admitted, all_true, no_op, op_at}
 use Rattle.range_gate.specs.declared.phase.Phase.{Phase}
 use Rattle.range_gate.specs.declared.phase.Phase.TheVariants.{Waiting, Admitted, Ended}
 use Rattle.range_gate.specs.Gates.{Gated, is_waiting, has_ended, none_conflicts, phase_at, conflict_at}
 use Rattle.range_gate.specs.Gates as Gate
-use Rattle.stack_view.specs.Open.{in_order}
-use Rattle.stack_view.specs.Steps.{may_admit, Step, End as StepEnd, Complete as StepComplete, Admit as StepAdmit, Cut as StepCut, Send as StepSend, can, unended, enabled, enabled_below, join_of, joins_from, sends}
-use Rattle.stack_view.proofs.Lists.{by-lists}
-use Rattle.stack_view.proofs.Open.{shifted, completes-length}
+use Rattle.stack_laws.specs.Open.{in_order}
+use Rattle.stack_laws.specs.Steps.{may_admit, Step, End as StepEnd, Complete as StepComplete, Admit as StepAdmit, Cut as StepCut, Send as StepSend, can, unended, enabled, enabled_below, join_of, joins_from, sends}
+use Rattle.stack_laws.proofs.Lists.{by-lists}
+use Rattle.stack_laws.proofs.Open.{shifted, completes-length}
 use Rattle.merge_queue.proofs.Joins.{numbers-split, between}
 use Rattle.merge_queue.proofs.Linking.{length-numbers}
-use Rattle.stack_view.proofs.Ops.{unmarked_in}
+use Rattle.stack_laws.proofs.Ops.{unmarked_in}
 use Rattle.stack_steps.specs.declared.state.OpState.{OpState}
 use Rattle.stack_steps.specs.declared.choice.OpStep.{OpStep}
 use Rattle.stack_steps.specs.declared.choice.OpStep.TheVariants.{Ending, Admission, Cutting}

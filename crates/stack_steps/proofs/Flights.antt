@@ -3,10 +3,10 @@ use Rattle.std.proofs.Common.{◌≡◌, ◌<◌, ◌≤◌, ℕ, zero, suc, ◌
 use Rattle.std.specs.Prelude.{◌^◌}
 use Rattle.std.specs.List.{remove}
 use Rattle.std.proofs.lemmas.List.{length-take, take_all, drop-take, take-take, drop-drop, take-append-le}
-use Rattle.stack_view.specs.View.{Command, no_command}
+use Rattle.stack_laws.specs.View.{Command, no_command}
 use Rattle.merge_queue.specs.Groups.{without}
 use Rattle.merge_queue.proofs.Lists.{without-remove}
-use Rattle.stack_view.proofs.Rests.{drop_within}
+use Rattle.stack_laws.proofs.Rests.{drop_within}
 use Rattle.bio_core.specs.declared.bio.Bio.{Bio}
 use Rattle.bio_core.specs.declared.fate.Fate.{Fate}
 use Rattle.stack_steps.specs.declared.flight.Flight.{Flight}

@@ -8,29 +8,29 @@ use Rattle.std.proofs.lemmas.List.Elements.{All-get_or, All-from_get_or}
 use Rattle.bio_core.specs.declared.fate.Fate.{Fate}
 use Rattle.bio_core.specs.declared.bio.Bio.{Bio}
 use Rattle.merge_queue.specs.Groups.{Group, size, put_all, lba_of, dir_of, same_dir, without, joined, may_follow, group_in, put}
-use Rattle.stack_view.specs.Blocks.{blocks, settled_of}
-use Rattle.stack_view.specs.Plan.{Plan, PlannedOp, no_request, request_at}
-use Rattle.stack_view.specs.Pieces.{greatest_piece, cut_to, bio_of}
-use Rattle.stack_view.specs.Rests.{rests}
+use Rattle.stack_laws.specs.Blocks.{blocks, settled_of}
+use Rattle.stack_laws.specs.Plan.{Plan, PlannedOp, no_request, request_at}
+use Rattle.stack_laws.specs.Pieces.{greatest_piece, cut_to, bio_of}
+use Rattle.stack_laws.specs.Rests.{rests}
 use Rattle.merge_queue.specs.Index.{Queued, bios_in}
-use Rattle.stack_view.specs.View.{View, OpView, Command, no_command, is_admitted, no_op, op_at, queue_at, group_at, command_at}
+use Rattle.stack_laws.specs.View.{View, OpView, Command, no_command, is_admitted, no_op, op_at, queue_at, group_at, command_at}
 use Rattle.range_gate.specs.declared.phase.Phase.{Phase}
 use Rattle.range_gate.specs.declared.phase.Phase.TheVariants.{Waiting, Admitted, Ended}
 use Rattle.range_gate.specs.Gates.{Gated, conflict_at, phase_at, is_waiting, has_ended, may_admit}
-use Rattle.stack_view.specs.Open.{in_order}
-use Rattle.stack_view.specs.Steps.{Step, End, Complete, Admit, Cut, Join, Send, can, unended, enabled_below, settle, step}
-use Rattle.stack_view.specs.Runs.{blocks_of_requests}
-use Rattle.stack_view.specs.Sound.{Answered, Settles}
-use Rattle.stack_view.specs.Formed.{IsGroup}
-use Rattle.stack_view.specs.Room.{size_in}
-use Rattle.stack_view.proofs.Keeps.{keeps, set_keeps, queue-there, command-there, open-command, settle-room, piece-some, piece-within, cut-within, waits-ended}
-use Rattle.stack_view.proofs.Ops.{grows-settle, length-settle}
-use Rattle.stack_view.proofs.Open.{completes-at, sent-last}
+use Rattle.stack_laws.specs.Open.{in_order}
+use Rattle.stack_laws.specs.Steps.{Step, End, Complete, Admit, Cut, Join, Send, can, unended, enabled_below, settle, step}
+use Rattle.stack_laws.specs.Runs.{blocks_of_requests}
+use Rattle.stack_laws.specs.Sound.{Answered, Settles}
+use Rattle.stack_laws.specs.Formed.{IsGroup}
+use Rattle.stack_laws.specs.Room.{size_in}
+use Rattle.stack_laws.proofs.Keeps.{keeps, set_keeps, queue-there, command-there, open-command, settle-room, piece-some, piece-within, cut-within, waits-ended}
+use Rattle.stack_laws.proofs.Ops.{grows-settle, length-settle}
+use Rattle.stack_laws.proofs.Open.{completes-at, sent-last}
 use Rattle.merge_queue.proofs.Lists.{total-one, without-remove}
-use Rattle.stack_view.proofs.Capacity.{bios-few, few-unsettled}
-use Rattle.stack_view.proofs.Formed.{formed-keeps}
-use Rattle.stack_view.proofs.Room.{accounted-keeps}
-use Rattle.stack_view.proofs.Measure.{counted-keeps}
+use Rattle.stack_laws.proofs.Capacity.{bios-few, few-unsettled}
+use Rattle.stack_laws.proofs.Formed.{formed-keeps}
+use Rattle.stack_laws.proofs.Room.{accounted-keeps}
+use Rattle.stack_laws.proofs.Measure.{counted-keeps}
 use Rattle.stack_steps.specs.declared.state.OpState.{OpState}
 use Rattle.stack_steps.specs.Fine.{Fine}
 use Rattle.stack_steps.specs.State.{state_of, phase_of, no_state, OpIsIn, settle_bios}

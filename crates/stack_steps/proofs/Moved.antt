@@ -15,3 +15,7 @@ queue-set qs d x old f h e g =
 
 pub room-set : (qs : List Queued) (d : ℕ) (x old : Queued) → old ≡ get_or qs d old → x.room ≡ old.room → KeepRoom qs (set qs d x)
 room-set qs d x old e g = map-set_same room_of qs d x old (g ∙ ap room_of e)
+
+-- the queue that is there
+pub queue-got : (qs : List Queued) (d : ℕ) (q : Queued) → d < length qs → q ≡ get_or qs d q → q ≡ get_or qs d no_queue
+queue-got qs d q h e = e ∙ get_or_default qs d q no_queue h

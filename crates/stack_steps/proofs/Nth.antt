@@ -1,12 +1,12 @@
 -- The six lists of choices, one behind another.
 use Rattle.std.proofs.Common.{◌≡◌, ◌<◌, ℕ, ◌+◌, ◌-◌, List, ◌++◌, length, map, get_or, refl, ap, ◌∙◌, arith, length-append}
 use Rattle.std.proofs.lemmas.List.{length-map, get_or-map, get_or_append_left, get_or-append_right}
-use Rattle.stack_view.specs.Plan.{Plan}
+use Rattle.stack_laws.specs.Plan.{Plan}
 use Rattle.merge_queue.specs.Groups.{numbers}
 use Rattle.merge_queue.specs.Index.{Queued}
 use Rattle.merge_queue.proofs.Linking.{length-numbers}
 use Rattle.range_gate.specs.Gates.{Gated}
-use Rattle.stack_view.specs.View.{Command}
+use Rattle.stack_laws.specs.View.{Command}
 use Rattle.stack_steps.specs.declared.state.OpState.{OpState}
 use Rattle.stack_steps.specs.declared.choice.OpStep.TheVariants.{Ending, Admission, Cutting}
 use Rattle.stack_steps.specs.declared.choice.Choice.{Choice}

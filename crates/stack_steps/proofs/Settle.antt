@@ -7,14 +7,14 @@ use Rattle.std.proofs.lemmas.List.Elements.{All-head, All-tail}
 use Rattle.bio_core.specs.declared.bio.Bio.{Bio}
 use Rattle.bio_core.specs.declared.fate.Fate.{Fate}
 use Rattle.bio_core.specs.declared.fate.Fate.TheVariants.{Good, Bad, Untouched}
-use Rattle.stack_view.specs.Blocks.{BlockId, place_of, run_of, blocks, times, is_block, is_settled, settled_of, settled_count}
+use Rattle.stack_laws.specs.Blocks.{BlockId, place_of, run_of, blocks, times, is_block, is_settled, settled_of, settled_count}
 use Rattle.merge_queue.specs.Groups.{size}
-use Rattle.stack_view.specs.View.{OpView, no_op}
-use Rattle.stack_view.specs.Steps.{settle}
-use Rattle.stack_view.specs.Sound.{is_marked}
+use Rattle.stack_laws.specs.View.{OpView, no_op}
+use Rattle.stack_laws.specs.Steps.{settle}
+use Rattle.stack_laws.specs.Sound.{is_marked}
 use Rattle.merge_queue.proofs.Lists.{total-append}
-use Rattle.stack_view.proofs.Counts.{length-run_of}
-use Rattle.stack_view.proofs.Ops.{room, after_block, mark, this-block, marks-block, room-grows, grows-block, grows-settle, room-there, not-marked, unmarked-set, marks-settle, length-settle}
+use Rattle.stack_laws.proofs.Counts.{length-run_of}
+use Rattle.stack_laws.proofs.Ops.{room, after_block, mark, this-block, marks-block, room-grows, grows-block, grows-settle, room-there, not-marked, unmarked-set, marks-settle, length-settle}
 use Rattle.stack_steps.specs.declared.state.OpState.{OpState}
 use Rattle.stack_steps.specs.State.{state_of, no_state, OpIsIn, lowered, settle_bios}
 

@@ -9,14 +9,14 @@ use Rattle.std.proofs.Math.Nat.{mul-le-mul_left}
 use Rattle.merge_queue.specs.declared.limits.Limits.{Limits}
 use Rattle.merge_queue.specs.Groups.{size, Group, may_join, numbers, pairs, pairs_below}
 use Rattle.merge_queue.specs.Index.{total, Queued}
-use Rattle.stack_view.specs.Plan.{Plan}
-use Rattle.stack_view.specs.View.{View, OpView, no_op}
-use Rattle.stack_view.specs.Steps.{enabled, chosen}
-use Rattle.stack_view.specs.Sound.{HasBlocks}
+use Rattle.stack_laws.specs.Plan.{Plan}
+use Rattle.stack_laws.specs.View.{View, OpView, no_op}
+use Rattle.stack_laws.specs.Steps.{enabled, chosen}
+use Rattle.stack_laws.specs.Sound.{HasBlocks}
 use Rattle.merge_queue.proofs.Joins.{pairs-more}
 use Rattle.merge_queue.proofs.Linking.{length-numbers}
-use Rattle.stack_view.proofs.Enabled.{none-enabled, stuck}
-use Rattle.stack_view.proofs.Capacity.{few-unsettled}
+use Rattle.stack_laws.proofs.Enabled.{none-enabled, stuck}
+use Rattle.stack_laws.proofs.Capacity.{few-unsettled}
 use Rattle.stack_steps.specs.declared.machine.Machine.{Machine}
 use Rattle.stack_steps.specs.Does.{Works}
 use Rattle.stack_steps.specs.declared.state.OpState.{OpState}

@@ -6,21 +6,21 @@ use Rattle.std.proofs.lemmas.Bool.{cases_Bool, cases_lt}
 use Rattle.std.proofs.lemmas.List.{get_or_past}
 use Rattle.std.proofs.lemmas.List.Elements.{All-nil, All-cons, All-head, All-tail, All-get_or, All-weaker}
 use Rattle.bio_core.specs.declared.bio.Bio.{Bio}
-use Rattle.stack_view.specs.Blocks.{place_of}
+use Rattle.stack_laws.specs.Blocks.{place_of}
 use Rattle.merge_queue.specs.Groups.{size, Group, lba_of, put, put_all}
 use Rattle.merge_queue.specs.Index.{total, bios_in}
-use Rattle.stack_view.specs.Plan.{Plan, no_request}
-use Rattle.stack_view.specs.View.{View, Command, queue_at, group_at}
-use Rattle.stack_view.specs.Open.{in_order}
-use Rattle.stack_view.specs.Runs.{blocks_of_requests}
-use Rattle.stack_view.specs.Sound.{HasBlocks, IsOpen, Sound}
-use Rattle.stack_view.specs.Formed.{Named, Chain, IsGroup, Formed}
-use Rattle.stack_view.specs.Room.{size_in, Accounted}
+use Rattle.stack_laws.specs.Plan.{Plan, no_request}
+use Rattle.stack_laws.specs.View.{View, Command, queue_at, group_at}
+use Rattle.stack_laws.specs.Open.{in_order}
+use Rattle.stack_laws.specs.Runs.{blocks_of_requests}
+use Rattle.stack_laws.specs.Sound.{HasBlocks, IsOpen, Sound}
+use Rattle.stack_laws.specs.Formed.{Named, Chain, IsGroup, Formed}
+use Rattle.stack_laws.specs.Room.{size_in, Accounted}
 use Rattle.merge_queue.proofs.Lists.{total-one}
-use Rattle.stack_view.proofs.Keeps.{queue-there}
-use Rattle.stack_view.proofs.Enabled.{group-has, open-has}
-use Rattle.stack_view.proofs.Formed.{queue-groups}
-use Rattle.stack_view.proofs.Capacity.{bios-few, few-unsettled, few-bios}
+use Rattle.stack_laws.proofs.Keeps.{queue-there}
+use Rattle.stack_laws.proofs.Enabled.{group-has, open-has}
+use Rattle.stack_laws.proofs.Formed.{queue-groups}
+use Rattle.stack_laws.proofs.Capacity.{bios-few, few-unsettled, few-bios}
 use Rattle.stack_steps.specs.Fine.{Fine}
 use Rattle.stack_steps.specs.Parts.{Divides, Ends}
 use Rattle.stack_steps.specs.State.{OpIsIn}

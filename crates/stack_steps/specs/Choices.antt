@@ -2,10 +2,10 @@
 use Rattle.std.specs.Prelude.{◌≡◌, ◌<◌, ℕ, suc, ◌+◌, min, Bool, ◌&&◌, eqb, nat_lt, List, [], ◌∷◌, ◌++◌, length, get_or, map, Result, Ok, Err}
 use Rattle.std.specs.List.{filter}
 use Rattle.merge_queue.specs.declared.limits.Limits.{Limits}
-use Rattle.stack_view.specs.Plan.{Plan, request_at}
+use Rattle.stack_laws.specs.Plan.{Plan, request_at}
 use Rattle.merge_queue.specs.Groups.{numbers, pairs}
 use Rattle.merge_queue.specs.Index.{Queued}
-use Rattle.stack_view.specs.View.{Command, is_admitted}
+use Rattle.stack_laws.specs.View.{Command, is_admitted}
 use Rattle.range_gate.specs.Gates.{Gated, phase_at, may_admit}
 use Rattle.stack_steps.specs.declared.state.OpState.{OpState}
 use Rattle.stack_steps.specs.declared.choice.OpStep.{OpStep}

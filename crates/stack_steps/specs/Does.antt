@@ -4,15 +4,16 @@ use Rattle.std.specs.Vec.{vec_capacity}
 use Rattle.bio_core.specs.declared.bio.Bio.{Bio}
 use Rattle.bio_core.specs.declared.fate.Fate.{Fate}
 use Rattle.merge_queue.specs.Groups.{Group, without}
-use Rattle.stack_view.specs.Plan.{Plan}
-use Rattle.stack_view.specs.Pieces.{greatest_piece, cut_to, bio_of}
-use Rattle.stack_view.specs.View.{View, op_at, queue_at, group_at, command_at}
-use Rattle.stack_view.specs.Steps.{Step, Complete as StepComplete, Send as StepSend, can, step, enabled, chosen}
-use Rattle.stack_view.specs.Runs.{blocks_of_requests}
-use Rattle.stack_view.specs.Sound.{Settles}
+use Rattle.stack_laws.specs.Plan.{Plan}
+use Rattle.stack_laws.specs.Pieces.{greatest_piece, cut_to, bio_of}
+use Rattle.stack_laws.specs.View.{View, op_at, queue_at, group_at, command_at}
+use Rattle.stack_laws.specs.Steps.{Step, Complete as StepComplete, Send as StepSend, can, step, enabled, chosen}
+use Rattle.stack_laws.specs.Runs.{blocks_of_requests}
+use Rattle.stack_laws.specs.Sound.{Settles}
 use Rattle.stack_steps.specs.declared.choice.Choice.{Choice}
 use Rattle.stack_steps.specs.declared.choice.Choice.TheVariants.{Complete, Cut, Send}
 use Rattle.stack_steps.specs.declared.machine.Machine.{Machine}
+use Rattle.stack_steps.specs.Fine.{Fine}
 use Rattle.stack_steps.specs.Shows.{Shows, Means, op_of}
 
 -- the machine shows this view, but that its queues hold these groups, and has room for what goes back
@@ -44,6 +45,14 @@ pub record Ready (p : Plan) (s : Machine) (c : Choice) : Type 0 where
   pub holds : Holds p s view
   pub can : can p view step ≡ true
   pub means : Means p view c step
+
+-- so by some plan
+abbrev pub IsReady : Machine → Choice → Type 0
+IsReady s c = (p : Plan) × (Fine p × Ready p s c)
+
+-- by some plan whose requests have at most so many blocks
+abbrev pub IsReadyFor : ℕ → Machine → Choice → Type 0
+IsReadyFor room s c = (p : Plan) × ((blocks_of_requests p.requests ≤ room) × Ready p s c)
 
 -- the step that the choice means is done, whichever view the machine shows
 abbrev pub Does : Plan → Machine → Choice → ℕ → Machine → Type 0
@@ -77,6 +86,10 @@ pub record Sending (p : Plan) (s : Machine) (d : ℕ) (group : List Bio) (fates 
   pub taken : TakenFrom p view d place s
   pub group_is : group ≡ group_at view d place
   pub settles : Settles group fates
+
+-- by some plan
+abbrev pub IsSending : Machine → ℕ → List Bio → List Fate → Type 0
+IsSending s d group fates = (p : Plan) × (Fine p × Sending p s d group fates)
 
 -- the group is in flight, whichever view it was taken from
 abbrev pub Flies : Plan → Machine → ℕ → List Bio → List Fate → Machine → Type 0

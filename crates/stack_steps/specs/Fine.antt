@@ -1,9 +1,9 @@
 -- What is asked of the plan of a run.
 use Rattle.std.specs.Prelude.{◌<◌, ◌≤◌, ◌^◌, ℕ, ◌+◌, length}
-use Rattle.stack_view.specs.Plan.{Plan, request_at}
-use Rattle.stack_view.specs.Formed.{Straight}
-use Rattle.stack_view.specs.Runs.{blocks_of_requests}
-use Rattle.stack_view.specs.Sound.{OnDevices}
+use Rattle.stack_laws.specs.Plan.{Plan, request_at}
+use Rattle.stack_laws.specs.Formed.{Straight}
+use Rattle.stack_laws.specs.Runs.{blocks_of_requests}
+use Rattle.stack_laws.specs.Sound.{OnDevices}
 use Rattle.bio_core.specs.declared.TheConstants.{MOST_BLOCKS}
 use Rattle.stack_steps.specs.declared.TheConstants.{MOST_OPS}
 

@@ -5,7 +5,7 @@ use Rattle.std.specs.declared.alloc.Global.{Global}
 use Rattle.std.specs.declared.vec.Vec.{Vec}
 use Rattle.bio_core.specs.declared.bio.Bio.{Bio}
 use Rattle.bio_core.specs.declared.fate.Fate.{Fate}
-use Rattle.stack_view.specs.View.{Command}
+use Rattle.stack_laws.specs.View.{Command}
 use Rattle.stack_steps.specs.declared.flight.Flight.{Flight}
 
 -- what contracts see: the commands in the order in which they were sent, and how many bios and fates there is room for

@@ -1,11 +1,10 @@
 -- What single moves of the code do.
 use Rattle.std.specs.Prelude.{◌≡◌, ℕ, ◌+◌, eqb, if◌then◌else◌, List, [], get_or, map}
 use Rattle.std.specs.List.{remove}
-use Rattle.merge_queue.specs.Groups.{Group, lba_of, size}
 use Rattle.merge_queue.specs.Index.{Queued}
 use Rattle.range_gate.specs.declared.phase.Phase.{Phase}
 use Rattle.range_gate.specs.declared.phase.Phase.TheVariants.{Admitted, Ended}
-use Rattle.stack_view.specs.Plan.{Plan, request_at}
+use Rattle.stack_laws.specs.Plan.{Plan, request_at}
 use Rattle.stack_steps.specs.declared.state.OpState.{OpState}
 
 abbrev pub more_cut : ℕ → OpState → OpState
@@ -13,14 +12,6 @@ more_cut n s = record s { cut = s.cut + n }
 
 abbrev pub no_queue : Queued
 no_queue = record { groups = []; room = 0 }
-
--- the queue of a device
-abbrev pub queued_at : List Queued → ℕ → Queued
-queued_at queues d = get_or queues d no_queue
-
--- The second group begins where the first ends.
-abbrev pub Adjoin : (first second : Group) → Type 0
-Adjoin first second = lba_of first + size first ≡ lba_of second
 
 -- An op that is admitted with no blocks has ended at once:
 abbrev pub phase_entered : Plan → ℕ → Phase

@@ -4,12 +4,12 @@ use Rattle.std.specs.List.{All}
 use Rattle.bio_core.specs.declared.bio.Bio.{Bio}
 use Rattle.bio_core.specs.declared.fate.Fate.{Fate}
 use Rattle.bio_core.specs.declared.fate.Fate.TheVariants.{Good, Bad, Untouched}
-use Rattle.stack_view.specs.Blocks.{place_of}
+use Rattle.stack_laws.specs.Blocks.{place_of}
 use Rattle.merge_queue.specs.Groups.{size, Group, lba_of, put_all}
 use Rattle.merge_queue.specs.Index.{Queued, bios_in}
-use Rattle.stack_view.specs.Pieces.{part}
-use Rattle.stack_view.specs.Rests.{front, behind, untouched_runs}
-use Rattle.stack_view.specs.Plan.{Plan, request_at}
+use Rattle.stack_laws.specs.Pieces.{part}
+use Rattle.stack_laws.specs.Rests.{front, behind, untouched_runs}
+use Rattle.stack_laws.specs.Plan.{Plan, request_at}
 
 -- a bio whose parts can be made: its blocks are in its request, and its addresses have a last one
 pub record Divides (p : Plan) (b : Bio) : Type 0 where

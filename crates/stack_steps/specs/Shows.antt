@@ -1,18 +1,18 @@
 -- How a stack in code shows a view.
 use Rattle.std.specs.Prelude.{◌≡◌, ◌<◌, ℕ, suc, true, if◌then◌else◌, List, [], ◌∷◌, length, get_or, map}
 use Rattle.std.specs.List.{All}
-use Rattle.stack_view.specs.Plan.{Plan}
+use Rattle.stack_laws.specs.Plan.{Plan}
 use Rattle.merge_queue.specs.Groups.{Group}
 use Rattle.merge_queue.specs.Index.{Queued}
-use Rattle.stack_view.specs.View.{View, OpView, is_admitted, op_at}
+use Rattle.stack_laws.specs.View.{View, OpView, is_admitted, op_at}
 use Rattle.range_gate.specs.Gates.{Gated, conflict_at, has_ended}
-use Rattle.stack_view.specs.Open.{in_order}
-use Rattle.stack_view.specs.Steps.{Step, End as StepEnd, Complete as StepComplete, Admit as StepAdmit, Cut as StepCut, Join as StepJoin, Send as StepSend, unended, enabled_below}
-use Rattle.stack_view.specs.Runs.{blocks_of_requests}
-use Rattle.stack_view.specs.Sound.{Sound}
-use Rattle.stack_view.specs.Formed.{Formed}
-use Rattle.stack_view.specs.Room.{Accounted}
-use Rattle.stack_view.specs.Measure.{StepsCounted}
+use Rattle.stack_laws.specs.Open.{in_order}
+use Rattle.stack_laws.specs.Steps.{Step, End as StepEnd, Complete as StepComplete, Admit as StepAdmit, Cut as StepCut, Join as StepJoin, Send as StepSend, unended, enabled_below}
+use Rattle.stack_laws.specs.Runs.{blocks_of_requests}
+use Rattle.stack_laws.specs.Sound.{Sound}
+use Rattle.stack_laws.specs.Formed.{Formed}
+use Rattle.stack_laws.specs.Room.{Accounted}
+use Rattle.stack_laws.specs.Measure.{StepsCounted}
 use Rattle.stack_steps.specs.declared.state.OpState.{OpState}
 use Rattle.stack_steps.specs.declared.choice.Choice.{Choice}
 use Rattle.stack_steps.specs.declared.choice.Choice.TheVariants.{End, Complete, Admit, Cut, Join, Send}

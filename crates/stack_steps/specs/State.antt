@@ -2,10 +2,10 @@
 use Rattle.std.specs.Prelude.{◌<◌, ℕ, ◌-◌, List, [], ◌∷◌, get_or, set, take, drop}
 use Rattle.bio_core.specs.declared.bio.Bio.{Bio}
 use Rattle.bio_core.specs.declared.fate.Fate.{Fate}
-use Rattle.stack_view.specs.Blocks.{place_of, settled_count}
-use Rattle.stack_view.specs.View.{OpView}
+use Rattle.stack_laws.specs.Blocks.{place_of, settled_count}
+use Rattle.stack_laws.specs.View.{OpView}
 use Rattle.range_gate.specs.declared.phase.Phase.{Phase}
-use Rattle.stack_view.specs.Room.{unmarked}
+use Rattle.stack_laws.specs.Room.{unmarked}
 use Rattle.stack_steps.specs.declared.state.OpState.{OpState}
 
 abbrev pub state_of : OpView → OpState

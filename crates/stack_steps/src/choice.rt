@@ -4,7 +4,7 @@ ghost use Rattle.std.specs.Prelude.{◌≡◌, ◌<◌, ◌≤◌, ◌+◌, ◌^
 ghost use Rattle.std.specs.List.{All};
 ghost use Rattle.merge_queue.specs.Groups.{pairs};
 ghost use Rattle.range_gate.specs.Gates.{phase_at};
-ghost use Rattle.stack_view.specs.View as Admits;
+ghost use Rattle.stack_laws.specs.View as Admits;
 ghost use Rattle.stack_steps.specs.Choices.{ChoiceFound, PlaceFound, can_at, places, no_choice, joins_at, sends_at, choices, IsBelow};
 
 use crate::Requests;

@@ -3,7 +3,7 @@
 ghost use Rattle.std.specs.Prelude.{◌≡◌, ◌<◌, ◌≤◌, ◌+◌, IfOk, false, List, [], ◌∷◌, ◌++◌, length, take, drop, slice_index_or};
 ghost use Rattle.std.specs.List.{remove};
 ghost use Rattle.std.specs.Vec.{vec_capacity};
-ghost use Rattle.stack_view.specs.View.{no_command};
+ghost use Rattle.stack_laws.specs.View.{no_command};
 ghost use Rattle.merge_queue.specs.Groups.{without};
 ghost use Rattle.stack_steps.specs.Flights.{bios_in_flight, fates_in_flight, cut_out, earlier};
 
@@ -146,7 +146,6 @@ impl InFlight {
         ensures commands { self.new.commands ≡ self.old.commands ++ record { dev = dev; bios = bios.now; fates = fates.now; completed = false } ∷ [] }
         ensures room { self.new.room ≡ self.old.room }
     {
-        let _room = self.room;
         let first_bio = self.bios.len();
         let first_fate = self.fates.len();
         append(&mut self.bios, bios);

@@ -1,8 +1,8 @@
 //! The pieces that a request is cut into.
 
 ghost use Rattle.std.specs.Prelude.{◌≡◌, ◌<◌, ◌≤◌, ◌+◌, ◌^◌, min, length};
-ghost use Rattle.stack_view.specs.Plan.{request_at};
-ghost use Rattle.stack_view.specs.Pieces.{fits, longest, greatest_piece, cut_to, bio_of};
+ghost use Rattle.stack_laws.specs.Plan.{request_at};
+ghost use Rattle.stack_laws.specs.Pieces.{fits, longest, greatest_piece, cut_to, bio_of};
 
 use crate::Requests;
 use bio_core::Bio;

@@ -2,7 +2,7 @@
 
 ghost use Rattle.std.specs.Prelude.{◌≡◌, ◌<◌, ◌≤◌, ◌+◌, ◌^◌, ℕ, length};
 ghost use Rattle.bio_core.specs.Bios.{HasTuplesFor, data_segs, tuple_segs};
-ghost use Rattle.stack_view.specs.Plan.{Plan, Place, request_at};
+ghost use Rattle.stack_laws.specs.Plan.{Plan, Place, request_at};
 ghost use Rattle.stack_steps.specs.Fine.{Fine};
 
 use bio_core::Io;

@@ -3,9 +3,9 @@
 ghost use Rattle.std.specs.Prelude.{◌≡◌, ◌<◌, ◌≤◌, ◌+◌, ◌^◌, ◌↔◌, not, ◌∷◌, ◌++◌, IsNone, IfSome, length, drop};
 ghost use Rattle.std.specs.List.{All};
 ghost use Rattle.std.specs.Vec.{vec_capacity};
-ghost use Rattle.stack_view.specs.Blocks.{place_of, is_settled};
-ghost use Rattle.stack_view.specs.Pieces.{part};
-ghost use Rattle.stack_view.specs.Rests.{front, behind, rests};
+ghost use Rattle.stack_laws.specs.Blocks.{place_of, is_settled};
+ghost use Rattle.stack_laws.specs.Pieces.{part};
+ghost use Rattle.stack_laws.specs.Rests.{front, behind, rests};
 ghost use Rattle.merge_queue.specs.Groups.{put, put_all};
 ghost use Rattle.merge_queue.specs.Index.{bios_in};
 ghost use Rattle.stack_steps.specs.Parts.{CanGoBack, Divides, Ends, WentBack, last_part, untouched_front};

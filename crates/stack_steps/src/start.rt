@@ -3,8 +3,8 @@
 ghost use Rattle.std.specs.Prelude.{◌≡◌, ◌<◌, ◌≤◌, ◌^◌, ◌+◌, IfOk, ℕ, List, [], length, map, replicate};
 ghost use Rattle.std.specs.List.{All};
 ghost use Rattle.std.specs.Vec.{vec_capacity};
-ghost use Rattle.stack_view.specs.View.{waiting, start};
-ghost use Rattle.stack_view.specs.Runs.{blocks_of_requests};
+ghost use Rattle.stack_laws.specs.View.{waiting, start};
+ghost use Rattle.stack_laws.specs.Runs.{blocks_of_requests};
 ghost use Rattle.merge_queue.specs.Groups.{numbers};
 ghost use Rattle.stack_steps.specs.State.{state_of};
 ghost use Rattle.stack_steps.specs.Shows.{groups_of, HasRoom, IsGateOf};

@@ -2,7 +2,7 @@
 
 ghost use Rattle.std.specs.Prelude.{◌≡◌, ◌<◌, ◌≤◌, ◌+◌, ◌-◌, ◌^◌, if◌then◌else◌, length, take, drop, slice_index_or, slice_set};
 ghost use Rattle.std.specs.List.{All};
-ghost use Rattle.stack_view.specs.Blocks.{place_of, is_settled, settled_count};
+ghost use Rattle.stack_laws.specs.Blocks.{place_of, is_settled, settled_count};
 ghost use Rattle.merge_queue.specs.Groups.{size};
 ghost use Rattle.stack_steps.specs.State.{OpIsIn, lowered, settle_bios};
 

@@ -2,15 +2,18 @@
 
 ghost use Rattle.std.specs.Prelude.{◌≡◌, ◌<◌, ◌≤◌, ◌+◌, ◌%◌, ◌↔◌, ℕ, IsTrue, [], length};
 ghost use Rattle.std.specs.Vec.{vec_capacity};
-ghost use Rattle.stack_view.specs.Runs.{blocks_of_requests};
-ghost use Rattle.stack_view.specs.Steps.{enabled, chosen};
-ghost use Rattle.stack_view.specs.View.{View};
+ghost use Rattle.stack_laws.specs.Plan.{Plan};
+ghost use Rattle.stack_laws.specs.Runs.{blocks_of_requests};
+ghost use Rattle.stack_laws.specs.Steps.{enabled, chosen};
+ghost use Rattle.stack_laws.specs.View.{View};
 ghost use Rattle.stack_steps.specs.declared.choice.Choice.TheVariants.{End, Complete, Admit, Cut, Join, Send};
-ghost use Rattle.stack_steps.specs.Does.{Holds, Works, CanStep, Chooses, Ready, Does, OfOp, Cuts, Lands, Takes, Sending, Flies};
+ghost use Rattle.stack_steps.specs.Does.{Holds, Works, CanStep, Chooses, IsReady, IsReadyFor, IsSending, Ready, Does, OfOp, Cuts, Lands, Takes, Flies};
+ghost use Rattle.stack_steps.specs.Fine.{Fine};
 
 use crate::choice::{count_choices, nth_choice};
-use crate::moves::{cut_op, end_op, enter_op, join_groups, put_back, put_group, take_group};
+use crate::moves::{end_op, enter_op};
 use crate::piece::next_piece;
+use crate::rests::put_rests;
 use crate::state::settle;
 use crate::{Choice, Machine, Requests};
 use bio_core::{Bio, Fate};
@@ -38,9 +41,8 @@ impl Machine {
     }
 
     /// Whether no step is enabled: all ops have ended.
-    pub fn finished<P: Requests>(&self, _plan: &P) -> bool
-        requires { Works (P.plan _plan.now) self.now }
-        ensures { (v : View) → Holds (P.plan _plan.now) self.now v → IsTrue result ↔ enabled (P.plan _plan.now) v ≡ [] }
+    pub fn finished(&self) -> bool
+        ensures { (plan : Plan) (v : View) → Holds plan self.now v → IsTrue result ↔ enabled plan v ≡ [] }
     {
         has_none(self.live.as_slice())
     }
@@ -81,10 +83,10 @@ impl Machine {
     }
 
     /// An op ends, all of whose blocks are settled. Answers its place.
-    pub fn end<P: Requests>(&mut self, _plan: &P, q: usize) -> u32
-        requires { Ready (P.plan _plan.now) self.old (End q) }
-        ensures op { OfOp (P.plan _plan.now) self.old (End q) result }
-        ensures step { (cut : ℕ) → Does (P.plan _plan.now) self.old (End q) cut self.new }
+    pub fn end(&mut self, q: usize) -> u32
+        requires { IsReady self.old (End q) }
+        ensures op { (plan : Plan) → Fine plan → OfOp plan self.old (End q) result }
+        ensures step { (plan : Plan) (cut : ℕ) → Fine plan → Does plan self.old (End q) cut self.new }
     {
         let op = self.live.at(q);
         end_op(&mut self.gate, &mut self.live, q);
@@ -116,35 +118,35 @@ impl Machine {
         let bio = next_piece(plan, op, k, size);
         self.rest.clear();
         self.rest.push_reserved(bio);
-        put_group(&mut self.queues, bio.dev as usize, &self.rest);
-        cut_op(&mut self.ops, op as usize, bio.count);
+        self.queues[bio.dev as usize].put(&self.rest);
+        self.ops[op as usize].cut += bio.count;
         self.steps += 1;
         bio
     }
 
     /// Two groups of a device become one.
-    pub fn join<P: Requests>(&mut self, _plan: &P, d: u32, i: u32, j: u32)
-        requires { Ready (P.plan _plan.now) self.old (Join d i j) }
-        ensures { (cut : ℕ) → Does (P.plan _plan.now) self.old (Join d i j) cut self.new }
+    pub fn join(&mut self, d: u32, i: u32, j: u32)
+        requires { IsReady self.old (Join d i j) }
+        ensures { (plan : Plan) (cut : ℕ) → Fine plan → Does plan self.old (Join d i j) cut self.new }
     {
-        join_groups(&mut self.queues, d as usize, i, j);
+        self.queues[d as usize].join(i, j);
         self.steps += 1;
     }
 
     /// The first half of a sending: a group is taken out of its queue, into a list with room for all blocks.
-    pub fn take<P: Requests>(&mut self, _plan: &P, d: u32, i: u32, group: &mut Vec<Bio>)
-        requires ready { Ready (P.plan _plan.now) self.old (Send d i) }
-        requires room { blocks_of_requests (P.plan _plan.now).requests ≤ vec_capacity group.old }
-        ensures takes { Takes (P.plan _plan.now) self.old d i group.new.items self.new }
+    pub fn take(&mut self, d: u32, i: u32, group: &mut Vec<Bio>)
+        requires { IsReadyFor (vec_capacity group.old) self.old (Send d i) }
+        ensures takes { (plan : Plan) → Takes plan self.old d i group.new.items self.new }
         ensures capacity { vec_capacity group.new ≡ vec_capacity group.old }
     {
-        take_group(&mut self.queues, d as usize, i, group);
+        group.clear();
+        self.queues[d as usize].take(i, group);
     }
 
     /// The other half: the group is in flight, with the fates of its blocks, of which one at least is settled.
-    pub fn fly<P: Requests>(&mut self, _plan: &P, d: u32, group: &[Bio], fates: &[Fate])
-        requires { Sending (P.plan _plan.now) self.old d group.now fates.now }
-        ensures { Flies (P.plan _plan.now) self.old d group.now fates.now self.new }
+    pub fn fly(&mut self, d: u32, group: &[Bio], fates: &[Fate])
+        requires { IsSending self.old d group.now fates.now }
+        ensures { (plan : Plan) → Fine plan → Flies plan self.old d group.now fates.now self.new }
     {
         self.flight.push(d, group, fates);
         self.steps += 1;
@@ -171,13 +173,12 @@ impl Machine {
         fates.clear();
         let d = self.flight.take(i, bios, fates);
         settle(&mut self.ops, bios, fates);
-        put_back(
+        put_rests(
             plan,
-            &mut self.queues,
-            d as usize,
             bios,
             fates,
             &mut self.rest,
+            &mut self.queues[d as usize],
         );
         self.steps += 1;
     }

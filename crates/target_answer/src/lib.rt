@@ -3,11 +3,13 @@
 //! share, with the plain code for one block and for the header of an image.
 #![tactic(auto)]
 
+mod frame;
 mod passage;
 mod request;
 mod size;
 mod units;
 
+pub use frame::{put_tuple, tuple_behind};
 pub use passage::Passage;
 pub use request::{Request, is_foreign, request_of};
 pub use size::{sent_size, stored_size};

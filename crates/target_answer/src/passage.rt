@@ -1,14 +1,13 @@
 //! One block on its way through a target.
 
-ghost use Rattle.std.specs.Prelude.{◌≡◌, ◌+◌, ◌≤◌, ◌<◌, ◌++◌, length, take};
-ghost use Rattle.pi_tuple.specs.Tuples.{tuple_bytes, tuple_in};
+ghost use Rattle.std.specs.Prelude.{◌≡◌, ◌≤◌, length, take};
 ghost use Rattle.target_answer.specs.Frames.{sent_size, stored_size};
 ghost use Rattle.target_answer.specs.Passing.{asked_of, crossed, found_in, from_medium, to_medium, unless, wanted_of, with_own_tuple};
-ghost use Rattle.pi_tuple.specs.declared.TheConstants.{TUPLE};
 
+use crate::{put_tuple, tuple_behind};
 use fault_schedule::{Crossing, Label, Tamper};
 use pi_guard::crc16;
-use pi_tuple::{Check, Checks, PiType, Tuple, finds, make, own_tag, ref_tag};
+use pi_tuple::{Check, Checks, PiType, finds, make, own_tag, ref_tag};
 
 /// A block of a command, as the target knows it.
 #[derive(Clone, Copy, Debug, PartialEq, Eq)]
@@ -38,15 +37,6 @@ fn cross(tamper: &Tamper, label: Option<Label>, at: Crossing, frame: &mut [u8])
         Some(label) => tamper.apply(at, label, frame),
         None => {}
     }
-}
-
-fn tuple_behind(behind: &[u8]) -> Tuple
-    requires { length behind.now ≡ TUPLE }
-    ensures { result ≡ tuple_in behind.now }
-{
-    Tuple::from_bytes(&[
-        behind[0], behind[1], behind[2], behind[3], behind[4], behind[5], behind[6], behind[7],
-    ])
 }
 
 impl Passage {
@@ -86,21 +76,16 @@ impl Passage {
         if self.ty == PiType::Zero {
             return None;
         }
-        let (bytes, behind) = frame.split_at(self.size as usize);
-        let tuple = tuple_behind(behind);
-        finds(self.ty, self.checks(), self.wanted(), crc16(bytes), tuple)
+        let size = self.size as usize;
+        finds(
+            self.ty,
+            self.checks(),
+            self.wanted(),
+            crc16(&frame[..size]),
+            tuple_behind(frame, size),
+        )
     }
-}
 
-fn put_tuple(frame: &mut [u8], at: usize, tuple: Tuple)
-    requires { at + TUPLE ≡ length frame.old }
-    ensures { frame.new ≡ take at frame.old ++ tuple_bytes tuple }
-{
-    let bytes = tuple.to_bytes();
-    frame[at..].copy_from_slice(&bytes);
-}
-
-impl Passage {
     /// Under protect field 000b the tuple of the block is made by the target, where its unit has
     /// tuples: the guard of the data, application tag 0, and the block's own reference tag.
     fn make_tuple(&self, frame: &mut [u8])

@@ -3,7 +3,6 @@
 ghost use Rattle.std.specs.Prelude.{◌≡◌, ◌≤◌, ◌<◌, ◌+◌, ◌++◌, [], ◌∷◌, length};
 ghost use Rattle.std.specs.Int.{to_be_bytes, w16};
 ghost use Rattle.std.specs.List.{list_all};
-ghost use Rattle.std.specs.Str.{bytes_eq};
 ghost use Rattle.arrayvec.specs.ArrayVec.{array_vec_len};
 ghost use Rattle.cdb_codec.specs.Decoded.{eight_at};
 ghost use Rattle.target_answer.specs.Headers.{entry_1, entry_2, entry_of, exponent_of, entry_size, header, is_header, is_layout, is_spec, magic_of, most_blocks, number_of, spec_of, specs_in, type_of, version_of};
@@ -46,12 +45,6 @@ pub enum Version {
     Second,
 }
 
-fn is_same(left: &[u8], right: &[u8]) -> bool
-    ensures { result ≡ bytes_eq left.now right.now }
-{
-    left == right
-}
-
 fn magic(version: Version) -> [u8; 8]
     ensures { result ≡ magic_of version }
 {
@@ -65,10 +58,10 @@ fn magic(version: Version) -> [u8; 8]
 pub fn version_of(text: &[u8]) -> Option<Version>
     ensures { result ≡ version_of text.now }
 {
-    if is_same(text, &magic(Version::First)) {
+    if text == magic(Version::First).as_slice() {
         return Some(Version::First);
     }
-    if is_same(text, &magic(Version::Second)) {
+    if text == magic(Version::Second).as_slice() {
         return Some(Version::Second);
     }
     None
@@ -280,5 +273,5 @@ pub fn is_header(version: Version, first: &[u8]) -> bool
     ensures { result ≡ is_header version first.now }
 {
     let units = specs_in(version, first);
-    is_layout(&units) && is_same(&header(version, &units), first)
+    is_layout(&units) && header(version, &units).as_slice() == first
 }

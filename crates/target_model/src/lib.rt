@@ -8,5 +8,5 @@ mod serving;
 mod transfer;
 mod unit;
 
-pub use serving::serve;
+pub use serving::{serve, serve_command};
 pub use unit::LogicalUnit;

@@ -1,6 +1,7 @@
 //! What a unit answers to a command block, over any store.
 
-ghost use Rattle.std.specs.Prelude.{◌≡◌, ◌+◌, ◌-◌, ◌*◌, ◌^◌, ◌<◌, ◌≤◌, ◌≢◌, [], length, min, take, Some, None, true};
+ghost use Rattle.std.specs.Prelude.{◌≡◌, ◌+◌, ◌-◌, ◌*◌, ◌^◌, ◌<◌, ◌≤◌, ◌≢◌, [], List, ℕ, length, min, take, Some, None, true};
+ghost use Rattle.cdb_codec.specs.Decoded.{decoded};
 ghost use Rattle.dix_base.specs.Stores.{WasRead, WasWritten};
 ghost use Rattle.dix_base.specs.Told.{Rose};
 ghost use Rattle.rig_api.specs.Log.{IsMedium, has_key};
@@ -41,24 +42,30 @@ fn place_of(unit: &LogicalUnit, lba: u64) -> u64
     unit.at + block_bytes(unit.shape()) as u64 * (lba - unit.first)
 }
 
+/// A command, the labels of its blocks, and the faults that act on them.
+#[derive(Clone, Copy)]
+struct Asked<'a> {
+    cdb: Cdb,
+    labels: &'a [Label],
+    tamper: &'a Tamper,
+}
+
 fn write<S: Store>(
     store: &mut S,
     unit: &LogicalUnit,
-    cdb: Cdb,
+    asked: &Asked<'_>,
     c: Rw,
-    labels: &[Label],
     out: &[u8],
-    into: &[u8],
-    tamper: &Tamper,
 ) -> Outcome
     requires unit { IsUnit unit.now (S.state store.old).length }
-    ensures told { ServedOn unit.now (λ found. answer_to found cdb (Write c) tamper.now labels.now out.now (length into.now)) (S.state store.old) (S.state store.new) result into.now into.now }
+    ensures told { (into : List ℕ) → ServedOn unit.now (λ found. answer_to found asked.now.cdb (Write c) asked.now.tamper.now asked.now.labels.now out.now (length into))
+        (S.state store.old) (S.state store.new) result into into }
     ensures medium { IsMedium result → Rose (S.state store.old).faults (S.state store.new).faults }
     ensures key { has_key result.sense ≡ true }
     ensures stays { WasWritten (S.state store.old) (S.state store.new) }
 {
     let shape = unit.shape();
-    match taken_write(shape, cdb, c, tamper, labels, out.len()) {
+    match taken_write(shape, asked.cdb, c, asked.tamper, asked.labels, out.len()) {
         Err(asc) => refused(asc),
         Ok(lba) => {
             let blocks = Blocks {
@@ -66,7 +73,8 @@ fn write<S: Store>(
                 fields: c,
                 lba,
             };
-            write_blocks(store, place_of(unit, lba), blocks, tamper, labels, out)
+            let place = place_of(unit, lba);
+            write_blocks(store, place, blocks, asked.tamper, asked.labels, out)
         }
     }
 }
@@ -74,21 +82,19 @@ fn write<S: Store>(
 fn read<S: Store>(
     store: &mut S,
     unit: &LogicalUnit,
-    cdb: Cdb,
+    asked: &Asked<'_>,
     c: Rw,
-    labels: &[Label],
-    out: &[u8],
     into: &mut [u8],
-    tamper: &Tamper,
 ) -> Outcome
     requires unit { IsUnit unit.now (S.state store.old).length }
-    ensures told { ServedOn unit.now (λ found. answer_to found cdb (Read c) tamper.now labels.now out.now (length into.old)) (S.state store.old) (S.state store.new) result into.old into.new }
+    ensures told { (out : List ℕ) → ServedOn unit.now (λ found. answer_to found asked.now.cdb (Read c) asked.now.tamper.now asked.now.labels.now out (length into.old))
+        (S.state store.old) (S.state store.new) result into.old into.new }
     ensures medium { IsMedium result → Rose (S.state store.old).faults (S.state store.new).faults }
     ensures key { has_key result.sense ≡ true }
     ensures stays { WasRead (S.state store.old) (S.state store.new) }
 {
     let shape = unit.shape();
-    match taken_read(shape, cdb, c, tamper, labels, into.len()) {
+    match taken_read(shape, asked.cdb, c, asked.tamper, asked.labels, into.len()) {
         Err(asc) => refused(asc),
         Ok((lba, from)) => {
             let blocks = Blocks {
@@ -96,29 +102,22 @@ fn read<S: Store>(
                 fields: c,
                 lba,
             };
-            read_blocks(store, place_of(unit, from), blocks, tamper, labels, into)
+            let place = place_of(unit, from);
+            read_blocks(store, place, blocks, asked.tamper, asked.labels, into)
         }
     }
 }
 
-fn verify<S: Store>(
-    store: &mut S,
-    unit: &LogicalUnit,
-    cdb: Cdb,
-    c: Rw,
-    labels: &[Label],
-    out: &[u8],
-    into: &[u8],
-    tamper: &Tamper,
-) -> Outcome
+fn verify<S: Store>(store: &mut S, unit: &LogicalUnit, asked: &Asked<'_>, c: Rw) -> Outcome
     requires unit { IsUnit unit.now (S.state store.old).length }
-    ensures told { ServedOn unit.now (λ found. answer_to found cdb (Verify c) tamper.now labels.now out.now (length into.now)) (S.state store.old) (S.state store.new) result into.now into.now }
+    ensures told { (out into : List ℕ) → ServedOn unit.now (λ found. answer_to found asked.now.cdb (Verify c) asked.now.tamper.now asked.now.labels.now out (length into))
+        (S.state store.old) (S.state store.new) result into into }
     ensures medium { IsMedium result → Rose (S.state store.old).faults (S.state store.new).faults }
     ensures key { has_key result.sense ≡ true }
     ensures stays { WasRead (S.state store.old) (S.state store.new) }
 {
     let shape = unit.shape();
-    match taken_verify(shape, cdb, c) {
+    match taken_verify(shape, asked.cdb, c) {
         Err(asc) => refused(asc),
         Ok(()) => {
             let blocks = Blocks {
@@ -126,7 +125,7 @@ fn verify<S: Store>(
                 fields: c,
                 lba: c.lba,
             };
-            verify_blocks(store, place_of(unit, c.lba), blocks, tamper)
+            verify_blocks(store, place_of(unit, c.lba), blocks, asked.tamper)
         }
     }
 }
@@ -186,6 +185,41 @@ fn asc_of(fault: CdbFault) -> u8
     }
 }
 
+/// Answers the command that stands in a command block, or its fault, as `serve` answers the command block.
+pub fn serve_command<S: Store>(
+    store: &mut S,
+    unit: &LogicalUnit,
+    command: Result<Cdb, CdbFault>,
+    labels: &[Label],
+    out: &[u8],
+    into: &mut [u8],
+    tamper: &Tamper,
+) -> Outcome
+    requires some { 1 ≤ unit.now.blocks }
+    requires unit { IsUnit unit.now (S.state store.old).length }
+    ensures told { (cdb : List ℕ) → command ≡ decoded cdb → ServedOn unit.now (λ found. target_answer found tamper.now cdb labels.now out.now (length into.old))
+        (S.state store.old) (S.state store.new) result into.old into.new }
+    ensures medium { IsMedium result → Rose (S.state store.old).faults (S.state store.new).faults }
+    ensures key { has_key result.sense ≡ true }
+    ensures stays { WasWritten (S.state store.old) (S.state store.new) }
+{
+    let cdb = match command {
+        Err(fault) => return refused(asc_of(fault)),
+        Ok(cdb) => cdb,
+    };
+    let asked = Asked {
+        cdb,
+        labels,
+        tamper,
+    };
+    match request_of(cdb) {
+        Request::Read(c) => read(store, unit, &asked, c, into),
+        Request::Write(c) => write(store, unit, &asked, c, out),
+        Request::Verify(c) => verify(store, unit, &asked, c),
+        Request::ReadCapacity(alloc_len) => read_capacity(unit, alloc_len, into),
+    }
+}
+
 /// Answers a command block: the outcome, with what is stored or sent.
 ///
 /// The first refusal comes before any block. Else the blocks are taken in order, each by one call
@@ -208,13 +242,5 @@ pub fn serve<S: Store>(
     ensures key { has_key result.sense ≡ true }
     ensures stays { WasWritten (S.state store.old) (S.state store.new) }
 {
-    match Cdb::decode(cdb) {
-        Err(fault) => refused(asc_of(fault)),
-        Ok(command) => match request_of(command) {
-            Request::Read(c) => read(store, unit, command, c, labels, out, into, tamper),
-            Request::Write(c) => write(store, unit, command, c, labels, out, into, tamper),
-            Request::Verify(c) => verify(store, unit, command, c, labels, out, into, tamper),
-            Request::ReadCapacity(alloc_len) => read_capacity(unit, alloc_len, into),
-        },
-    }
+    serve_command(store, unit, Cdb::decode(cdb), labels, out, into, tamper)
 }

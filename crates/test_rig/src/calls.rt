@@ -10,10 +10,11 @@ ghost use Rattle.test_rig.specs.Untold.{untold_stands};
 
 use crate::answers::{Answer, kept_outcome, send};
 use crate::scripted::ScriptedRig;
+use cdb_codec::Cdb;
 use dix_base::Failed;
 use fault_schedule::{FaultList, Label};
 use image_rig::Log;
-use rig_api::{Change, Outcome, Record, Rig, RigFault, UnitSpec};
+use rig_api::{Change, Exchanged, Outcome, Record, Rig, RigFault, UnitSpec};
 use std::alloc::{AllocError, Global};
 
 /// The greatest block size of a device.
@@ -141,7 +142,16 @@ impl<R: Rig> Rig for ScriptedRig<R> {
         self.given = self.given.saturating_add(1);
         self.faults = count_after(self.faults, outcome);
         let size = self.inner.size(dev);
-        self.log.note(size, dev, cdb, labels, outcome, out, into);
+        self.log.note(&Exchanged {
+            dev,
+            size,
+            cdb,
+            command: Cdb::decode(cdb),
+            labels,
+            outcome,
+            out,
+            into,
+        });
         outcome
     }
 }

@@ -5,8 +5,10 @@
 mod answers;
 mod calls;
 mod image;
+mod rig;
 mod scripted;
 
 pub use answers::Answer;
 pub use image::{change, formatted, image_in, image_of_words};
+pub use rig::AnswerRig;
 pub use scripted::ScriptedRig;

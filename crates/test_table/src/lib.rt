@@ -1,5 +1,5 @@
-//! Tables of rows that test programs read. A row is a call, ` = ` and what comes of it. A program prints the rows of
-//! which something else comes, with what came, and how many rows there were.
+//! Tables of rows that a test program reads. A row is a call, ` = ` and what comes of it. The program prints the rows of
+//! which something else comes, with what came, and of each table how many rows there were.
 #![tactic(auto)]
 
 mod escapes;
@@ -14,7 +14,7 @@ use std::alloc::{AllocError, Global};
 use std::io;
 pub use words::{array_of, bytes_of, cut, hex_of, number, small, tag_of};
 
-/// What a program does with the lines of its table.
+/// What is done with the lines of a table.
 pub trait Judge {
     /// Takes a line that isn't a row, which says what the rows behind it stand on. Answers false where it is no such
     /// line.
@@ -31,19 +31,34 @@ struct Count {
     wrong: u32,
 }
 
-/// Reads the table on standard input to its end. Blank lines and those that begin with # count as nothing; a line that
-/// is neither a row nor taken by `set` is printed as a wrong one.
-pub fn read_table<J: Judge>(rt: &HostRuntime, judge: &mut J) -> io::Result<()> {
+impl Count {
+    const NONE: Count = Count { rows: 0, wrong: 0 };
+}
+
+/// Reads the tables on standard input to its end, each of which begins with a line == and its name. Blank lines and those
+/// that begin with # count as nothing; a line that is neither a row nor taken by `set` is printed as a wrong one.
+pub fn read_tables<J: Judge>(rt: &HostRuntime, judge: &mut J) -> io::Result<()> {
     let alloc = rt.alloc();
-    let mut count = Count { rows: 0, wrong: 0 };
+    let mut count = Count::NONE;
     for line in rt.lines(alloc) {
         let line = line?;
+        if line.starts_with("== ") {
+            tell(rt, &mut count)?;
+            println!(rt; "{line}")?;
+        }
         if let Some(came) = judged(alloc, judge, &mut count, line.as_str())? {
             println!(rt; "{line}\n came: {came}")?;
         }
     }
-    let Count { rows, wrong } = count;
-    println!(rt; "{rows} rows, {wrong} wrong")?;
+    tell(rt, &mut count)
+}
+
+/// Prints how many rows the table had that ends here, if it had some, and of how many something else came.
+fn tell(rt: &HostRuntime, count: &mut Count) -> io::Result<()> {
+    let Count { rows, wrong } = std::mem::replace(count, Count::NONE);
+    if rows > 0 || wrong > 0 {
+        println!(rt; "{rows} rows, {wrong} wrong")?;
+    }
     Ok(())
 }
 

@@ -9,7 +9,7 @@ use report_text::print_trace;
 use rig_api::{Outcome, Rig, blocks_of};
 use sense_codes::Sense;
 use std::alloc::{AllocError, Global};
-use test_answers::AnswerRig;
+use test_rig::AnswerRig;
 use test_table::{bytes_of, cut, small};
 
 fn is_keyed(sense: Option<Sense>) -> bool

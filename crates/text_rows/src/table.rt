@@ -11,7 +11,7 @@ use test_table::{Judge, cut, text_of};
 
 /// What the rows stand on.
 #[derive(Drop)]
-pub(crate) struct Table {
+pub struct Table {
     /// What a report is of.
     replies: Vec<Reply>,
     /// What a sink has that takes it all.
@@ -19,7 +19,8 @@ pub(crate) struct Table {
 }
 
 impl Table {
-    pub(crate) fn new(alloc: Global) -> Table {
+    /// Of no lines.
+    pub fn new(alloc: Global) -> Table {
         Table {
             replies: Vec::new(alloc),
             whole: Vec::new(alloc),

@@ -1,7 +1,6 @@
 //! One line of a list.
 
 ghost use Rattle.std.specs.Prelude.{◌≡◌, IfErr, IfOk, OnOk, option_map};
-ghost use Rattle.std.specs.Str.{bytes_eq};
 ghost use Rattle.script_lines.specs.declared.kind.ScriptKind.{ScriptKind};
 ghost use Rattle.script_lines.specs.Reading.{IsUnless, Reads, ReadsUnless, fixed, value};
 ghost use Rattle.script_words.specs.Hexes.{hex_in};
@@ -24,12 +23,6 @@ pub struct VectorLine {
     pub cdb: ShortBytes,
     /// What is sent to the device; nothing where the word is `-`.
     pub out: ByteList,
-}
-
-pub(crate) fn is_same(a: &[u8], b: &[u8]) -> bool
-    ensures { result ≡ bytes_eq a.now b.now }
-{
-    a == b
 }
 
 fn word32(word: &[u8]) -> Option<u32>
@@ -57,7 +50,7 @@ fn hex_bytes(alloc: Global, word: &[u8]) -> Result<Option<Vec<u8>>, AllocError>
 fn out_in(alloc: Global, word: &[u8]) -> Result<Option<Vec<u8>>, AllocError>
     ensures { IfOk result (λ found. option_map (λ v. v.items) found ≡ out_in word.now) }
 {
-    if is_same(word, b"-") {
+    if word == b"-".as_slice() {
         return Ok(Some(Vec::new(alloc)));
     }
     hex_bytes(alloc, word)
@@ -71,7 +64,7 @@ fn take_verb(words: &mut Words) -> Result<(), ScriptKind>
     match words.next() {
         None => Err(ScriptKind::MissingWord),
         Some(word) => {
-            if is_same(word, b"v") {
+            if word == b"v".as_slice() {
                 Ok(())
             } else {
                 Err(ScriptKind::UnknownWord)

@@ -5,7 +5,7 @@ ghost use Rattle.script_lines.specs.declared.kind.ScriptKind.{ScriptKind};
 ghost use Rattle.script_words.specs.Cuts.{lines_of, words_of};
 ghost use Rattle.vector_lines.specs.Texts.{Takes, head_read, is_head, is_list, is_skipped, lines_read, list_in, text_taken, words_taken};
 
-use crate::line::{VectorLine, is_same, line_of};
+use crate::line::{VectorLine, line_of};
 use script_lines::{ScriptKind, Words};
 use script_text::ScriptFault;
 use script_words::{is_plain, next_line, next_word};
@@ -40,7 +40,9 @@ fn is_head(line: &[u8]) -> bool
     };
     match next_word(rest) {
         Some(_) => false,
-        None => is_same(first, b"dix") && is_same(second, b"vectors") && is_same(third, b"1"),
+        None => first == b"dix".as_slice()
+            && second == b"vectors".as_slice()
+            && third == b"1".as_slice(),
     }
 }
 

@@ -7,7 +7,7 @@ use Rattle.rig_api.specs.Telling.{Standing, answer_of, at_front, spec_at, with_b
 use Rattle.rig_api.specs.declared.rig.Outcome.{Outcome}
 use Rattle.rig_api.specs.State.{RigState}
 use Rattle.vector_lines.specs.declared.line.VectorLine.{VectorLine}
-pub use Rattle.answered_record.specs.Answered.{room_by, room_of, room_under}
+pub use Rattle.record_laws.specs.Answered.{room_by, room_of, room_under}
 
 -- The commands of a list, each done on its device as it stands, without labels.
 

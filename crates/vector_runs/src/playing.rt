@@ -105,6 +105,7 @@ pub fn print_played<O: Sink, R: Rig>(out: &mut O, rig: &R, played: &Played) -> R
     ensures part { OnErr result (AppendedSome (played_text played.now (drop (first_of played.now) (R.state rig.now).log)) (O.taken out.old) (O.taken out.new)) }
     ensures cause { OnErr result (Rose (O.faults out.old) (O.faults out.new)) }
     ensures count { O.faults out.old ≤ O.faults out.new }
+    ensures handed { OnOk result (O.passed out.new ≡ O.taken out.new) }
 {
     match played {
         Played::Listed { lines, first } => print_list(out, rig, *first, lines),

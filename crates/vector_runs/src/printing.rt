@@ -63,6 +63,7 @@ pub fn print_list<O: Sink, R: Rig>(
     ensures part { OnErr result (AppendedSome (list_text lines.now (drop from (R.state rig.now).log)) (O.taken out.old) (O.taken out.new)) }
     ensures cause { OnErr result (Rose (O.faults out.old) (O.faults out.new)) }
     ensures count { O.faults out.old ≤ O.faults out.new }
+    ensures handed { OnOk result (O.passed out.new ≡ O.taken out.new) }
 {
     write_first(out)?;
     write_lines(out, rig, from, lines)?;

@@ -1,6 +1,6 @@
 //! The text of records that say all: what was sent stands in them.
 
-ghost use Rattle.std.specs.Prelude.{◌≤◌, ◌<◌, OnErr, OnOk, drop, length};
+ghost use Rattle.std.specs.Prelude.{◌≤◌, ◌<◌, OnErr, OnOk, drop, length, ◌≡◌};
 ghost use Rattle.dix_base.specs.Told.{Appended, AppendedSome, Rose};
 ghost use Rattle.rig_api.specs.Log.{entry_at};
 ghost use Rattle.vector_runs.specs.RecordText.{record_text, records_text, vectors_text};
@@ -49,6 +49,7 @@ pub fn print_records<O: Sink, R: Rig>(out: &mut O, rig: &R, from: u32) -> Result
     ensures part { OnErr result (AppendedSome (vectors_text (drop from (R.state rig.now).log)) (O.taken out.old) (O.taken out.new)) }
     ensures cause { OnErr result (Rose (O.faults out.old) (O.faults out.new)) }
     ensures count { O.faults out.old ≤ O.faults out.new }
+    ensures handed { OnOk result (O.passed out.new ≡ O.taken out.new) }
 {
     write_first(out)?;
     write_records(out, rig, from)?;

@@ -7,7 +7,7 @@ loop-room-init g c = record {
   taken = rw c.new-all.ensures.items (took_none (g.S.Source.left c.args.source.now));
   buffer = refl;
   sizes = rw c.new-all.ensures.items (rw most_is refl);
-  count = omega arith;
+  calm = refl;
 }
 
 pub returns-in-Err-extend_from_slice-clause-most : goal.returns-in-Err-extend_from_slice-clause-most

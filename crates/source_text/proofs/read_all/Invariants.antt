@@ -8,7 +8,7 @@ invariant-loop-room g l = record {
   taken : Took l.all.items (g.S.Source.left l.initial.source) (g.S.Source.left l.source);
   buffer : length l.buf ≡ 4096;
   sizes : length l.all.items + l.room ≡ most_bytes + 1;
-  count : g.S.Source.faults l.initial.source ≤ g.S.Source.faults l.source;
+  calm : g.S.Source.faults l.source ≡ g.S.Source.faults l.initial.source;
 }
 
 abbrev pub decreases-loop-room : goal.decreases-loop-room

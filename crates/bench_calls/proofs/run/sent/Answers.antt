@@ -3,9 +3,9 @@ use Rattle.rig_api.specs.Log.{HasRoom, Room}
 use Rattle.rig_api.specs.Telling.{Standing, greatest_size}
 use Rattle.rig_api.specs.State.{RigState}
 use Rattle.image_rig.specs.Logs.{room_in}
-use Rattle.stack_view.specs.Runs.{blocks_of_requests}
+use Rattle.stack_laws.specs.Runs.{blocks_of_requests}
 use Rattle.stack_core.specs.Stacks.{plan_in}
-use Rattle.test_answers.specs.Answering.{standing_of}
+use Rattle.test_rig.specs.Answering.{standing_of}
 use Rattle.bench_calls.proofs.run.sent.Goals as goal
 
 -- room for as many exchanges as blocks

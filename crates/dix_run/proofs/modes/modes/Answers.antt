@@ -1,11 +1,11 @@
 use Rattle.std.proofs.Common.{refl}
 use Rattle.dix_run.specs.Commands.{modes_work}
-use Rattle.dix_run.specs.Verdict.{no_memory}
-use Rattle.dix_run.proofs.Endings.{done, refused}
+use Rattle.dix_run.specs.Verdict.{dix, no_memory}
+use Rattle.call_verdict.proofs.Verdicts.{done, refused}
 use Rattle.dix_run.proofs.modes.modes.Goals as goal
 
-pub returns-in-Ok : goal.returns-in-Ok
-returns-in-Ok g c = λ f rig source. done (modes_work c.args.ty) tt f _ _ _ _ c.finish.result (rig, source) (rw (c.deref.ensures.value, c.in-Ok.ensures) at c.finish.ensures)
+pub returns-in-Ok-clause-ended : goal.returns-in-Ok-clause-ended
+returns-in-Ok-clause-ended g c = λ f rig source. done dix (modes_work c.args.ty) tt f _ _ _ _ c.finish.result (rig, source) (rw (c.deref.ensures.value, c.in-Ok.ensures) at c.finish.ensures.written)
 
-pub returns-in-Err : goal.returns-in-Err
-returns-in-Err g c = λ f rig source. refused (modes_work c.args.ty) no_memory f _ _ _ _ c.refuse.result (refl, rig, source) c.refuse.ensures
+pub returns-in-Err-clause-ended : goal.returns-in-Err-clause-ended
+returns-in-Err-clause-ended g c = λ f rig source. refused dix (modes_work c.args.ty) no_memory f _ _ _ _ c.refuse.result (refl, rig, source) c.refuse.ensures.written

@@ -1,5 +1,5 @@
-use Rattle.image_scripts.proofs.FreshHead.{right_head, units_back}
-use Rattle.image_scripts.proofs.Told.{devices_back, formatted_left, told_formatted}
+use Rattle.image_laws.proofs.FreshHead.{right_head, units_back}
+use Rattle.image_laws.proofs.Told.{devices_back, formatted_left, told_formatted}
 use Rattle.headline.proofs.formatted.a_formatted_image_tells_its_units.Goals as goal
 
 pub returns : goal.returns

@@ -18,10 +18,10 @@ loop-k-init g c = record {
 pub loop-k-preserved : goal.loop-k-preserved
 loop-k-preserved g c =
     let u = c.args.unit.now in
-    let more = appended_both (joined (fresh_from u.ty u.size u.first c.loop-k.k)) c.put_tuple.new.frame (g.S.Store.state c.args.store.now).bytes (g.S.Store.state c.loop-k.store).bytes (g.S.Store.state c.append.new.self).bytes c.loop-k.invariant.appended c.in_ok-append.ensures.written in
+    let more = appended_both (joined (fresh_from u.ty u.size u.first c.loop-k.k)) c.put_fresh.new.frame (g.S.Store.state c.args.store.now).bytes (g.S.Store.state c.loop-k.store).bytes (g.S.Store.state c.append.new.self).bytes c.loop-k.invariant.appended c.in_ok-append.ensures.written in
     record {
-      long = c.put_tuple.ensures.long;
-      zeros = c.put_tuple.ensures.zeros;
-      appended = subst (λ xs. Appended xs (g.S.Store.state c.args.store.now).bytes (g.S.Store.state c.append.new.self).bytes) (ap (λ f. joined (fresh_from u.ty u.size u.first c.loop-k.k) ++ f) c.put_tuple.ensures.frame ∙ sym (fresh_more u.ty u.size u.first c.loop-k.k)) more;
+      long = c.put_fresh.ensures.long;
+      zeros = c.put_fresh.ensures.zeros;
+      appended = subst (λ xs. Appended xs (g.S.Store.state c.args.store.now).bytes (g.S.Store.state c.append.new.self).bytes) (ap (λ f. joined (fresh_from u.ty u.size u.first c.loop-k.k) ++ f) c.put_fresh.ensures.frame ∙ sym (fresh_more u.ty u.size u.first c.loop-k.k)) more;
       store = extended_on (g.S.Store.state c.args.store.now) (g.S.Store.state c.loop-k.store) (g.S.Store.state c.append.new.self) c.loop-k.invariant.store c.append.ensures.stays;
     }

@@ -1,90 +1,67 @@
-use Rattle.std.proofs.Common.{sym, ◌∙◌}
+use Rattle.std.proofs.Common.{refl, sym, ◌∙◌}
 use Rattle.std.proofs.lemmas.Bool.{eqb-true}
+use Rattle.std.proofs.lemmas.Result.{err_from_is_err_and}
 use Rattle.dix_base.specs.Stores.{StoreState}
-use Rattle.image_blocks.specs.Images.{units_open}
-use Rattle.lab_run.specs.Texts.{status_of}
-use Rattle.lab_run.specs.declared.refusal.Refusal.TheVariants as refusal
-use Rattle.lab_run.proofs.Differing.{compared, no_first, no_second, opened_in, other_count, other_size, since_tried, still, uncompared}
-use Rattle.lab_run.proofs.Endings.{tried}
+use Rattle.lab_run.specs.Texts.{no_memory}
+use Rattle.lab_run.proofs.Differing.{compared, no_first, no_second, other_count, other_size, spared}
+use Rattle.lab_run.proofs.Openings.{finds_named}
 use Rattle.lab_run.proofs.comparing.diff.Goals as goal
 
-pub returns-in-Err : goal.returns-in-Err
-returns-in-Err g c = λ left reads rig.
-    uncompared _ c.args.one c.args.other _ _ _ _ left reads rig refusal.Memory _ _ _ _ c.refuse.result c.requires tt (still _ _) (still _ _) c.refuse.ensures
+pub returns-in_err-room-clause-came : goal.returns-in_err-room-clause-came
+returns-in_err-room-clause-came g c = λ left reads rig.
+    let p = err_from_is_err_and c.from_residual.result c.from_residual.ensures.1 in
+    rw (p.1, p.2) (spared _ c.args.one c.args.other _ _ left reads rig no_memory _ _ refl)
 
-pub returns-in-Err-open_image : goal.returns-in-Err-open_image
-returns-in-Err-open_image g c = λ left reads rig.
-    let e = c.in-Err-open_image.ensures in
-    no_first _ c.args.one c.args.other _ _ _ left reads rig c.in-Err-open_image.fault c.of.result _ _ _ _ c.refuse-in-Err-open_image.result c.requires c.of.ensures
-    (tried _ _ c.image_of.result.now _ _ c.image_of.ensures e.judged e.looked) c.refuse-in-Err-open_image.ensures
+pub returns-in_err-here-clause-came : goal.returns-in_err-here-clause-came
+returns-in_err-here-clause-came g c = λ left reads rig.
+    let p = err_from_is_err_and c.from_residual-in_err-here.result c.from_residual-in_err-here.ensures.1 in
+    let h = finds_named _ c.args.one _ _ _ _ c.image_of.ensures c.in_err-here.ensures in
+    rw (p.1, p.2) (no_first _ c.args.one c.args.other _ _ _ left reads rig c.in_err-here.field-0.0 _ _ _ refl h.came h.kept)
 
-pub returns-in-Err-stretch_of : goal.returns-in-Err-stretch_of
-returns-in-Err-stretch_of g c = λ left reads rig.
-    let e = c.in-Ok-open_image.ensures in
-    let t = tried _ _ c.image_of.result.now _ _ c.image_of.ensures e.judged e.looked in
-    uncompared _ c.args.one c.args.other _ _ _ _ left reads rig (refusal.Place c.in-Err-stretch_of.fault) _ _ _ _ c.refuse-in-Err-stretch_of.result c.requires
-    (record { units = units_open c.in-Ok-open_image.image; opened = opened_in c.in-Ok-open_image.image _ _ _ t; judged = sym c.in-Err-stretch_of.ensures.value }) (since_tried _ _ _ _ t) (still _ _) c.refuse-in-Err-stretch_of.ensures
+pub returns-in-Err-clause-came : goal.returns-in-Err-clause-came
+returns-in-Err-clause-came g c = λ left reads rig.
+    let h = finds_named _ c.args.one _ _ _ _ c.image_of.ensures c.in_ok-here.ensures in
+    let k = finds_named _ c.args.other _ _ _ _ c.second_of.ensures c.in-Err.ensures in
+    no_second _ c.args.one c.args.other _ _ _ _ left reads rig c.in_ok-here.here c.in-Err.unfound c.of_second.result _ _ h.came h.kept c.of_second.ensures k.came k.kept
 
-pub returns-in-Err-open_image-2 : goal.returns-in-Err-open_image-2
-returns-in-Err-open_image-2 g c = λ left reads rig.
-    let e = c.in-Ok-open_image.ensures in
-    let t = tried _ _ c.image_of.result.now _ _ c.image_of.ensures e.judged e.looked in
-    let d = c.in-Err-open_image-2.ensures in
-    let u = tried _ _ c.second_of.result.now _ _ c.second_of.ensures d.judged d.looked in
-    no_second _ c.args.one c.args.other _ _ _ _ left reads rig c.in-Ok-open_image.image c.in-Ok-stretch_of.at c.in-Err-open_image-2.fault c.of_second.result _ _ _ _ c.refuse-in-Err-open_image-2.result c.requires t c.in-Ok-stretch_of.ensures.value c.of_second.ensures u
-    c.refuse-in-Err-open_image-2.ensures
+pub are_one_size-requires-clause-one : goal.are_one_size-requires-clause-one
+are_one_size-requires-clause-one g c = c.in_ok-here.ensures.came.inside
 
-pub returns-in-Err-stretch_of-2 : goal.returns-in-Err-stretch_of-2
-returns-in-Err-stretch_of-2 g c = λ left reads rig.
-    let e = c.in-Ok-open_image.ensures in
-    let t = tried _ _ c.image_of.result.now _ _ c.image_of.ensures e.judged e.looked in
-    let d = c.in-Ok-open_image-2.ensures in
-    let u = tried _ _ c.second_of.result.now _ _ c.second_of.ensures d.judged d.looked in
-    uncompared _ c.args.one c.args.other _ _ _ _ left reads rig (refusal.SecondPlace c.in-Err-stretch_of-2.fault) _ _ _ _ c.refuse-in-Err-stretch_of-2.result c.requires
-    (record {
-      units = units_open c.in-Ok-open_image.image;
-      at = c.in-Ok-stretch_of.at;
-      first = record { opened = opened_in c.in-Ok-open_image.image _ _ _ t; there = sym c.in-Ok-stretch_of.ensures.value };
-      others = units_open c.in-Ok-open_image-2.beside;
-      opened = opened_in c.in-Ok-open_image-2.beside _ _ _ u;
-      judged = sym c.in-Err-stretch_of-2.ensures.value;
-    })
-    (since_tried _ _ _ _ t) (since_tried _ _ _ _ u) c.refuse-in-Err-stretch_of-2.ensures
+pub are_one_size-requires-clause-other : goal.are_one_size-requires-clause-other
+are_one_size-requires-clause-other g c = c.in-Ok.ensures.came.inside
 
-pub returns-then-not-are_one_size : goal.returns-then-not-are_one_size
-returns-then-not-are_one_size g c = λ left reads rig.
-    let e = c.in-Ok-open_image.ensures in
-    let t = tried _ _ c.image_of.result.now _ _ c.image_of.ensures e.judged e.looked in
-    let d = c.in-Ok-open_image-2.ensures in
-    let u = tried _ _ c.second_of.result.now _ _ c.second_of.ensures d.judged d.looked in
-    other_size _ c.args.one c.args.other _ _ _ _ left reads rig c.in-Ok-open_image.image c.in-Ok-open_image-2.beside c.in-Ok-stretch_of.at c.in-Ok-stretch_of-2.to c.are_one_size.result _ _ _ _ c.refuse-then-not-are_one_size.result c.requires
-    (record { first = t; there = c.in-Ok-stretch_of.ensures.value; second = u; other_there = c.in-Ok-stretch_of-2.ensures.value }) c.are_one_size.ensures c.if-not-are_one_size.true c.refuse-then-not-are_one_size.ensures
+pub diff_blocks-ended-requires-clause-places : goal.diff_blocks-ended-requires-clause-places
+diff_blocks-ended-requires-clause-places g c = record {
+  place = c.in_ok-here.ensures.came.inside;
+  other_place = c.in-Ok.ensures.came.inside;
+  many = c.if-here-there.false;
+  held = c.in_ok-here.ensures.came.held;
+  other_held = c.in-Ok.ensures.came.held;
+}
 
-pub returns-then-at-to : goal.returns-then-at-to
-returns-then-at-to g c = λ left reads rig.
-    let e = c.in-Ok-open_image.ensures in
-    let t = tried _ _ c.image_of.result.now _ _ c.image_of.ensures e.judged e.looked in
-    let d = c.in-Ok-open_image-2.ensures in
-    let u = tried _ _ c.second_of.result.now _ _ c.second_of.ensures d.judged d.looked in
-    other_count _ c.args.one c.args.other _ _ _ _ left reads rig c.in-Ok-open_image.image c.in-Ok-open_image-2.beside c.in-Ok-stretch_of.at c.in-Ok-stretch_of-2.to c.are_one_size.result _ _ _ _ c.refuse-then-at-to.result c.requires
-    (record { first = t; there = c.in-Ok-stretch_of.ensures.value; second = u; other_there = c.in-Ok-stretch_of-2.ensures.value }) c.are_one_size.ensures c.if-not-are_one_size.false c.if-at-to.true c.refuse-then-at-to.ensures
+pub returns-then-not-are_one_size-clause-came : goal.returns-then-not-are_one_size-clause-came
+returns-then-not-are_one_size-clause-came g c = λ left reads rig.
+    let h = finds_named _ c.args.one _ _ _ _ c.image_of.ensures c.in_ok-here.ensures in
+    let k = finds_named _ c.args.other _ _ _ _ c.second_of.ensures c.in-Ok.ensures in
+    other_size _ c.args.one c.args.other _ _ _ _ left reads rig c.in_ok-here.here c.in-Ok.there c.are_one_size.result _ _ (record { first = h.came; kept = h.kept; second = k.came; second_kept = k.kept }) c.are_one_size.ensures c.if-not-are_one_size.true
 
-pub returns : goal.returns
-returns g c = λ left reads rig.
-    let e = c.in-Ok-open_image.ensures in
-    let d = c.in-Ok-open_image-2.ensures in
+pub returns-then-here-there-clause-came : goal.returns-then-here-there-clause-came
+returns-then-here-there-clause-came g c = λ left reads rig.
+    let h = finds_named _ c.args.one _ _ _ _ c.image_of.ensures c.in_ok-here.ensures in
+    let k = finds_named _ c.args.other _ _ _ _ c.second_of.ensures c.in-Ok.ensures in
+    other_count _ c.args.one c.args.other _ _ _ _ left reads rig c.in_ok-here.here c.in-Ok.there c.are_one_size.result _ _ (record { first = h.came; kept = h.kept; second = k.came; second_kept = k.kept }) c.are_one_size.ensures c.if-not-are_one_size.false
+    c.if-here-there.true
+
+pub returns-clause-came : goal.returns-clause-came
+returns-clause-came g c = λ left reads rig.
     let was : StoreState = g.A.Store.state c.args.first.now in
-    let mid : StoreState = g.A.Store.state c.open_image.new.store in
-    let is : StoreState = g.A.Store.state c.diff_blocks.new.store in
+    let mid : StoreState = g.A.Store.state c.find.new.store in
+    let is : StoreState = g.A.Store.state c.diff_blocks-ended.new.store in
     let beside_was : StoreState = g.B.Store.state c.args.second.now in
-    let beside_mid : StoreState = g.B.Store.state c.open_image-2.new.store in
-    let beside_is : StoreState = g.B.Store.state c.diff_blocks.new.other in
-    let s = c.diff_blocks.ensures in
-    compared _ c.args.one c.args.other was mid is beside_was beside_mid beside_is left reads rig c.in-Ok-open_image.image c.in-Ok-open_image-2.beside c.in-Ok-stretch_of.at c.in-Ok-stretch_of-2.to c.diff_blocks.result _ _ _ _ c.status_of.result c.requires
-    (record {
-      first = tried _ _ c.image_of.result.now was mid c.image_of.ensures e.judged e.looked;
-      there = c.in-Ok-stretch_of.ensures.value;
-      second = tried _ _ c.second_of.result.now beside_was beside_mid c.second_of.ensures d.judged d.looked;
-      other_there = c.in-Ok-stretch_of-2.ensures.value;
-    }) (record { first = s.first; second = s.second })
-    (eqb-true _ _ (sym c.are_one_size.ensures ∙ c.if-not-are_one_size.false)) c.if-at-to.false s.compared c.status_of.ensures
+    let beside_mid : StoreState = g.B.Store.state c.find-2.new.store in
+    let beside_is : StoreState = g.B.Store.state c.diff_blocks-ended.new.other in
+    let h = finds_named _ c.args.one _ _ was mid c.image_of.ensures c.in_ok-here.ensures in
+    let k = finds_named _ c.args.other _ _ beside_was beside_mid c.second_of.ensures c.in-Ok.ensures in
+    let s = c.diff_blocks-ended.ensures in
+    compared _ c.args.one c.args.other was mid is beside_was beside_mid beside_is left reads rig c.in_ok-here.here c.in-Ok.there c.diff_blocks-ended.result _ _ _ _ c.status_of.result
+    (record { first = h.came; kept = h.kept; second = k.came; second_kept = k.kept }) (record { first = s.first; second = s.second }) (eqb-true _ _ (sym c.are_one_size.ensures ∙ c.if-not-are_one_size.false)) c.if-here-there.false s.compared c.status_of.ensures

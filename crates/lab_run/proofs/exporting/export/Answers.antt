@@ -1,37 +1,42 @@
-use Rattle.std.proofs.Common.{sym, ◌∙◌}
+use Rattle.std.proofs.Common.{refl, sym, ◌∙◌}
+use Rattle.std.proofs.lemmas.Result.{err_from_is_err_and}
 use Rattle.dix_base.specs.Stores.{StoreState}
-use Rattle.lab_run.proofs.Dumping.{exported, spared_export, unexported, unfit_export, unplaced_export}
-use Rattle.lab_run.proofs.Endings.{tried}
+use Rattle.lab_run.specs.Texts.{no_memory}
+use Rattle.lab_run.proofs.Dumping.{exported, spared_export, unfit_export, unfound_export}
+use Rattle.lab_run.proofs.Openings.{finds_named}
 use Rattle.lab_run.proofs.exporting.export.Goals as goal
 
-pub returns-in-Err : goal.returns-in-Err
-returns-in-Err g c = λ left reads rig second. spared_export _ c.args.place c.args.layout _ left reads rig second _ _ _ _ c.refuse.result c.requires c.refuse.ensures
+pub returns-in_err-room-clause-came : goal.returns-in_err-room-clause-came
+returns-in_err-room-clause-came g c = λ left reads rig second.
+    let p = err_from_is_err_and c.from_residual.result c.from_residual.ensures.1 in
+    rw (p.1, p.2) (spared_export _ c.args.place c.args.layout _ left reads rig second no_memory _ _ refl)
 
-pub returns-in-Err-open_image : goal.returns-in-Err-open_image
-returns-in-Err-open_image g c = λ left reads rig second.
-    let e = c.in-Err-open_image.ensures in
-    unexported _ c.args.place c.args.layout _ _ left reads rig second c.in-Err-open_image.fault c.of.result _ _ _ _ c.refuse-in-Err-open_image.result c.requires c.of.ensures
-    (tried _ _ c.image_of.result.now _ _ c.image_of.ensures e.judged e.looked) c.refuse-in-Err-open_image.ensures
+pub returns-in_err-found-clause-came : goal.returns-in_err-found-clause-came
+returns-in_err-found-clause-came g c = λ left reads rig second.
+    let p = err_from_is_err_and c.from_residual-in_err-found.result c.from_residual-in_err-found.ensures.1 in
+    let h = finds_named _ c.args.place _ _ _ _ c.image_of.ensures c.in_err-found.ensures in
+    rw (p.1, p.2) (unfound_export _ c.args.place c.args.layout _ _ left reads rig second c.in_err-found.field-0.0 _ _ _ refl h.came h.kept)
 
-pub returns-in-Err-stretch_of : goal.returns-in-Err-stretch_of
-returns-in-Err-stretch_of g c = λ left reads rig second.
-    let e = c.in-Ok-open_image.ensures in
-    unplaced_export _ c.args.place c.args.layout _ _ left reads rig second c.in-Ok-open_image.image c.in-Err-stretch_of.fault _ _ _ _ c.refuse-in-Err-stretch_of.result c.requires
-    (tried _ _ c.image_of.result.now _ _ c.image_of.ensures e.judged e.looked) c.in-Err-stretch_of.ensures.value c.refuse-in-Err-stretch_of.ensures
+pub fits_there-requires : goal.fits_there-requires
+fits_there-requires g c = c.in_ok-found.ensures.came.inside
 
-pub returns-then-not-fits_there : goal.returns-then-not-fits_there
-returns-then-not-fits_there g c = λ left reads rig second.
-    let e = c.in-Ok-open_image.ensures in
-    unfit_export _ c.args.place c.args.layout _ _ left reads rig second c.in-Ok-open_image.image c.in-Ok-stretch_of.at c.fits_there.result _ _ _ _ c.refuse-then-not-fits_there.result c.requires
-    (tried _ _ c.image_of.result.now _ _ c.image_of.ensures e.judged e.looked) c.in-Ok-stretch_of.ensures.value c.fits_there.ensures c.if-not-fits_there.true c.refuse-then-not-fits_there.ensures
+pub export_blocks-ended-requires-clause-place : goal.export_blocks-ended-requires-clause-place
+export_blocks-ended-requires-clause-place g c = c.in_ok-found.ensures.came.inside
 
-pub returns : goal.returns
-returns g c = λ left reads rig second.
-    let e = c.in-Ok-open_image.ensures in
+pub export_blocks-ended-requires-clause-held : goal.export_blocks-ended-requires-clause-held
+export_blocks-ended-requires-clause-held g c = c.in_ok-found.ensures.came.held
+
+pub returns-then-not-fits_there-clause-came : goal.returns-then-not-fits_there-clause-came
+returns-then-not-fits_there-clause-came g c = λ left reads rig second.
+    let h = finds_named _ c.args.place _ _ _ _ c.image_of.ensures c.in_ok-found.ensures in
+    unfit_export _ c.args.place c.args.layout _ _ left reads rig second c.in_ok-found.found c.fits_there.result _ _ h.came h.kept c.fits_there.ensures c.if-not-fits_there.true
+
+pub returns-clause-came : goal.returns-clause-came
+returns-clause-came g c = λ left reads rig second.
     let was : StoreState = g.A.Store.state c.args.store.now in
-    let mid : StoreState = g.A.Store.state c.open_image.new.store in
-    let is : StoreState = g.A.Store.state c.export_blocks.new.store in
-    let s = c.export_blocks.ensures in
-    exported _ c.args.place c.args.layout c.laid.result was mid is left reads rig second c.in-Ok-open_image.image c.in-Ok-stretch_of.at c.export_blocks.result _ _ _ _ c.dumped.result c.laid.ensures c.requires
-    (tried _ _ c.image_of.result.now was mid c.image_of.ensures e.judged e.looked) s.store c.in-Ok-stretch_of.ensures.value (sym c.fits_there.ensures ∙ c.if-not-fits_there.false)
-    s.dumped c.dumped.ensures
+    let mid : StoreState = g.A.Store.state c.find.new.store in
+    let is : StoreState = g.A.Store.state c.export_blocks-ended.new.store in
+    let h = finds_named _ c.args.place _ _ was mid c.image_of.ensures c.in_ok-found.ensures in
+    let s = c.export_blocks-ended.ensures in
+    exported _ c.args.place c.args.layout was mid is left reads rig second c.in_ok-found.found c.export_blocks-ended.result _ _ _ _ c.dumped.result h.came h.kept s.store
+    (sym c.fits_there.ensures ∙ c.if-not-fits_there.false) s.dumped c.dumped.ensures

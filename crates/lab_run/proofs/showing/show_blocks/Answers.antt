@@ -1,28 +1,33 @@
+use Rattle.std.proofs.Common.{refl}
+use Rattle.std.proofs.lemmas.Result.{err_from_is_err_and}
 use Rattle.dix_base.specs.Stores.{StoreState}
-use Rattle.lab_run.proofs.Endings.{shown, spared, tried, unplaced, unshown}
+use Rattle.lab_run.specs.Texts.{no_memory}
+use Rattle.lab_run.proofs.Openings.{finds_named}
+use Rattle.lab_run.proofs.Shows.{shown, spared, unshown}
 use Rattle.lab_run.proofs.showing.show_blocks.Goals as goal
 
-pub returns-in-Err : goal.returns-in-Err
-returns-in-Err g c = λ left reads rig second. spared _ c.args.place _ left reads rig second _ _ _ _ c.refuse.result c.requires c.refuse.ensures
+pub returns-in_err-room-clause-came : goal.returns-in_err-room-clause-came
+returns-in_err-room-clause-came g c = λ left reads rig second.
+    let p = err_from_is_err_and c.from_residual.result c.from_residual.ensures.1 in
+    rw (p.1, p.2) (spared _ c.args.place _ left reads rig second no_memory _ _ refl)
 
-pub returns-in-Err-open_image : goal.returns-in-Err-open_image
-returns-in-Err-open_image g c = λ left reads rig second.
-    let e = c.in-Err-open_image.ensures in
-    unshown _ c.args.place _ _ left reads rig second c.in-Err-open_image.fault c.of.result _ _ _ _ c.refuse-in-Err-open_image.result c.requires c.of.ensures
-    (tried _ _ c.image_of.result.now _ _ c.image_of.ensures e.judged e.looked) c.refuse-in-Err-open_image.ensures
+pub returns-in_err-found-clause-came : goal.returns-in_err-found-clause-came
+returns-in_err-found-clause-came g c = λ left reads rig second.
+    let p = err_from_is_err_and c.from_residual-in_err-found.result c.from_residual-in_err-found.ensures.1 in
+    let h = finds_named _ c.args.place _ _ _ _ c.image_of.ensures c.in_err-found.ensures in
+    rw (p.1, p.2) (unshown _ c.args.place _ _ left reads rig second c.in_err-found.field-0.0 _ _ _ refl h.came h.kept)
 
-pub returns-in-Err-stretch_of : goal.returns-in-Err-stretch_of
-returns-in-Err-stretch_of g c = λ left reads rig second.
-    let e = c.in-Ok-open_image.ensures in
-    unplaced _ c.args.place _ _ left reads rig second c.in-Ok-open_image.image c.in-Err-stretch_of.fault _ _ _ _ c.refuse-in-Err-stretch_of.result c.requires
-    (tried _ _ c.image_of.result.now _ _ c.image_of.ensures e.judged e.looked) c.in-Err-stretch_of.ensures.value c.refuse-in-Err-stretch_of.ensures
+pub show_blocks-ended-requires-clause-place : goal.show_blocks-ended-requires-clause-place
+show_blocks-ended-requires-clause-place g c = c.in_ok-found.ensures.came.inside
 
-pub returns : goal.returns
-returns g c = λ left reads rig second.
-    let e = c.in-Ok-open_image.ensures in
+pub show_blocks-ended-requires-clause-held : goal.show_blocks-ended-requires-clause-held
+show_blocks-ended-requires-clause-held g c = c.in_ok-found.ensures.came.held
+
+pub returns-clause-came : goal.returns-clause-came
+returns-clause-came g c = λ left reads rig second.
     let was : StoreState = g.A.Store.state c.args.store.now in
-    let mid : StoreState = g.A.Store.state c.open_image.new.store in
-    let is : StoreState = g.A.Store.state c.show_blocks.new.store in
-    let s = c.show_blocks.ensures in
-    shown _ c.args.place was mid is left reads rig second c.in-Ok-open_image.image c.in-Ok-stretch_of.at c.show_blocks.result _ _ _ _ c.status_of.result c.requires
-    (tried _ _ c.image_of.result.now was mid c.image_of.ensures e.judged e.looked) s.store c.in-Ok-stretch_of.ensures.value s.shown c.status_of.ensures
+    let mid : StoreState = g.A.Store.state c.find.new.store in
+    let is : StoreState = g.A.Store.state c.show_blocks-ended.new.store in
+    let h = finds_named _ c.args.place _ _ was mid c.image_of.ensures c.in_ok-found.ensures in
+    let s = c.show_blocks-ended.ensures in
+    shown _ c.args.place was mid is left reads rig second c.in_ok-found.found c.show_blocks-ended.result _ _ _ _ c.status_of.result h.came h.kept s.store s.shown c.status_of.ensures

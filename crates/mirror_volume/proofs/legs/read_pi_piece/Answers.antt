@@ -7,11 +7,11 @@ use Rattle.script_stack.specs.Causes.{table_of}
 use Rattle.stack_core.specs.declared.stack.Stack.{Stack}
 use Rattle.std.specs.Prelude.{None}
 use Rattle.std.proofs.lemmas.Result.{IfOk-weaker}
+use Rattle.mirror_volume.specs.Inner.{pages_for}
 use Rattle.mirror_volume.specs.LegRuns.{found_by}
 use Rattle.mirror_volume.proofs.OwnRuns.{read-pi-fits, read-pi-lies}
 use Rattle.mirror_volume.proofs.Planned.{half-small, plan-asks, plan-tuples}
 use Rattle.mirror_volume.proofs.Running.{none-run, run-so}
-use Rattle.mirror_volume.proofs.Results.{if-not}
 use Rattle.mirror_volume.proofs.legs.read_pi_piece.Goals as goal
 
 pub read_pi_script-requires-clause-virt : goal.read_pi_script-requires-clause-virt
@@ -48,21 +48,17 @@ found_last-requires g c =
     let fits = read-pi-fits _ _ ran.runs _ _ c.in_ok-stack.stack p.script p.half c.args.piece c.in_ok-own.own c.in_ok-own.ensures ran.ran ran.came in
     rw (c.replies.ensures, c.requires.room.found_long) fits
 
-pub copy_out-requires-clause-lie : goal.copy_out-requires-clause-lie
-copy_out-requires-clause-lie g c =
+pub copy_both-requires-clause-lie : goal.copy_both-requires-clause-lie
+copy_both-requires-clause-lie g c =
     let p = c.args.plan.now in
     let lie = read-pi-lies c.in_ok-stack.stack c.in_ok-own.own p.script p.half c.args.piece c.in_ok-own.ensures c.in_ok-stack.ensures.stack c.in_ok-stack.ensures.ios in
     rw (c.pool.ensures, c.requires.room.long) lie.0
 
-pub returns-in_err-copy_out-clause-ran : goal.returns-in_err-copy_out-clause-ran
-returns-in_err-copy_out-clause-ran g c =
-    run-so _ c.in_ok-stack.ensures.ran (λ s e. e ∙ c.in_ok-own.ensures) (if-not _ c.from_residual-in_err-copy_out.result c.from_residual-in_err-copy_out.ensures.0)
-
-pub copy_out-requires-2-clause-lie : goal.copy_out-requires-2-clause-lie
-copy_out-requires-2-clause-lie g c =
+pub copy_both-requires-clause-behind : goal.copy_both-requires-clause-behind
+copy_both-requires-clause-behind g c =
     let p = c.args.plan.now in
     let lie = read-pi-lies c.in_ok-stack.stack c.in_ok-own.own p.script p.half c.args.piece c.in_ok-own.ensures c.in_ok-stack.ensures.stack c.in_ok-stack.ensures.ios in
-    rw (c.pool-2.ensures, c.requires.room.tuples_long, c.pages_for-behind.ensures) lie.1
+    rw (c.pool.ensures, c.requires.room.long, c.requires.room.tuples_long) lie.1
 
 pub returns-clause-ran : goal.returns-clause-ran
 returns-clause-ran g c =
@@ -71,12 +67,16 @@ returns-clause-ran g c =
     let replies = c.replies.ensures ∙ sym (ap (λ (x : Stack). x.replies.items) one.so) in
     let found = c.found_last.ensures ∙ ap (λ n. found_by n c.replies.result.now) c.requires.room.found_long ∙ ap (found_by c.args.piece.n) replies in
     let pool = c.pool.ensures ∙ sym (ap (λ (x : Stack). x.pool) one.so) in
-    let pool-2 = c.pool-2.ensures ∙ sym (ap (λ (x : Stack). x.pool) one.so) in
-    let bytes = c.in_ok-copy_out.ensures.bytes ∙ (λ i. take (c.requires.room.long i) (flat (pool i))) in
     run-so _ ran (λ s e. e ∙ c.in_ok-own.ensures)
-    (IfOk-weaker c.copy_out-2.result _ _ (λ u tuples. record {
+    (IfOk-weaker c.copy_both.result _ _ (λ u both. record {
       run = one.run;
       only = one.only;
       own_is = one.own_is ∙ c.in_ok-own.ensures;
-      so = (found, (bytes, tuples ∙ (λ i. take (c.requires.room.tuples_long i) (drop (4096 * c.pages_for-behind.ensures i) (flat (pool-2 i))))));
-    }) c.copy_out-2.ensures.bytes)
+      so = (
+        found,
+        (
+          both.0 ∙ (λ i. take (c.requires.room.long i) (flat (pool i))),
+          both.1 ∙ (λ i. take (c.requires.room.tuples_long i) (drop (4096 * pages_for (c.requires.room.long i)) (flat (pool i)))),
+        ),
+      );
+    }) c.copy_both.ensures.copied)

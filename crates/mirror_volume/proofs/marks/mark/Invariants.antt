@@ -1,5 +1,5 @@
 use Rattle.std.proofs.Common.{◌≡◌, ◌+◌, drop}
-use Rattle.mirror_walk.specs.OnLegs.{marks_written}
+use Rattle.mirror_laws.specs.OnLegs.{marks_written}
 use Rattle.mirror_volume.proofs.marks.mark.Given as goal
 
 abbrev pub invariant-loop-i : goal.invariant-loop-i

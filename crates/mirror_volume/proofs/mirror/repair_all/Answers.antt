@@ -1,5 +1,5 @@
 use Rattle.std.proofs.Common.{◌≡◌, ◌-◌, ◌*◌, List, ap, drop, length, min, refl, rules, subst, sym, take_at, ◌∙◌, arith}
-use Rattle.mirror_walk.specs.declared.marks.Marks.{Marks}
+use Rattle.mirror_laws.specs.declared.marks.Marks.{Marks}
 use Rattle.mirror_volume.specs.declared.piece.Piece.{Piece}
 use Rattle.mirror_volume.specs.Mending.{RepairBy, StretchBy, stretches_in}
 use Rattle.mirror_volume.proofs.Mended.{repair-more}

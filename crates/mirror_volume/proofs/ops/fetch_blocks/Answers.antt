@@ -4,8 +4,8 @@ use Rattle.bio_core.specs.declared.fate.Why.{Why}
 use Rattle.page_pool.specs.Pages.{Wrote}
 use Rattle.page_pool.specs.Places.{range_of, total}
 use Rattle.stack_ops.specs.declared.reply.Reply.{Reply}
-use Rattle.whole_run.specs.ScriptWalk.{bad_from, whole_or_bad}
-use Rattle.mirror_walk.specs.declared.marks.Marks.{Marks}
+use Rattle.walk_laws.specs.ScriptWalk.{bad_from, whole_or_bad}
+use Rattle.mirror_laws.specs.declared.marks.Marks.{Marks}
 use Rattle.mirror_volume.specs.OnOps.{Sides}
 use Rattle.mirror_volume.specs.declared.piece.Piece.{Piece}
 use Rattle.mirror_volume.specs.Asked.{IsReadOf}

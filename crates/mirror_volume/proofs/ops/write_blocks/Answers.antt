@@ -1,6 +1,6 @@
 use Rattle.std.proofs.Common.{◌≡◌, take, drop, ◌++◌, [], take_at, ◌*◌, ap, length, refl, rules, subst, sym, ◌∙◌, List}
 use Rattle.std.specs.Prelude.{IfOk}
-use Rattle.mirror_walk.specs.declared.marks.Marks.{Marks}
+use Rattle.mirror_laws.specs.declared.marks.Marks.{Marks}
 use Rattle.mirror_volume.specs.declared.piece.Piece.{Piece}
 use Rattle.mirror_volume.specs.OnOps.{Sides, WroteBy}
 use Rattle.mirror_volume.proofs.Dones.{data-long, did-write}

@@ -1,7 +1,7 @@
 use Rattle.std.proofs.Common.{List, get_or, refl, rules, subst, sym, ◌∙◌, arith}
 use Rattle.std.specs.Prelude.{None}
 use Rattle.std.proofs.lemmas.List.{take_all}
-use Rattle.mirror_walk.specs.Stretches.{Need}
+use Rattle.mirror_laws.specs.Stretches.{Need}
 use Rattle.mirror_volume.specs.Helds.{goods_in, so_far}
 use Rattle.mirror_volume.specs.Mending.{MendsBy, need_by, needs_by}
 use Rattle.mirror_volume.proofs.Helds.{goods-long, need-at, needs-count}

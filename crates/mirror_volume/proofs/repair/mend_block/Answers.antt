@@ -1,8 +1,8 @@
 use Rattle.std.proofs.Common.{◌+◌, ◌*◌, ◌<◌, true, false, None, ap, drop, get_or, length, take, ◌∙◌, arith}
 use Rattle.std.proofs.lemmas.List.{get_or_default}
 use Rattle.pi_tuple.specs.Tuples.{tuple_in}
-use Rattle.mirror_walk.specs.Mirror.{fresh}
-use Rattle.mirror_walk.specs.declared.marks.Marks.{Marks}
+use Rattle.mirror_laws.specs.Mirror.{fresh}
+use Rattle.mirror_laws.specs.declared.marks.Marks.{Marks}
 use Rattle.mirror_volume.specs.declared.piece.Piece.{Piece}
 use Rattle.mirror_volume.specs.Inner.{write_script}
 use Rattle.mirror_volume.specs.Helds.{goods_in, so_far}

@@ -1,5 +1,5 @@
 use Rattle.std.proofs.Common.{◌≡◌, ◌++◌, take, drop}
-use Rattle.mirror_walk.specs.OnLegs.{listed_written}
+use Rattle.mirror_laws.specs.OnLegs.{listed_written}
 use Rattle.mirror_volume.proofs.replies.list_by_both.Given as goal
 
 abbrev pub invariant-loop-i : goal.invariant-loop-i

@@ -1,5 +1,5 @@
 use Rattle.std.proofs.Common.{◌≡◌, ◌++◌, drop}
-use Rattle.whole_run.specs.ScriptWalk.{bad_from}
+use Rattle.walk_laws.specs.ScriptWalk.{bad_from}
 use Rattle.mirror_volume.proofs.replies.request_reply.Given as goal
 
 abbrev pub invariant-loop-k : goal.invariant-loop-k

@@ -2,8 +2,8 @@ use Rattle.std.proofs.Common.{ℕ, ◌≡◌, ◌++◌, List, Option, true, fals
 use Rattle.std.proofs.lemmas.Result.{IfOk-weaker}
 use Rattle.bio_core.specs.declared.fate.Why.{Why}
 use Rattle.stack_ops.specs.declared.reply.Reply.{Reply}
-use Rattle.whole_run.specs.ScriptWalk.{bad_from, whole_or_bad}
-use Rattle.mirror_walk.specs.OnLegs.{listed_written, marks_written}
+use Rattle.walk_laws.specs.ScriptWalk.{bad_from, whole_or_bad}
+use Rattle.mirror_laws.specs.OnLegs.{listed_written, marks_written}
 use Rattle.mirror_volume.specs.declared.piece.Piece.{Piece}
 use Rattle.mirror_volume.specs.Inner.{write_script}
 use Rattle.script_text.specs.declared.script.Script.{Script}

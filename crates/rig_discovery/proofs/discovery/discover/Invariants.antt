@@ -4,7 +4,7 @@ use Rattle.rig_api.specs.Log.{HasRoom}
 use Rattle.rig_api.specs.Telling.{greatest_size, specs_of}
 use Rattle.rig_api.specs.State.{Stays}
 use Rattle.rig_api.specs.Passed.{Stored}
-use Rattle.answered_record.specs.Answered.{Answers}
+use Rattle.record_laws.specs.Answered.{Answers}
 use Rattle.rig_discovery.specs.Discovery.{Ends, Spent, info_of}
 use Rattle.rig_discovery.proofs.Steps.{SoFar}
 use Rattle.rig_discovery.proofs.discovery.discover.Given as goal

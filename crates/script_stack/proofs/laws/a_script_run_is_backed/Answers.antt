@@ -1,7 +1,7 @@
 use Rattle.std.proofs.Common.{◌*◌, drop, map, refl, subst, sym, true}
 use Rattle.dix_adapter.specs.Passed.{hidden}
-use Rattle.script_ground.specs.Passed.{IsBoundRun, told, Backed, recorded}
-use Rattle.script_ground.proofs.Units.{over-units}
+use Rattle.script_run_laws.specs.Passed.{IsBoundRun, told, Backed, recorded}
+use Rattle.script_run_laws.proofs.Units.{over-units}
 use Rattle.script_stack.specs.Followed.{begun_of, failed_in, setting_of, unit_of}
 use Rattle.script_stack.proofs.Runs.{has-cells, has-room, hides}
 use Rattle.script_stack.proofs.laws.a_script_run_is_backed.Goals as goal

@@ -1,10 +1,10 @@
 use Rattle.std.proofs.Common.{◌≡◌, ◌*◌, ℕ, true, eqb, List, [], length, get_or, drop, refl, ap, subst, sym, take, ◌∙◌}
 use Rattle.page_pool.specs.Cells.{flat}
 use Rattle.dix_adapter.specs.Ways.{blocks_told, shapes_of}
-use Rattle.script_ground.specs.Passed.{IsBoundRun, keeps_size, recorded}
+use Rattle.script_run_laws.specs.Passed.{IsBoundRun, keeps_size, recorded}
 use Rattle.stack_core.specs.Passed.{AllTakeAny, with_flips}
 use Rattle.stack_core.specs.Walking.{EndsFallen}
-use Rattle.script_ground.proofs.Units.{over-units}
+use Rattle.script_run_laws.proofs.Units.{over-units}
 use Rattle.script_stack.specs.Followed.{begun_of, failed_in, opening_of, setting_of}
 use Rattle.script_stack.proofs.Fallen.{hidden-same}
 use Rattle.script_stack.proofs.Runs.{has-cells, has-room, hides, hides-all}

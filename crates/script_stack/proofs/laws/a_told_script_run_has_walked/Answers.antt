@@ -1,8 +1,8 @@
 use Rattle.std.proofs.Common.{◌*◌, ap, drop, refl, subst, sym, ◌∙◌}
 use Rattle.dix_adapter.specs.Ways.{blocks_told, shapes_of}
 use Rattle.stack_core.specs.Passed.{script_replies, script_walk}
-use Rattle.script_ground.specs.Passed.{IsBoundRun, keeps_size, Carried}
-use Rattle.script_ground.proofs.Units.{over-units}
+use Rattle.script_run_laws.specs.Passed.{IsBoundRun, keeps_size, Carried}
+use Rattle.script_run_laws.proofs.Units.{over-units}
 use Rattle.stack_core.specs.Walking.{EndsTold}
 use Rattle.stack_core.proofs.NoMedium.{none_failed}
 use Rattle.script_stack.specs.Followed.{begun_of, none_fails, setting_of}

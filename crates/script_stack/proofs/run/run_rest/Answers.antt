@@ -1,5 +1,5 @@
 use Rattle.std.proofs.Common.{◌≡◌, true, false, refl, ap, sym, ◌∙◌, arith}
-use Rattle.stack_view.specs.Runs.{most_steps}
+use Rattle.stack_laws.specs.Runs.{most_steps}
 use Rattle.stack_core.specs.Stacks.{plan_in}
 use Rattle.stack_core.proofs.Goes.{goes-nowhere}
 use Rattle.script_stack.proofs.Going.{goes_then, stays_then, went_nowhere, went_on}

@@ -1,5 +1,5 @@
 use Rattle.std.proofs.Common.{◌-◌, ◌≤◌, List, length}
-use Rattle.stack_view.specs.Runs.{ScheduleEntry, most_steps}
+use Rattle.stack_laws.specs.Runs.{ScheduleEntry, most_steps}
 use Rattle.rig_api.specs.State.{Stays as RigStays}
 use Rattle.stack_core.specs.Going.{StandsOver, Went}
 use Rattle.script_stack.specs.Sends.{SendsBy}

@@ -2,7 +2,7 @@ use Rattle.std.proofs.Common.{List, [], Option, Some, None, ap, drop, subst, sym
 use Rattle.page_pool.specs.Cells.{flat}
 use Rattle.target_answer.specs.Target.{Stored}
 use Rattle.dix_adapter.specs.Ways.{blocks_told}
-use Rattle.run_follows.specs.Passed.{recorded}
+use Rattle.stack_walk_laws.specs.Passed.{recorded}
 use Rattle.stack_core.specs.Walking.{EndsFallen}
 use Rattle.stack_core.proofs.WalkEnds.{ends_falling}
 use Rattle.stack_core.proofs.laws.a_finished_stack_has_done_the_falling_walk.Goals as goal

@@ -1,9 +1,9 @@
 use Rattle.std.proofs.Common.{◌≡◌, ◌*◌, map, ap, ◌∙◌, arith}
 use Rattle.page_pool.specs.Places.{total}
 use Rattle.merge_queue.specs.Groups.{numbers}
-use Rattle.run_follows.specs.Requests.{pages_for, tuple_page}
-use Rattle.run_follows.proofs.Counts.{numbers-more}
-use Rattle.run_follows.proofs.Private.{total-private}
+use Rattle.stack_walk_laws.specs.Requests.{pages_for, tuple_page}
+use Rattle.stack_walk_laws.proofs.Counts.{numbers-more}
+use Rattle.stack_walk_laws.proofs.Private.{total-private}
 use Rattle.stack_core.proofs.requests.private_tuples.Goals as goal
 
 pub loop-i-preserved : goal.loop-i-preserved

@@ -1,4 +1,4 @@
-use Rattle.run_follows.proofs.Wholes.{whole_stays}
+use Rattle.stack_walk_laws.proofs.Wholes.{whole_stays}
 use Rattle.stack_core.proofs.settle.blank.Goals as goal
 
 pub blank_tuple-requires-clause-whole : goal.blank_tuple-requires-clause-whole

@@ -1,4 +1,4 @@
-use Rattle.run_follows.proofs.Wholes.{tuples_stay, whole_stays}
+use Rattle.stack_walk_laws.proofs.Wholes.{tuples_stay, whole_stays}
 use Rattle.stack_core.proofs.settle.look_at.Goals as goal
 
 pub verified-requires-clause-whole : goal.verified-requires-clause-whole

@@ -3,9 +3,9 @@ use Rattle.std.proofs.lemmas.List.{at_drop_more}
 use Rattle.std.proofs.lemmas.List.Elements.{All-get_or}
 use Rattle.merge_queue.specs.Chains.{no_bio}
 use Rattle.merge_queue.specs.Groups.{size}
-use Rattle.run_follows.specs.Settling.{IsOf}
-use Rattle.run_follows.proofs.InTurn.{bio-more, size-more}
-use Rattle.run_follows.proofs.Wholes.{fates_stay, whole-of, whole_stays}
+use Rattle.stack_walk_laws.specs.Settling.{IsOf}
+use Rattle.stack_walk_laws.proofs.InTurn.{bio-more, size-more}
+use Rattle.stack_walk_laws.proofs.Wholes.{fates_stay, whole-of, whole_stays}
 use Rattle.stack_core.proofs.settle.settle_all.Goals as goal
 
 pub settle_bio-requires-clause-whole : goal.settle_bio-requires-clause-whole
@@ -29,5 +29,5 @@ loop-bio-preserved c =
       starts = c.settle_bio.ensures.places.starts ∙ v.starts;
       at = omega (arith, size-more bios i no_bio c.loop-bio-test.true);
       rest = omega (arith, at_drop_more size bios i no_bio c.loop-bio-test.true);
-      settled = bio-more c.args.mode c.args.ty ios c.args.kept.now.starts.items c.loop-bio.kept.starts.items bios c.args.fates.now c.loop-bio.at i no_bio c.index-ios-bio.result _ _ _ v.starts c.loop-bio-test.true l c.index-ios-bio.is v.at v.settled c.settle_bio.ensures.settled;
+      settled = bio-more c.args.how.mode c.args.how.ty ios c.args.kept.now.starts.items c.loop-bio.kept.starts.items bios c.args.fates.now c.loop-bio.at i no_bio c.index-ios-bio.result _ _ _ v.starts c.loop-bio-test.true l c.index-ios-bio.is v.at v.settled c.settle_bio.ensures.settled;
     }

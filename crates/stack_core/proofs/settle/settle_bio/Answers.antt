@@ -1,4 +1,4 @@
-use Rattle.run_follows.proofs.Wholes.{whole_stays}
+use Rattle.stack_walk_laws.proofs.Wholes.{whole_stays}
 use Rattle.stack_core.proofs.settle.settle_bio.Goals as goal
 
 pub settle_one-requires-clause-whole : goal.settle_one-requires-clause-whole

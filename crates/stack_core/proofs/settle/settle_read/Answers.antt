@@ -1,4 +1,4 @@
-use Rattle.run_follows.proofs.Wholes.{whole_stays}
+use Rattle.stack_walk_laws.proofs.Wholes.{whole_stays}
 use Rattle.stack_core.proofs.settle.settle_read.Goals as goal
 
 pub blank_unless_good-requires-clause-whole : goal.blank_unless_good-requires-clause-whole

@@ -1,5 +1,5 @@
 use Rattle.std.proofs.Common.{◌≡◌, max, arith}
-use Rattle.run_follows.proofs.Laid.{ios-more, own-blocks}
+use Rattle.stack_walk_laws.proofs.Laid.{ios-more, own-blocks}
 use Rattle.stack_core.proofs.sheet.count_devices.Goals as goal
 
 pub loop-io-preserved : goal.loop-io-preserved

@@ -1,6 +1,6 @@
 use Rattle.std.proofs.Common.{ℕ, ◌+◌, ◌<◌, ◌≤◌}
 use Rattle.volume_table.specs.Places.{place_in, volume_len}
-use Rattle.run_follows.specs.Sheets.{io_at}
+use Rattle.stack_walk_laws.specs.Sheets.{io_at}
 use Rattle.stack_core.proofs.sheet.count_devices.Given as goal
 
 abbrev pub invariant-loop-io : goal.invariant-loop-io

@@ -1,6 +1,6 @@
 use Rattle.std.proofs.Common.{◌≡◌, ◌+◌, max, ap, arith}
 use Rattle.volume_table.specs.Places.{place_in}
-use Rattle.run_follows.proofs.Laid.{devices-more}
+use Rattle.stack_walk_laws.proofs.Laid.{devices-more}
 use Rattle.stack_core.proofs.sheet.devices_of.Goals as goal
 
 pub loop-k-preserved : goal.loop-k-preserved

@@ -3,7 +3,7 @@ use Rattle.std.proofs.lemmas.Bool.{cases_lt}
 use Rattle.std.proofs.lemmas.List.{get_or_read}
 use Rattle.bio_core.specs.declared.request.Io.{Io}
 use Rattle.bio_core.specs.Bios.{block_size}
-use Rattle.run_follows.specs.Sheets.{io_at, no_io}
+use Rattle.stack_walk_laws.specs.Sheets.{io_at, no_io}
 use Rattle.stack_core.proofs.sheet.largest_block.Goals as goal
 
 pub loop-io-preserved : goal.loop-io-preserved

@@ -1,6 +1,6 @@
 use Rattle.std.proofs.Common.{ℕ, ◌<◌, ◌≤◌}
 use Rattle.bio_core.specs.Bios.{block_size}
-use Rattle.run_follows.specs.Sheets.{io_at}
+use Rattle.stack_walk_laws.specs.Sheets.{io_at}
 use Rattle.stack_core.proofs.sheet.largest_block.Given as goal
 
 abbrev pub invariant-loop-io : goal.invariant-loop-io

@@ -2,8 +2,8 @@ use Rattle.std.proofs.Common.{◌≡◌, ◌∙◌, get_or, false, arith}
 use Rattle.std.proofs.lemmas.List.{get_or_read, take_all}
 use Rattle.stack_ops.specs.declared.op.Op.TheVariants.{Wait}
 use Rattle.stack_ops.specs.Footprints.{footprint}
-use Rattle.run_follows.specs.Sheets.{prints_of}
-use Rattle.run_follows.proofs.Gates.{length-prints}
+use Rattle.stack_walk_laws.specs.Sheets.{prints_of}
+use Rattle.stack_walk_laws.proofs.Gates.{length-prints}
 use Rattle.stack_core.proofs.Listing.{prints-more}
 use Rattle.stack_core.proofs.start.footprints.Goals as goal
 

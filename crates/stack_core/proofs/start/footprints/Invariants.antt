@@ -1,6 +1,6 @@
 use Rattle.std.proofs.Common.{◌≡◌, ◌≤◌, length, take}
 use Rattle.std.specs.Vec.{vec_capacity}
-use Rattle.run_follows.specs.Sheets.{prints_of}
+use Rattle.stack_walk_laws.specs.Sheets.{prints_of}
 use Rattle.stack_core.proofs.start.footprints.Given as goal
 
 abbrev pub invariant-loop-i : goal.invariant-loop-i

@@ -1,5 +1,5 @@
 use Rattle.std.proofs.Common.{length, ap, arith}
-use Rattle.run_follows.proofs.Gates.{length-prints}
+use Rattle.stack_walk_laws.proofs.Gates.{length-prints}
 use Rattle.stack_core.proofs.start.gate_for.Goals as goal
 
 pub new-requires : goal.new-requires

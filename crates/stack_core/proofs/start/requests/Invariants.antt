@@ -1,6 +1,6 @@
 use Rattle.std.proofs.Common.{◌≡◌, ◌+◌, ◌*◌, ◌≤◌, ◌++◌, drop, length}
 use Rattle.std.specs.Vec.{vec_capacity}
-use Rattle.run_follows.specs.Requests.{pages_from, requests_from}
+use Rattle.stack_walk_laws.specs.Requests.{pages_from, requests_from}
 use Rattle.stack_core.proofs.start.requests.Given as goal
 
 abbrev pub invariant-loop-op : goal.invariant-loop-op

@@ -4,7 +4,7 @@ use Rattle.stack_core.specs.Replies.{HoldsBad}
 use Rattle.stack_core.specs.Rooms.{Suits, blocks_in}
 use Rattle.stack_core.specs.Stacks.{room_at}
 use Rattle.stack_core.proofs.start.rooms_of.Given as goal
-use Rattle.run_follows.specs.Sheets.{op_in}
+use Rattle.stack_walk_laws.specs.Sheets.{op_in}
 
 abbrev pub invariant-loop-op : goal.invariant-loop-op
 invariant-loop-op l = record {

@@ -1,6 +1,6 @@
 use Rattle.std.proofs.Common.{◌≡◌, ap, ◌∙◌, sym, length, arith}
-use Rattle.run_follows.specs.Requests.{pages_from, requests_from}
-use Rattle.run_follows.specs.Shifts.{shifted_by}
+use Rattle.stack_walk_laws.specs.Requests.{pages_from, requests_from}
+use Rattle.stack_walk_laws.specs.Shifts.{shifted_by}
 use Rattle.stack_core.proofs.Opening.{have-numbers, inside-each, own-few, sheet-is}
 use Rattle.stack_core.proofs.Queues.{has-queues}
 use Rattle.stack_core.proofs.start.sheet_for.Goals as goal

@@ -5,7 +5,7 @@ use Rattle.fault_schedule.specs.declared.fault.FaultLine.{FaultLine}
 use Rattle.merge_queue.specs.Groups.{numbers}
 use Rattle.merge_queue.proofs.Linking.{length-numbers}
 use Rattle.stack_steps.proofs.Picks.{get-numbers}
-use Rattle.run_follows.specs.Shifts.{shifted_by, shifts}
+use Rattle.stack_walk_laws.specs.Shifts.{shifted_by, shifts}
 use Rattle.stack_core.proofs.start.shifted_ops.Goals as goal
 
 -- marks that are right one by one are right

@@ -1,6 +1,6 @@
 use Rattle.std.proofs.Common.{◌≡◌, ◌+◌, ◌<◌, ℕ, false, length, get_or, take}
 use Rattle.std.specs.List.{list_any}
-use Rattle.run_follows.specs.Shifts.{shifts}
+use Rattle.stack_walk_laws.specs.Shifts.{shifts}
 use Rattle.stack_core.proofs.start.shifted_ops.Given as goal
 
 abbrev pub invariant-loop-line : goal.invariant-loop-line

@@ -3,7 +3,7 @@ use Rattle.std.specs.Prelude.{if◌then◌else◌}
 use Rattle.std.proofs.lemmas.Bool.{eq-eqb}
 use Rattle.std.proofs.lemmas.List.{get_or_default, set-set}
 use Rattle.range_gate.specs.declared.phase.Phase.TheVariants.{Admitted, Ended}
-use Rattle.stack_view.specs.Plan.{request_at}
+use Rattle.stack_laws.specs.Plan.{request_at}
 use Rattle.stack_steps.proofs.moves.enter_op.Goals as goal
 
 pub returns-then-io-eq0-clause-phases : goal.returns-then-io-eq0-clause-phases

@@ -1,5 +1,5 @@
 use Rattle.std.proofs.Common.{◌≡◌, ◌≤◌}
-use Rattle.stack_view.specs.Pieces.{fits, longest, greatest, greatest_piece}
+use Rattle.stack_laws.specs.Pieces.{fits, longest, greatest, greatest_piece}
 use Rattle.stack_steps.proofs.piece.greatest_of.Given as goal
 
 abbrev pub invariant-loop-n : goal.invariant-loop-n

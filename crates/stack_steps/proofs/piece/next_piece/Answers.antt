@@ -1,5 +1,5 @@
 use Rattle.std.proofs.Common.{arith}
-use Rattle.stack_view.proofs.Keeps.{piece-some, piece-within, cut-some, cut-within}
+use Rattle.stack_laws.proofs.Keeps.{piece-some, piece-within, cut-some, cut-within}
 use Rattle.stack_steps.proofs.piece.next_piece.Goals as goal
 
 pub cut_down-n-requires : goal.cut_down-n-requires

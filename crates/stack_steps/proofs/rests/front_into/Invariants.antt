@@ -1,6 +1,6 @@
 use Rattle.std.proofs.Common.{◌≡◌, ◌≤◌, ◌+◌, ◌++◌, length, drop}
 use Rattle.std.specs.Vec.{vec_capacity}
-use Rattle.stack_view.specs.Rests.{front}
+use Rattle.stack_laws.specs.Rests.{front}
 use Rattle.stack_steps.proofs.rests.front_into.Given as goal
 
 abbrev pub invariant-loop-b : goal.invariant-loop-b

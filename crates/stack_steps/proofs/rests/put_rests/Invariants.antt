@@ -2,7 +2,7 @@ use Rattle.std.proofs.Common.{◌≡◌, ◌≤◌, ◌-◌, length}
 use Rattle.std.specs.List.{All}
 use Rattle.std.specs.Vec.{vec_capacity}
 use Rattle.merge_queue.specs.Groups.{put_all}
-use Rattle.stack_view.specs.Rests.{rests}
+use Rattle.stack_laws.specs.Rests.{rests}
 use Rattle.stack_steps.specs.Parts.{Ends, rests_from}
 use Rattle.stack_steps.proofs.rests.put_rests.Given as goal
 

@@ -1,6 +1,6 @@
 use Rattle.std.proofs.Common.{◌≡◌, drop}
 use Rattle.std.specs.Vec.{vec_capacity}
-use Rattle.stack_view.specs.Rests.{behind}
+use Rattle.stack_laws.specs.Rests.{behind}
 use Rattle.stack_steps.proofs.rests.rest_into.Given as goal
 
 abbrev pub invariant-loop-i : goal.invariant-loop-i

@@ -1,5 +1,5 @@
 use Rattle.std.proofs.Common.{◌≡◌, take}
-use Rattle.stack_view.specs.Runs.{blocks_of_requests}
+use Rattle.stack_laws.specs.Runs.{blocks_of_requests}
 use Rattle.stack_steps.proofs.start.count_blocks.Given as goal
 
 abbrev pub invariant-loop-i : goal.invariant-loop-i

@@ -1,6 +1,6 @@
 use Rattle.std.proofs.Common.{arith, ap, sym, ◌∙◌, ◌++◌, ◌∷◌, [], length, take, map}
 use Rattle.std.proofs.lemmas.List.{length-append}
-use Rattle.stack_view.specs.View.{waiting}
+use Rattle.stack_laws.specs.View.{waiting}
 use Rattle.stack_steps.specs.declared.state.OpState.{OpState}
 use Rattle.stack_steps.specs.State.{state_of}
 use Rattle.stack_steps.proofs.Begin.{states-more}

@@ -1,6 +1,6 @@
 use Rattle.std.proofs.Common.{◌≡◌, ◌≤◌, take, map, length}
 use Rattle.std.specs.Vec.{vec_capacity}
-use Rattle.stack_view.specs.View.{waiting}
+use Rattle.stack_laws.specs.View.{waiting}
 use Rattle.stack_steps.specs.State.{state_of}
 use Rattle.stack_steps.proofs.start.new_ops.Given as goal
 

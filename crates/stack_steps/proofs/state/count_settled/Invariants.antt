@@ -1,5 +1,5 @@
 use Rattle.std.proofs.Common.{◌≡◌, ◌≤◌, take, drop}
-use Rattle.stack_view.specs.Blocks.{settled_count}
+use Rattle.stack_laws.specs.Blocks.{settled_count}
 use Rattle.stack_steps.proofs.state.count_settled.Given as goal
 
 abbrev pub invariant-loop-k : goal.invariant-loop-k

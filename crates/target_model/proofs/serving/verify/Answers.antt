@@ -9,9 +9,9 @@ verify_blocks-requires g c = record { can = can_move c.args.unit.now c.shape-sha
 
 pub returns-in-Err-clause-told : goal.returns-in-Err-clause-told
 returns-in-Err-clause-told g c =
-    λ bytes e.
+    λ out into bytes e.
     let len = told_length _ _ bytes e (g.met.S.Store.told c.args.store.now) in
-    refused_by c.args.unit.now c.shape-shape.result bytes c.args.cdb (Verify c.args.c) c.args.tamper.now c.args.labels.now c.args.out.now (length c.args.into.now) c.in-Err.asc _ _ c.refused.result c.args.into.now
+    refused_by c.args.unit.now c.shape-shape.result bytes c.args.asked.now.cdb (Verify c.args.c) c.args.asked.now.tamper.now c.args.asked.now.labels.now out (length into) c.in-Err.asc _ _ c.refused.result into
     c.shape-shape.ensures (omega (arith, len, c.requires.unit.held)) e c.refused.ensures c.in-Err.ensures.refused
 
 pub returns-in-Err-clause-medium : goal.returns-in-Err-clause-medium
@@ -22,8 +22,8 @@ returns-in-Err-clause-key g c = keyed c.in-Err.asc c.refused.result c.refused.en
 
 pub returns-in-Ok-clause-told : goal.returns-in-Ok-clause-told
 returns-in-Ok-clause-told g c =
-    λ bytes e.
+    λ out into bytes e.
     let len = told_length _ _ bytes e (g.met.S.Store.told c.args.store.now) in
     let r = c.verify_blocks.ensures.told bytes e in
-    verified_as c.args.unit.now c.shape-shape.result c.args.cdb c.args.c c.place_of.result _ _ (length c.args.into.now) c.args.tamper.now c.args.labels.now c.args.out.now bytes c.args.into.now r.0 _ c.verify_blocks.result
+    verified_as c.args.unit.now c.shape-shape.result c.args.asked.now.cdb c.args.c c.place_of.result _ _ (length into) c.args.asked.now.tamper.now c.args.asked.now.labels.now out bytes into r.0 _ c.verify_blocks.result
     c.shape-shape.ensures (omega (arith, len, c.requires.unit.held)) (c.verify_blocks.ensures.stays.same ∙ e) c.in-Ok.ensures.taken c.in-Ok.ensures.inside c.place_of.ensures r.1

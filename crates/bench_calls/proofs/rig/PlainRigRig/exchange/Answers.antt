@@ -3,7 +3,7 @@ use Rattle.target_answer.specs.Requests.{blocks_of}
 use Rattle.rig_api.specs.Telling.{greatest_size, spec_at}
 use Rattle.rig_api.proofs.RoomLaws.{room_for}
 use Rattle.image_rig.specs.Logs.{room_in}
-use Rattle.test_answers.specs.Answering.{device_count, device_is, greatest_is, standing_of}
+use Rattle.test_rig.specs.Answering.{device_count, device_is, greatest_is, standing_of}
 use Rattle.bench_calls.proofs.rig.PlainRigRig.exchange.Goals as goal
 
 pub note-requires-clause-room : goal.note-requires-clause-room

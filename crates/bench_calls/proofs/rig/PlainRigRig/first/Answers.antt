@@ -1,5 +1,5 @@
 use Rattle.std.proofs.Common.{sym}
-use Rattle.test_answers.specs.Answering.{device_is}
+use Rattle.test_rig.specs.Answering.{device_is}
 use Rattle.bench_calls.proofs.rig.PlainRigRig.first.Goals as goal
 
 pub returns : goal.returns

@@ -1,7 +1,7 @@
 use Rattle.rig_api.specs.Telling.{greatest_size}
 use Rattle.rig_api.proofs.RoomLaws.{room_for}
 use Rattle.image_rig.specs.Logs.{room_in}
-use Rattle.test_answers.specs.Answering.{greatest_most, standing_of}
+use Rattle.test_rig.specs.Answering.{greatest_most, standing_of}
 use Rattle.bench_calls.proofs.rig.PlainRigRig.reserve.Goals as goal
 
 pub returns-clause-room : goal.returns-clause-room

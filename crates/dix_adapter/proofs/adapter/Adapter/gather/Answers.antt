@@ -1,29 +1,26 @@
-use Rattle.std.proofs.Common.{◌≡◌, ◌+◌, ◌*◌, length, map, get_or, take, refl, sym, ap, ◌∙◌, ◌-◌, arith, length-append}
-use Rattle.std.proofs.lemmas.List.{get_or_default, length-map}
-use Rattle.std.proofs.lemmas.List.Elements.{All-get_or}
+use Rattle.std.proofs.Common.{◌≡◌, ◌+◌, ◌*◌, length, map, get_or, take, refl, sym, ap, ◌∙◌, arith, length-append}
+use Rattle.std.proofs.lemmas.List.{length-map}
 use Rattle.page_pool.specs.Cells.{flat}
 use Rattle.bio_core.specs.Bios.{block_size}
 use Rattle.block_path.specs.Routes.{wire_size}
-use Rattle.dix_adapter.specs.Groups.{IsBio, first_of, no_bio, no_request, request_of, route_by, size, block_len}
+use Rattle.dix_adapter.specs.Groups.{block_len, first_of, no_bio, route_by, size}
 use Rattle.dix_adapter.specs.Carried.{sends_first, unsent}
 use Rattle.dix_adapter.proofs.Blocks.{size-front, size-more}
 use Rattle.dix_adapter.proofs.Gathering.{wire-most}
 use Rattle.dix_adapter.proofs.Grouping.{first-long, gathered-more, room-left, times-most}
-use Rattle.dix_adapter.proofs.Landing.{group-bytes}
+use Rattle.dix_adapter.proofs.Landing.{bio-at, group-bytes, request-at, size-at}
 use Rattle.dix_adapter.proofs.OnTheWay.{can-go}
 use Rattle.dix_adapter.proofs.adapter.Adapter.gather.Goals as goal
 
 pub gather_bio-at-requires-clause-can : goal.gather_bio-at-requires-clause-can
 gather_bio-at-requires-clause-can c =
-    let k = (All-get_or (IsBio c.args.self.now c.args.pool.now c.requires.group.0 c.args.ios.now (first_of c.args.req.now).dev (first_of c.args.req.now).dir) c.args.req.now c.loop-bio.bio-index no_bio (omega arith) c.requires.group.1.bios) in
-    let q : c.index-ios-bio.result ≡ request_of c.args.ios.now (get_or c.args.req.now c.loop-bio.bio-index no_bio).op = c.index-ios-bio.is ∙ get_or_default c.args.ios.now ((get_or c.args.req.now c.loop-bio.bio-index no_bio).op - 1) c.index-ios-bio.result no_request (let x = k.op in let y = k.there in omega arith) in
-    can-go c.args.self.now c.args.pool.now c.args.pool.now c.requires.group.0 c.args.ios.now (first_of c.args.req.now).dev (first_of c.args.req.now).dir c.index-ios-bio.result (get_or c.args.req.now c.loop-bio.bio-index no_bio) k q refl
+    let k = bio-at c.args.self.now c.args.pool.now c.requires.group.0 c.args.ios.now c.args.req.now c.loop-bio.bio-index c.requires.group.1 (omega arith) in
+    let q = request-at c.args.self.now c.args.pool.now c.requires.group.0 c.args.ios.now c.args.req.now c.loop-bio.bio-index c.index-ios-bio.result c.requires.group.1 (omega arith) c.index-ios-bio.is in
+    can-go c.args.self.now c.args.pool.now c.args.pool.now c.requires.group.0 c.args.ios.now (first_of c.args.req.now).dev (first_of c.args.req.now).dir c.index-ios-bio.result (get_or c.args.req.now c.loop-bio.bio-index no_bio) k q refl c.requires.whole
 
 pub gather_bio-at-requires-clause-room : goal.gather_bio-at-requires-clause-room
 gather_bio-at-requires-clause-room c =
-    let k = (All-get_or (IsBio c.args.self.now c.args.pool.now c.requires.group.0 c.args.ios.now (first_of c.args.req.now).dev (first_of c.args.req.now).dir) c.args.req.now c.loop-bio.bio-index no_bio (omega arith) c.requires.group.1.bios) in
-    let q : c.index-ios-bio.result ≡ request_of c.args.ios.now (get_or c.args.req.now c.loop-bio.bio-index no_bio).op = c.index-ios-bio.is ∙ get_or_default c.args.ios.now ((get_or c.args.req.now c.loop-bio.bio-index no_bio).op - 1) c.index-ios-bio.result no_request (let x = k.op in let y = k.there in omega arith) in
-    let s : block_size c.index-ios-bio.result ≡ c.requires.group.0 = ap block_size q ∙ k.request.size in
+    let s : block_size c.index-ios-bio.result ≡ c.requires.group.0 = size-at c.args.self.now c.args.pool.now c.requires.group.0 c.args.ios.now c.args.req.now c.loop-bio.bio-index c.index-ios-bio.result c.requires.group.1 (omega arith) c.index-ios-bio.is in
     let m = size-more c.args.req.now c.loop-bio.bio-index no_bio (omega arith) in
     let f = size-front c.args.req.now (c.loop-bio.bio-index + 1) in
     let e : block_size c.index-ios-bio.result + 8 ≡ block_len c.args.ios.now c.args.req.now + 8 =
@@ -41,8 +38,7 @@ gather_bio-at-requires-clause-fates c =
 
 pub loop-bio-preserved : goal.loop-bio-preserved
 loop-bio-preserved c =
-    let k = (All-get_or (IsBio c.args.self.now c.args.pool.now c.requires.group.0 c.args.ios.now (first_of c.args.req.now).dev (first_of c.args.req.now).dir) c.args.req.now c.loop-bio.bio-index no_bio (omega arith) c.requires.group.1.bios) in
-    let q : c.index-ios-bio.result ≡ request_of c.args.ios.now (get_or c.args.req.now c.loop-bio.bio-index no_bio).op = c.index-ios-bio.is ∙ get_or_default c.args.ios.now ((get_or c.args.req.now c.loop-bio.bio-index no_bio).op - 1) c.index-ios-bio.result no_request (let x = k.op in let y = k.there in omega arith) in
+    let q = request-at c.args.self.now c.args.pool.now c.requires.group.0 c.args.ios.now c.args.req.now c.loop-bio.bio-index c.index-ios-bio.result c.requires.group.1 (omega arith) c.index-ios-bio.is in
     let b = get_or c.args.req.now c.loop-bio.bio-index no_bio in
     let m = size-more c.args.req.now c.loop-bio.bio-index no_bio (omega arith) in
     let l = ap length c.gather_bio-at.ensures.fates in
@@ -54,7 +50,7 @@ loop-bio-preserved c =
           (omega arith) refl q c.loop-bio.invariant.gathered c.gather_bio-at.ensures.frames c.gather_bio-at.ensures.end c.gather_bio-at.ensures.fates;
       number = omega (arith, m, l, a, n, o, c.loop-bio.invariant.number);
       capacity = c.gather_bio-at.ensures.capacity ∙ c.loop-bio.invariant.capacity;
-      place = (let s : block_size c.index-ios-bio.result ≡ c.requires.group.0 = ap block_size q ∙ k.request.size in
+      place = (let s : block_size c.index-ios-bio.result ≡ c.requires.group.0 = size-at c.args.self.now c.args.pool.now c.requires.group.0 c.args.ios.now c.args.req.now c.loop-bio.bio-index c.index-ios-bio.result c.requires.group.1 (omega arith) c.index-ios-bio.is in
           let w = wire-most c.args.self.now c.index-ios-bio.result b in
           let y = group-bytes c.args.self.now c.args.pool.now c.requires.group.0 c.args.ios.now c.args.req.now c.requires.group.1 in
           let t = times-most b.count (wire_size (route_by c.args.self.now c.index-ios-bio.result b 0)) (block_len c.args.ios.now c.args.req.now + 8) (omega (arith, w, s, y)) in

@@ -3,7 +3,7 @@ use Rattle.std.specs.Prelude.{◌/◌}
 use Rattle.volume_table.specs.Places.{volume_len}
 use Rattle.volume_table.specs.Tables.{Table}
 use Rattle.script_stack.specs.Causes.{table_of}
-use Rattle.mirror_walk.specs.Mirror.{fresh}
+use Rattle.mirror_laws.specs.Mirror.{fresh}
 use Rattle.mirror_volume.specs.Standing.{half_of}
 use Rattle.mirror_volume.proofs.Starts.{stands-first}
 use Rattle.mirror_volume.proofs.mirror.Mirror.new.Goals as goal

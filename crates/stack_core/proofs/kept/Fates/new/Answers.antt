@@ -1,7 +1,7 @@
 use Rattle.std.proofs.Common.{◌+◌, length, ap, arith}
 use Rattle.std.proofs.lemmas.List.{get_or_read, length_push}
-use Rattle.run_follows.specs.Sheets.{no_io}
-use Rattle.run_follows.proofs.Counts.{begin-more, blocks-more, blocks-within, within-more}
+use Rattle.stack_walk_laws.specs.Sheets.{no_io}
+use Rattle.stack_walk_laws.proofs.Counts.{begin-more, blocks-more, blocks-within, within-more}
 use Rattle.stack_core.proofs.kept.Fates.new.Goals as goal
 
 pub overflow_add-blocks : goal.overflow_add-blocks

@@ -1,8 +1,8 @@
 use Rattle.std.proofs.Common.{◌≡◌, ℕ, ◌+◌, ◌<◌, ◌≤◌, get_or, length, map, take}
 use Rattle.std.specs.Vec.{vec_capacity}
-use Rattle.stack_view.specs.Runs.{blocks_of_requests}
-use Rattle.run_follows.specs.Sheets.{io_at, request_in}
-use Rattle.run_follows.specs.Settling.{blocks_before}
+use Rattle.stack_laws.specs.Runs.{blocks_of_requests}
+use Rattle.stack_walk_laws.specs.Sheets.{io_at, request_in}
+use Rattle.stack_walk_laws.specs.Settling.{blocks_before}
 use Rattle.stack_core.proofs.kept.Fates.new.Given as goal
 
 abbrev pub invariant-loop-io : goal.invariant-loop-io

@@ -1,4 +1,4 @@
-use Rattle.run_follows.proofs.Laid.{inside-at}
+use Rattle.stack_walk_laws.proofs.Laid.{inside-at}
 use Rattle.stack_core.proofs.sheet.SheetRequests.site.Goals as goal
 
 pub place-dev-requires : goal.place-dev-requires

@@ -3,9 +3,9 @@ use Rattle.std.proofs.lemmas.Bool.{false≢true}
 use Rattle.std.proofs.lemmas.List.{length-set}
 use Rattle.stack_steps.specs.declared.choice.Choice.TheVariants.{Admit}
 use Rattle.stack_core.specs.Stacks.{plan_in}
-use Rattle.answered_record.proofs.Going.{answers_nothing, puts_nothing}
+use Rattle.record_laws.proofs.Going.{answers_nothing, puts_nothing}
 use Rattle.stack_core.proofs.Answering.{op_leaves}
-use Rattle.run_follows.proofs.Facts.{op-enters}
+use Rattle.stack_walk_laws.proofs.Facts.{op-enters}
 use Rattle.stack_core.proofs.Keeps.{is-stack}
 use Rattle.stack_core.proofs.Rooms.{taken}
 use Rattle.stack_core.proofs.Steps.{works}
@@ -14,7 +14,7 @@ use Rattle.stack_core.specs.declared.kept.Room.TheVariants.{Nothing}
 use Rattle.stack_core.specs.Done.{OpDone, WriteMade}
 use Rattle.stack_core.specs.Stacks.{room_at}
 use Rattle.stack_ops.specs.declared.reply.Reply.TheVariants.{Silent}
-use Rattle.run_follows.specs.Sheets.{io_at, op_in}
+use Rattle.stack_walk_laws.specs.Sheets.{io_at, op_in}
 use Rattle.stack_ops.specs.declared.op.Op.TheVariants.{Wait}
 use Rattle.stack_core.specs.Walking.{IsKnown, LeavesOwn, NoneFailed, data_of, units_left, is_medium}
 use Rattle.stack_core.proofs.Failed.{is_overwrite_done, known_calm, known_done, quiet_by}

@@ -2,7 +2,7 @@ use Rattle.std.proofs.Common.{refl}
 use Rattle.stack_steps.specs.declared.choice.Choice.TheVariants.{Complete}
 use Rattle.dix_adapter.specs.Groups.{mode_of}
 use Rattle.stack_core.specs.Stacks.{plan_in}
-use Rattle.run_follows.proofs.Facts.{completed}
+use Rattle.stack_walk_laws.proofs.Facts.{completed}
 use Rattle.stack_core.proofs.Keeps.{is-stack}
 use Rattle.stack_core.proofs.KeptComplete.{traces_complete}
 use Rattle.stack_core.proofs.Steps.{works}

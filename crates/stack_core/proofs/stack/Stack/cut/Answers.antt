@@ -1,7 +1,7 @@
 use Rattle.std.proofs.Common.{◌-◌, refl, subst, arith}
 use Rattle.stack_steps.specs.declared.choice.Choice.TheVariants.{Cut}
 use Rattle.stack_core.specs.Stacks.{plan_in}
-use Rattle.run_follows.proofs.Facts.{piece-is}
+use Rattle.stack_walk_laws.proofs.Facts.{piece-is}
 use Rattle.stack_core.proofs.Keeps.{is-stack}
 use Rattle.stack_core.proofs.Steps.{works}
 use Rattle.bio_core.specs.declared.request.Io.{Io}

@@ -6,11 +6,14 @@ use Rattle.stack_core.proofs.Steps.{works}
 use Rattle.stack_core.proofs.Walked.{walk_joins}
 use Rattle.stack_core.proofs.stack.Stack.join.Goals as goal
 
+pub join-requires : goal.join-requires
+join-requires c = (plan_in c.args.self.now.sheet, (c.args.self.now.sheet.right.fine, c.requires.ready))
+
 pub returns-clause-stack : goal.returns-clause-stack
 returns-clause-stack c = is-stack c.args.self.now _ c.requires.stack (record {
   sheet = refl;
   adapter = refl;
-  works = works (plan_in c.args.self.now.sheet) c.args.self.now.machine c.join.new.self (Join c.args.d c.args.i c.args.j) 0 c.requires.ready (c.join.ensures 0);
+  works = works (plan_in c.args.self.now.sheet) c.args.self.now.machine c.join.new.self (Join c.args.d c.args.i c.args.j) 0 c.requires.ready (c.join.ensures (plan_in c.args.self.now.sheet) 0 c.args.self.now.sheet.right.fine);
   pages = refl;
   rooms = c.requires.stack.rooms;
   kept = c.requires.stack.kept;
@@ -24,7 +27,7 @@ pub returns-clause-stays : goal.returns-clause-stays
 returns-clause-stays c = record { sheet = refl; adapter = refl; host = refl }
 
 pub returns-clause-walks : goal.returns-clause-walks
-returns-clause-walks c = λ ch course over n opening es left o w. walk_joins over n opening es left c.args.self.now c.requires.stack o w _ c.args.d c.args.i c.args.j (record { sheet = refl; adapter = refl; host = refl }) ch (c.join.ensures 0) refl
+returns-clause-walks c = λ ch course over n opening es left o w. walk_joins over n opening es left c.args.self.now c.requires.stack o w _ c.args.d c.args.i c.args.j (record { sheet = refl; adapter = refl; host = refl }) ch (c.join.ensures (plan_in c.args.self.now.sheet) 0 c.args.self.now.sheet.right.fine) refl
 
 pub returns-clause-settles : goal.returns-clause-settles
 returns-clause-settles c = record { kept = refl; replies = refl }

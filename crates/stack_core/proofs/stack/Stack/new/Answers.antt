@@ -6,12 +6,12 @@ use Rattle.stack_ops.specs.declared.reply.Reply.TheVariants.{Silent}
 use Rattle.range_gate.specs.declared.phase.Phase.TheVariants.{Waiting}
 use Rattle.merge_queue.specs.Groups.{numbers}
 use Rattle.merge_queue.proofs.Linking.{length-numbers}
-use Rattle.stack_view.specs.Runs.{blocks_of_requests}
-use Rattle.stack_view.specs.View.{start}
-use Rattle.run_follows.specs.Sheets.{prints_of, request_in}
-use Rattle.run_follows.specs.Shifts.{shifts}
-use Rattle.run_follows.proofs.Gates.{gate-is, length-prints}
-use Rattle.run_follows.proofs.WalksBegin.{length-requests}
+use Rattle.stack_laws.specs.Runs.{blocks_of_requests}
+use Rattle.stack_laws.specs.View.{start}
+use Rattle.stack_walk_laws.specs.Sheets.{prints_of, request_in}
+use Rattle.stack_walk_laws.specs.Shifts.{shifts}
+use Rattle.stack_walk_laws.proofs.Gates.{gate-is, length-prints}
+use Rattle.stack_walk_laws.proofs.WalksBegin.{length-requests}
 use Rattle.stack_core.specs.Stacks.{plan_in}
 use Rattle.stack_core.proofs.FirstStack.{first-stack}
 use Rattle.stack_core.proofs.NewStacks.{follows-at-first}

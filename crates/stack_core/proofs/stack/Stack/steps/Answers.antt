@@ -1,6 +1,6 @@
 use Rattle.std.proofs.Common.{arith}
 use Rattle.std.proofs.lemmas.List.{length-map}
-use Rattle.run_follows.specs.Sheets.{request_in}
+use Rattle.stack_walk_laws.specs.Sheets.{request_in}
 use Rattle.stack_core.proofs.stack.Stack.steps.Goals as goal
 
 pub returns-clause-most : goal.returns-clause-most

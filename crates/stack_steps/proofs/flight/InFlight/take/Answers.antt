@@ -1,6 +1,6 @@
 -- A command that is taken out of those in flight.
 use Rattle.std.proofs.Common.{arith, ap, ◌∙◌, ◌++◌, sym}
-use Rattle.stack_view.specs.View.{Command}
+use Rattle.stack_laws.specs.View.{Command}
 use Rattle.stack_steps.proofs.Flights.{sizes, stands, take-flight}
 use Rattle.stack_steps.proofs.flight.InFlight.take.Goals as goal
 

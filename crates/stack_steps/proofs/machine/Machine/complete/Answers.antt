@@ -2,12 +2,15 @@
 use Rattle.std.proofs.Common.{◌≡◌, ℕ, List, [], ◌++◌, length, arith, refl, ap, sym, ◌∙◌, get_or}
 use Rattle.bio_core.specs.declared.bio.Bio.{Bio}
 use Rattle.bio_core.specs.declared.fate.Fate.{Fate}
-use Rattle.stack_view.specs.Plan.{Plan}
-use Rattle.stack_view.specs.View.{Command, no_command}
+use Rattle.stack_laws.specs.Plan.{Plan}
+use Rattle.stack_laws.specs.View.{Command, no_command}
 use Rattle.stack_steps.specs.declared.choice.Choice.TheVariants.{Complete}
 use Rattle.stack_steps.specs.declared.machine.Machine.{Machine}
 use Rattle.stack_steps.specs.Does.{Ready}
 use Rattle.stack_steps.specs.Fine.{Fine}
+use Rattle.merge_queue.specs.Groups.{put_all}
+use Rattle.stack_laws.specs.Rests.{rests}
+use Rattle.stack_steps.proofs.Moved.{queue-got, queue-set, room-set}
 use Rattle.stack_steps.proofs.Keep.{Completion, completion-at, complete-whole, in-flight}
 use Rattle.stack_steps.proofs.machine.Machine.complete.Goals as goal
 
@@ -34,23 +37,25 @@ settle-requires-clause-each g c = (settled-at _ _ _ _ _ _ (g.met.P.Requests.fine
 pub settle-requires-clause-there : goal.settle-requires-clause-there
 settle-requires-clause-there g c = (settled-at _ _ _ _ _ _ (g.met.P.Requests.fine c.args.plan.now) c.requires.ready c.take-d.ensures.dev (landed _ _ _ _ c.deref.ensures.value c.take-d.ensures.bios c.clear.ensures.items) (landed _ _ _ _ c.deref-2.ensures.value c.take-d.ensures.fates c.clear-2.ensures.items)).inside
 
-pub put_back-requires-clause-there : goal.put_back-requires-clause-there
-put_back-requires-clause-there g c = (settled-at _ _ _ _ _ _ (g.met.P.Requests.fine c.args.plan.now) c.requires.ready c.take-d.ensures.dev (landed _ _ _ _ c.deref-3.ensures.value c.take-d.ensures.bios c.clear.ensures.items) (landed _ _ _ _ c.deref-4.ensures.value c.take-d.ensures.fates c.clear-2.ensures.items)).device
+pub index_mut-requires : goal.index_mut-requires
+index_mut-requires g c = let k = settled-at _ _ _ _ _ _ (g.met.P.Requests.fine c.args.plan.now) c.requires.ready c.take-d.ensures.dev (landed _ _ _ _ c.deref-3.ensures.value c.take-d.ensures.bios c.clear.ensures.items) (landed _ _ _ _ c.deref-4.ensures.value c.take-d.ensures.fates c.clear-2.ensures.items) in omega (arith, k.device)
 
-pub put_back-requires-clause-few : goal.put_back-requires-clause-few
-put_back-requires-clause-few g c = (settled-at _ _ _ _ _ _ (g.met.P.Requests.fine c.args.plan.now) c.requires.ready c.take-d.ensures.dev (landed _ _ _ _ c.deref-3.ensures.value c.take-d.ensures.bios c.clear.ensures.items) (landed _ _ _ _ c.deref-4.ensures.value c.take-d.ensures.fates c.clear-2.ensures.items)).few
+pub put_rests-requires-clause-few : goal.put_rests-requires-clause-few
+put_rests-requires-clause-few g c = (settled-at _ _ _ _ _ _ (g.met.P.Requests.fine c.args.plan.now) c.requires.ready c.take-d.ensures.dev (landed _ _ _ _ c.deref-3.ensures.value c.take-d.ensures.bios c.clear.ensures.items) (landed _ _ _ _ c.deref-4.ensures.value c.take-d.ensures.fates c.clear-2.ensures.items)).few
 
-pub put_back-requires-clause-divide : goal.put_back-requires-clause-divide
-put_back-requires-clause-divide g c = (settled-at _ _ _ _ _ _ (g.met.P.Requests.fine c.args.plan.now) c.requires.ready c.take-d.ensures.dev (landed _ _ _ _ c.deref-3.ensures.value c.take-d.ensures.bios c.clear.ensures.items) (landed _ _ _ _ c.deref-4.ensures.value c.take-d.ensures.fates c.clear-2.ensures.items)).divide
+pub put_rests-requires-clause-divide : goal.put_rests-requires-clause-divide
+put_rests-requires-clause-divide g c = (settled-at _ _ _ _ _ _ (g.met.P.Requests.fine c.args.plan.now) c.requires.ready c.take-d.ensures.dev (landed _ _ _ _ c.deref-3.ensures.value c.take-d.ensures.bios c.clear.ensures.items) (landed _ _ _ _ c.deref-4.ensures.value c.take-d.ensures.fates c.clear-2.ensures.items)).divide
 
-pub put_back-requires-clause-ends : goal.put_back-requires-clause-ends
-put_back-requires-clause-ends g c = (settled-at _ _ _ _ _ _ (g.met.P.Requests.fine c.args.plan.now) c.requires.ready c.take-d.ensures.dev (landed _ _ _ _ c.deref-3.ensures.value c.take-d.ensures.bios c.clear.ensures.items) (landed _ _ _ _ c.deref-4.ensures.value c.take-d.ensures.fates c.clear-2.ensures.items)).ends
+pub put_rests-requires-clause-ends : goal.put_rests-requires-clause-ends
+put_rests-requires-clause-ends g c = (settled-at _ _ _ _ _ _ (g.met.P.Requests.fine c.args.plan.now) c.requires.ready c.take-d.ensures.dev (landed _ _ _ _ c.deref-3.ensures.value c.take-d.ensures.bios c.clear.ensures.items) (landed _ _ _ _ c.deref-4.ensures.value c.take-d.ensures.fates c.clear-2.ensures.items)).ends
 
-pub put_back-requires-clause-room : goal.put_back-requires-clause-room
-put_back-requires-clause-room g c = (settled-at _ _ _ _ _ _ (g.met.P.Requests.fine c.args.plan.now) c.requires.ready c.take-d.ensures.dev (landed _ _ _ _ c.deref-3.ensures.value c.take-d.ensures.bios c.clear.ensures.items) (landed _ _ _ _ c.deref-4.ensures.value c.take-d.ensures.fates c.clear-2.ensures.items)).room
+pub put_rests-requires-clause-room : goal.put_rests-requires-clause-room
+put_rests-requires-clause-room g c =
+    let k = settled-at _ _ _ _ _ _ (g.met.P.Requests.fine c.args.plan.now) c.requires.ready c.take-d.ensures.dev (landed _ _ _ _ c.deref-3.ensures.value c.take-d.ensures.bios c.clear.ensures.items) (landed _ _ _ _ c.deref-4.ensures.value c.take-d.ensures.fates c.clear-2.ensures.items) in
+    rw (queue-got c.args.self.now.queues.items c.take-d.result c.index_mut.result.now k.device c.index_mut.ensures.value) k.room
 
-pub put_back-requires-clause-scratch : goal.put_back-requires-clause-scratch
-put_back-requires-clause-scratch g c = let k = (settled-at _ _ _ _ _ _ (g.met.P.Requests.fine c.args.plan.now) c.requires.ready c.take-d.ensures.dev (landed _ _ _ _ c.deref-3.ensures.value c.take-d.ensures.bios c.clear.ensures.items) (landed _ _ _ _ c.deref-4.ensures.value c.take-d.ensures.fates c.clear-2.ensures.items)) in omega (arith, k.short, c.requires.ready.holds.room)
+pub put_rests-requires-clause-scratch : goal.put_rests-requires-clause-scratch
+put_rests-requires-clause-scratch g c = let k = (settled-at _ _ _ _ _ _ (g.met.P.Requests.fine c.args.plan.now) c.requires.ready c.take-d.ensures.dev (landed _ _ _ _ c.deref-3.ensures.value c.take-d.ensures.bios c.clear.ensures.items) (landed _ _ _ _ c.deref-4.ensures.value c.take-d.ensures.fates c.clear-2.ensures.items)) in omega (arith, k.short, c.requires.ready.holds.room)
 
 pub returns-clause-lands : goal.returns-clause-lands
 returns-clause-lands g c = λ v t h m.
@@ -59,13 +64,19 @@ returns-clause-lands g c = λ v t h m.
     (f.j, (f.step, (landed _ _ _ _ refl c.take-d.ensures.bios c.clear.ensures.items ∙ ap (λ (z : Command). z.bios) e, landed _ _ _ _ refl c.take-d.ensures.fates c.clear-2.ensures.items ∙ ap (λ (z : Command). z.fates) e)))
 
 pub returns-clause-step : goal.returns-clause-step
-returns-clause-step g c = λ cut v t h can m. record {
-  shows = complete-whole _ _ _ _ _ _ _ _ _ _ _ v c.args.i t cut _ _ _ _ _ (g.met.P.Requests.fine c.args.plan.now) h.shows can m c.take-d.ensures.dev
-      (landed _ _ _ _ c.deref.ensures.value c.take-d.ensures.bios c.clear.ensures.items) (landed _ _ _ _ c.deref-2.ensures.value c.take-d.ensures.fates c.clear-2.ensures.items)
-      (landed _ _ _ _ c.deref-3.ensures.value c.take-d.ensures.bios c.clear.ensures.items) (landed _ _ _ _ c.deref-4.ensures.value c.take-d.ensures.fates c.clear-2.ensures.items)
-      c.settle.ensures c.put_back.ensures.groups c.put_back.ensures.room c.take-d.ensures.commands c.take-d.ensures.room refl;
-  room = omega (arith, h.room, c.put_back.ensures.capacity);
-}
+returns-clause-step g c = λ cut v t h can m.
+    let bios = landed _ _ _ _ c.deref-3.ensures.value c.take-d.ensures.bios c.clear.ensures.items in
+    let fates = landed _ _ _ _ c.deref-4.ensures.value c.take-d.ensures.fates c.clear-2.ensures.items in
+    let k = settled-at _ _ _ _ _ _ (g.met.P.Requests.fine c.args.plan.now) c.requires.ready c.take-d.ensures.dev bios fates in
+    let back = put_all (rests (g.P.Requests.plan c.args.plan.now) c.deref-3.result.now c.deref-4.result.now) in
+    record {
+      shows = complete-whole _ _ _ _ _ _ _ _ _ _ _ v c.args.i t cut _ _ _ _ _ (g.met.P.Requests.fine c.args.plan.now) h.shows can m c.take-d.ensures.dev
+          (landed _ _ _ _ c.deref.ensures.value c.take-d.ensures.bios c.clear.ensures.items) (landed _ _ _ _ c.deref-2.ensures.value c.take-d.ensures.fates c.clear-2.ensures.items) bios fates c.settle.ensures
+          (queue-set c.args.self.now.queues.items c.take-d.result c.put_rests.new.queue c.index_mut.result.now back k.device c.index_mut.ensures.value c.put_rests.ensures.groups)
+          (room-set c.args.self.now.queues.items c.take-d.result c.put_rests.new.queue c.index_mut.result.now c.index_mut.ensures.value c.put_rests.ensures.room)
+          c.take-d.ensures.commands c.take-d.ensures.room refl;
+      room = omega (arith, h.room, c.put_rests.ensures.capacity);
+    }
 
 pub returns-clause-bios : goal.returns-clause-bios
 returns-clause-bios g c = omega (arith, c.take-d.ensures.bios_capacity, c.clear.ensures.capacity)

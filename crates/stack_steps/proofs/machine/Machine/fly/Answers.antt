@@ -3,8 +3,8 @@ use Rattle.std.proofs.Common.{ℕ, List, refl, set, ◌+◌}
 use Rattle.bio_core.specs.declared.bio.Bio.{Bio}
 use Rattle.bio_core.specs.declared.fate.Fate.{Fate}
 use Rattle.merge_queue.specs.Groups.{without}
-use Rattle.stack_view.specs.Plan.{Plan}
-use Rattle.stack_view.specs.View.{queue_at}
+use Rattle.stack_laws.specs.Plan.{Plan}
+use Rattle.stack_laws.specs.View.{queue_at}
 use Rattle.stack_steps.specs.declared.machine.Machine.{Machine}
 use Rattle.stack_steps.specs.Does.{Sending}
 use Rattle.stack_steps.proofs.Keep.{Room, flight-room, shows-send}
@@ -17,17 +17,17 @@ room-at p s d group fates r =
     r.taken.holds.shows r.taken.can r.group_is r.settles
 
 pub push-requires-clause-commands : goal.push-requires-clause-commands
-push-requires-clause-commands g c = (room-at _ _ _ _ _ c.requires).commands
+push-requires-clause-commands c = (room-at _ _ _ _ _ c.requires.1.1).commands
 
 pub push-requires-clause-bios : goal.push-requires-clause-bios
-push-requires-clause-bios g c = (room-at _ _ _ _ _ c.requires).bios
+push-requires-clause-bios c = (room-at _ _ _ _ _ c.requires.1.1).bios
 
 pub push-requires-clause-fates : goal.push-requires-clause-fates
-push-requires-clause-fates g c = (room-at _ _ _ _ _ c.requires).fates
+push-requires-clause-fates c = (room-at _ _ _ _ _ c.requires.1.1).fates
 
 pub returns : goal.returns
-returns g c = λ v i cut t e a. record {
-  shows = shows-send (g.P.Requests.plan c.args._plan.now) c.args.self.now.gate c.args.self.now.ops.items c.args.self.now.live.items c.args.self.now.queues.items c.args.self.now.flight c.push.new.self c.args.self.now.steps (c.args.self.now.steps + 1) v c.args.d i cut c.args.group.now c.args.fates.now
-      (g.met.P.Requests.fine c.args._plan.now) t.holds.shows t.can a e c.push.ensures.commands c.push.ensures.room refl;
+returns c = λ plan fine v i cut t e a. record {
+  shows = shows-send plan c.args.self.now.gate c.args.self.now.ops.items c.args.self.now.live.items c.args.self.now.queues.items c.args.self.now.flight c.push.new.self c.args.self.now.steps (c.args.self.now.steps + 1) v c.args.d i cut c.args.group.now c.args.fates.now
+      fine t.holds.shows t.can a e c.push.ensures.commands c.push.ensures.room refl;
   room = t.holds.room;
 }

@@ -1,25 +1,40 @@
-use Rattle.std.proofs.Common.{refl, ◌+◌}
-use Rattle.stack_steps.proofs.Keep.{joins-there, shows-join}
+-- What is asked of the groups that are joined.
+use Rattle.std.proofs.Common.{ℕ, refl, ◌+◌, arith}
+use Rattle.merge_queue.specs.Groups.{joined}
+use Rattle.stack_laws.specs.Plan.{Plan}
+use Rattle.stack_steps.specs.declared.choice.Choice.TheVariants.{Join}
+use Rattle.stack_steps.specs.declared.machine.Machine.{Machine}
+use Rattle.stack_steps.specs.Does.{Ready}
+use Rattle.stack_steps.proofs.Keep.{Joins, joins-there, shows-join}
+use Rattle.stack_steps.proofs.Moved.{queue-got, queue-set, room-set}
 use Rattle.stack_steps.proofs.machine.Machine.join.Goals as goal
 
-pub join_groups-requires-clause-there : goal.join_groups-requires-clause-there
-join_groups-requires-clause-there g c = (joins-there (g.P.Requests.plan c.args._plan.now) c.args.self.now.gate c.args.self.now.ops.items c.args.self.now.live.items c.args.self.now.queues.items c.args.self.now.flight c.args.self.now.steps c.requires.view c.args.d c.args.i c.args.j c.requires.holds.shows (rw c.requires.means at c.requires.can)).there
+-- the groups that are joined
+joined-at : (p : Plan) (s : Machine) (d i j : ℕ) (r : Ready p s (Join d i j)) → Joins p r.view s.queues.items d i j
+joined-at p s d i j r = joins-there p s.gate s.ops.items s.live.items s.queues.items s.flight s.steps r.view d i j r.holds.shows (rw r.means at r.can)
 
-pub join_groups-requires-clause-first : goal.join_groups-requires-clause-first
-join_groups-requires-clause-first g c = (joins-there (g.P.Requests.plan c.args._plan.now) c.args.self.now.gate c.args.self.now.ops.items c.args.self.now.live.items c.args.self.now.queues.items c.args.self.now.flight c.args.self.now.steps c.requires.view c.args.d c.args.i c.args.j c.requires.holds.shows (rw c.requires.means at c.requires.can)).first
+pub index_mut-requires : goal.index_mut-requires
+index_mut-requires c = let k = joined-at _ _ _ _ _ c.requires.1.1 in omega (arith, k.there)
 
-pub join_groups-requires-clause-second : goal.join_groups-requires-clause-second
-join_groups-requires-clause-second g c = (joins-there (g.P.Requests.plan c.args._plan.now) c.args.self.now.gate c.args.self.now.ops.items c.args.self.now.live.items c.args.self.now.queues.items c.args.self.now.flight c.args.self.now.steps c.requires.view c.args.d c.args.i c.args.j c.requires.holds.shows (rw c.requires.means at c.requires.can)).second
+pub join-requires-clause-first : goal.join-requires-clause-first
+join-requires-clause-first c = let k = joined-at _ _ _ _ _ c.requires.1.1 in rw (queue-got c.args.self.now.queues.items c.args.d c.index_mut.result.now k.there c.index_mut.ensures.value) k.first
 
-pub join_groups-requires-clause-other : goal.join_groups-requires-clause-other
-join_groups-requires-clause-other g c = (joins-there (g.P.Requests.plan c.args._plan.now) c.args.self.now.gate c.args.self.now.ops.items c.args.self.now.live.items c.args.self.now.queues.items c.args.self.now.flight c.args.self.now.steps c.requires.view c.args.d c.args.i c.args.j c.requires.holds.shows (rw c.requires.means at c.requires.can)).other
+pub join-requires-clause-second : goal.join-requires-clause-second
+join-requires-clause-second c = let k = joined-at _ _ _ _ _ c.requires.1.1 in rw (queue-got c.args.self.now.queues.items c.args.d c.index_mut.result.now k.there c.index_mut.ensures.value) k.second
 
-pub join_groups-requires-clause-behind : goal.join_groups-requires-clause-behind
-join_groups-requires-clause-behind g c = (joins-there (g.P.Requests.plan c.args._plan.now) c.args.self.now.gate c.args.self.now.ops.items c.args.self.now.live.items c.args.self.now.queues.items c.args.self.now.flight c.args.self.now.steps c.requires.view c.args.d c.args.i c.args.j c.requires.holds.shows (rw c.requires.means at c.requires.can)).behind
+pub join-requires-clause-other : goal.join-requires-clause-other
+join-requires-clause-other c = (joined-at _ _ _ _ _ c.requires.1.1).other
+
+pub join-requires-clause-behind : goal.join-requires-clause-behind
+join-requires-clause-behind c = let k = joined-at _ _ _ _ _ c.requires.1.1 in rw (queue-got c.args.self.now.queues.items c.args.d c.index_mut.result.now k.there c.index_mut.ensures.value) k.behind
 
 pub returns : goal.returns
-returns g c = λ cut v t h can m. record {
-  shows = rw m (shows-join (g.P.Requests.plan c.args._plan.now) c.args.self.now.gate c.args.self.now.ops.items c.args.self.now.live.items c.args.self.now.queues.items c.join_groups.new.queues.items c.args.self.now.flight c.args.self.now.steps (c.args.self.now.steps + 1) v c.args.d c.args.i c.args.j cut
-      (g.met.P.Requests.fine c.args._plan.now) h.shows (rw m at can) c.join_groups.ensures.groups c.join_groups.ensures.room refl);
-  room = h.room;
-}
+returns c = λ plan cut fine v t h can m.
+    let k = joined-at _ _ _ _ _ c.requires.1.1 in
+    record {
+      shows = rw m (shows-join plan c.args.self.now.gate c.args.self.now.ops.items c.args.self.now.live.items c.args.self.now.queues.items _ c.args.self.now.flight c.args.self.now.steps (c.args.self.now.steps + 1) v c.args.d c.args.i c.args.j cut
+          fine h.shows (rw m at can)
+          (queue-set c.args.self.now.queues.items c.args.d c.join.new.self c.index_mut.result.now (λ q. joined q c.args.i c.args.j) k.there c.index_mut.ensures.value c.join.ensures.groups)
+          (room-set c.args.self.now.queues.items c.args.d c.join.new.self c.index_mut.result.now c.index_mut.ensures.value c.join.ensures.room) refl);
+      room = h.room;
+    }

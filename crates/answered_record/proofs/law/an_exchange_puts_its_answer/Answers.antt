@@ -1,5 +1,0 @@
-use Rattle.answered_record.proofs.Exchange.{exchange_puts}
-use Rattle.answered_record.proofs.law.an_exchange_puts_its_answer.Goals as goal
-
-pub returns : goal.returns
-returns c = exchange_puts

@@ -1,0 +1,5 @@
+use Rattle.mirror_form_laws.proofs.Runs.{shown_by_form}
+use Rattle.mirror_form_laws.proofs.faults_on_a_mirror_are_shown_by_their_form.Goals as goal
+
+pub returns : goal.returns
+returns c = λ m devices half ops opening run. shown_by_form m devices half ops opening run

@@ -1,0 +1,146 @@
+-- The mirror whose leg 0 refuses a write meets all that one good leg asks for.
+use Rattle.std.proofs.Common.{◌≡◌, ◌<◌, ℕ, zero, suc, ◌+◌, Bool, true, false, List, [], ◌∷◌, length, get_or, replicate, refl, sym, ap, subst, ◌∙◌, arith}
+use Rattle.std.specs.Option.{unwrap_or}
+use Rattle.std.specs.Prelude.{ℤ, pos, eqb, if◌then◌else◌, Option, None}
+use Rattle.std.proofs.lemmas.List.Elements.{All-append, All-cons, All-nil, All-replicate}
+use Rattle.pi_guard.specs.Guards.{crc, ip}
+use Rattle.pi_tuple.specs.declared.checks.PiType.TheVariants.{One}
+use Rattle.page_pool.specs.Places.{run}
+use Rattle.fault_schedule.specs.Altered.{shift_of}
+use Rattle.fault_schedule.specs.declared.fault.Crossing.{Crossing}
+use Rattle.fault_schedule.specs.declared.fault.Crossing.TheVariants.{AdapterToHost, AdapterToTarget, HostToAdapter, MediumToTarget, TargetToAdapter, TargetToMedium}
+use Rattle.target_answer.specs.Passing.{found_in, from_medium, to_medium}
+use Rattle.volume_table.specs.declared.device.DeviceInfo.{DeviceInfo}
+use Rattle.volume_table.specs.Places.{place_in}
+use Rattle.block_path.specs.WayIn.{from_wire}
+use Rattle.block_path.specs.WayOut.{to_wire}
+use Rattle.walk_laws.specs.Past.{brought_by}
+use Rattle.walk_laws.specs.UnderMap.{IsClean, home}
+use Rattle.run_laws.specs.ShownRun.{DevicesAreClean, HasBlock, HasCells, LiesOn}
+use Rattle.run_laws.proofs.ShownRows.{one_list}
+use Rattle.mirror_laws.specs.OneGood.{AreBytes, HasGoodLeg, IsMirrorRun, IsUnnamed}
+use Rattle.mirror_laws.specs.LegByLeg.{HasLegs}
+use Rattle.mirror_laws.specs.Sizes.{AllHavePlaces, HasSizes}
+use Rattle.mirror_laws.proofs.Rows.{opening, ops, stale}
+
+abbrev devices : List DeviceInfo
+devices = record { ty = One; blocks = 1; size = 512; first = 0 } ∷ record { ty = One; blocks = 1; size = 512; first = 0 } ∷ []
+
+-- a flip shifts nothing, whether it is the op's or not
+abbrev nothing : Bool → Option ℤ
+nothing c = if c then None else None
+
+never : (c : Bool) → unwrap_or (nothing c) (pos 0) ≡ pos 0
+never true = refl
+never false = refl
+
+unshifted : (at : Crossing) (op : ℕ) → shift_of stale.site.faults at op ≡ pos 0
+unshifted HostToAdapter op = never (eqb 2 op)
+unshifted AdapterToTarget op = refl
+unshifted TargetToMedium op = refl
+unshifted MediumToTarget op = refl
+unshifted TargetToAdapter op = refl
+unshifted AdapterToHost op = refl
+
+there : (dev lba : ℕ) → dev < 2 → lba < 1 → HasBlock stale devices dev lba
+there zero lba d l = record { known = omega arith; begins = omega arith; ends = omega (arith, l); type_is = refl; size_is = refl }
+there (suc zero) lba d l = record { known = omega arith; begins = omega arith; ends = omega (arith, l); type_is = refl; size_is = refl }
+there (suc (suc dev)) lba d l = absurd (omega (arith, d))
+
+lba_zero : (dev lba : ℕ) → HasBlock stale devices dev lba → lba ≡ 0
+lba_zero zero lba h = let e = h.ends in omega (arith, e)
+lba_zero (suc zero) lba h = let e = h.ends in omega (arith, e)
+lba_zero (suc (suc dev)) lba h = absurd (let k = h.known in omega (arith, k))
+
+inside : (v : ℕ) → v < 2 → HasBlock stale devices (place_in stale.entries v).0 (place_in stale.entries v).1
+inside zero l = there 0 0 (omega arith) (omega arith)
+inside (suc zero) l = there 1 0 (omega arith) (omega arith)
+inside (suc (suc v)) l = absurd (omega (arith, l))
+
+dev_of : (v : ℕ) → v < 2 → (place_in stale.entries v).0 ≡ v
+dev_of zero l = refl
+dev_of (suc zero) l = refl
+dev_of (suc (suc v)) l = absurd (omega (arith, l))
+
+lies : LiesOn stale devices
+lies = record { inside = inside; alone = λ v w k l e. sym (dev_of v k) ∙ ap (λ (x : ℕ × ℕ). x.0) e ∙ dev_of w l }
+
+sized : (dev : ℕ) → dev < 2 → length (get_or opening.blocks dev []) ≡ 520
+sized zero l = refl
+sized (suc zero) l = refl
+sized (suc (suc dev)) l = absurd (omega (arith, l))
+
+cells : HasCells stale devices opening.blocks
+cells = record {
+  within = λ dev lba h. h.known;
+  apart = λ dev lba other at h k e. (e, lba_zero dev lba h ∙ sym (lba_zero other at k));
+  size = λ dev lba h. sized dev h.known;
+}
+
+clean_at : (dev : ℕ) → dev < 2 → IsClean stale 0 (get_or opening.blocks dev [])
+unfolding crc
+clean_at zero l = record { no_escape = refl; guard = refl; app = refl; rtag = λ h. refl }
+clean_at (suc zero) l = record { no_escape = refl; guard = refl; app = refl; rtag = λ h. refl }
+clean_at (suc (suc dev)) l = absurd (omega (arith, l))
+
+clean : DevicesAreClean stale devices opening.blocks
+clean v lba l h = subst (λ a. IsClean stale a (get_or opening.blocks (place_in stale.entries v).0 [])) (sym (lba_zero (place_in stale.entries v).0 lba h)) (clean_at (place_in stale.entries v).0 h.known)
+
+unnamed2 : IsUnnamed stale (record { op = 2; k = 1; virt = 1 })
+unnamed2 HostToAdapter = refl
+unnamed2 AdapterToTarget = refl
+unnamed2 TargetToMedium = refl
+unnamed2 MediumToTarget = refl
+unnamed2 TargetToAdapter = refl
+unnamed2 AdapterToHost = refl
+
+unnamed3 : IsUnnamed stale (record { op = 3; k = 1; virt = 1 })
+unnamed3 HostToAdapter = refl
+unnamed3 AdapterToTarget = refl
+unnamed3 TargetToMedium = refl
+unnamed3 MediumToTarget = refl
+unnamed3 TargetToAdapter = refl
+unnamed3 AdapterToHost = refl
+
+one_good : (u : ℕ) → u < 1 → HasGoodLeg stale 1 ops u
+one_good zero l = record { leg = true; spares = (tt, (λ e. unnamed2, (λ e. unnamed3, (tt, tt)))) }
+one_good (suc u) l = absurd (omega (arith, l))
+
+equal : (u : ℕ) → u < 1 → brought_by 512 (get_or opening.blocks (home stale (1 + u)) []) ≡ brought_by 512 (get_or opening.blocks (home stale u) [])
+equal zero l = refl
+equal (suc u) l = absurd (omega (arith, l))
+
+mirror_run : IsMirrorRun stale devices 1 ops opening
+unfolding crc ip found_in to_medium from_medium to_wire from_wire run
+mirror_run = record {
+  checked = record { ty = refl; dix = refl; dif = refl; protect = refl; device = refl };
+  unshifted = unshifted;
+  long = refl;
+  lies = lies;
+  cells = cells;
+  clean = clean;
+  equal = equal;
+  bind = (tt, ((omega arith, (refl, omega arith)), ((omega arith, (refl, one_list 512 512 (omega arith))), (tt, tt))));
+  no_escape = (tt, (λ h. refl, (λ h. refl, (tt, (tt, tt)))));
+  shown = refl;
+  one_good = one_good;
+}
+
+bytes : AreBytes stale 1 opening.blocks
+bytes zero l = All-append (λ x. x < 256) (replicate 519 0) (0 ∷ []) (All-replicate (λ x. x < 256) 519 0 (omega arith)) (All-cons (λ x. x < 256) 0 [] (omega arith) (All-nil (λ x. x < 256)))
+bytes (suc u) l = absurd (omega (arith, l))
+
+-- And all that is asked of a mirror whose requests are done leg by leg.
+legs : HasLegs stale 1
+legs = record { unshifted = unshifted; long = refl; one_cell_each = λ u v k l e. sym (dev_of u k) ∙ e ∙ dev_of v l }
+
+stored : (v : ℕ) → v < 2 → length (get_or opening.blocks (place_in stale.entries v).0 []) ≡ 520
+stored zero l = refl
+stored (suc zero) l = refl
+stored (suc (suc v)) l = absurd (omega (arith, l))
+
+sizes : HasSizes stale opening.blocks
+sizes = record { device = refl; protect = omega arith; stored = stored }
+
+places : AllHavePlaces stale 1 opening.blocks ops
+places = (tt, ((omega arith, refl), (tt, (tt, tt))))

@@ -1,5 +1,0 @@
-use Rattle.mirror_premises.proofs.Runs.{shown_by_form}
-use Rattle.mirror_premises.proofs.faults_on_a_mirror_are_shown_by_their_form.Goals as goal
-
-pub returns : goal.returns
-returns c = λ m devices half ops opening run. shown_by_form m devices half ops opening run

@@ -1,5 +1,0 @@
-use Rattle.mirror_premises.proofs.Escapes.{none_supplied}
-use Rattle.mirror_premises.proofs.no_write_on_a_mirror_supplies_an_escape_by_its_form.Goals as goal
-
-pub returns : goal.returns
-returns c = λ m half ops opening h. none_supplied m half ops opening h

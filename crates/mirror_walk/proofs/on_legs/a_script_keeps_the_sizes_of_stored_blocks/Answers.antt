@@ -1,5 +1,0 @@
-use Rattle.mirror_walk.proofs.Sizes.{ops_keep}
-use Rattle.mirror_walk.proofs.on_legs.a_script_keeps_the_sizes_of_stored_blocks.Goals as goal
-
-pub returns : goal.returns
-returns c = λ m half count opening i ops s legs sizes places kept. ops_keep m half opening legs sizes count i ops s places kept

@@ -1,5 +1,0 @@
-use Rattle.mirror_walk.proofs.OtherOps.{no_request}
-use Rattle.mirror_walk.proofs.on_legs.an_op_without_blocks_leaves_this.Goals as goal
-
-pub returns : goal.returns
-returns c = λ m half count i op s. no_request m half count i op s

@@ -1,5 +1,0 @@
-use Rattle.run_follows.proofs.Ending.{ends_as_falling}
-use Rattle.run_follows.proofs.falls_end.a_finished_stack_is_the_falling_walk.Goals as goal
-
-pub returns : goal.returns
-returns c = λ m fine n ops opening status pages blocks es run takes ended h. ends_as_falling m fine n ops opening status pages blocks es run takes ended h

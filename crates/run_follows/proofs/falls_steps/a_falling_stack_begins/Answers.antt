@@ -1,5 +1,0 @@
-use Rattle.run_follows.proofs.Stepping.{begins}
-use Rattle.run_follows.proofs.falls_steps.a_falling_stack_begins.Goals as goal
-
-pub returns : goal.returns
-returns c = λ m n ops opening empty. begins m n ops opening empty

@@ -1,5 +1,0 @@
-use Rattle.run_follows.proofs.NoneFell.{none_fell}
-use Rattle.run_follows.proofs.falls_switch.a_stack_that_lists_no_medium_follows_the_walk.Goals as goal
-
-pub returns : goal.returns
-returns c = none_fell

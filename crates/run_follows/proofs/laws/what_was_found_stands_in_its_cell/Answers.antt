@@ -1,5 +1,0 @@
-use Rattle.run_follows.proofs.Found.{found_there}
-use Rattle.run_follows.proofs.laws.what_was_found_stands_in_its_cell.Goals as goal
-
-pub returns : goal.returns
-returns c = found_there

@@ -1,5 +1,0 @@
-use Rattle.run_follows.proofs.Wholly.{wholly}
-use Rattle.run_follows.proofs.steps.an_op_is_done_whole.Goals as goal
-
-pub returns : goal.returns
-returns c = λ m n front behind op opening now old new es one placed mine alone lets becomes h. wholly m n front behind op opening now old new es one placed mine alone lets becomes h

@@ -1,5 +1,0 @@
-use Rattle.script_ground.proofs.AtTarget.{over-units}
-use Rattle.script_ground.proofs.laws.a_bound_script_is_bound_at_its_target.Goals as goal
-
-pub returns : goal.returns
-returns c = over-units c.a_target_keeps_sizes.ensures

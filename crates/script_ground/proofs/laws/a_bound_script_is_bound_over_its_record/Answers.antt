@@ -1,5 +1,0 @@
-use Rattle.script_ground.proofs.BoundRuns.{over-record}
-use Rattle.script_ground.proofs.laws.a_bound_script_is_bound_over_its_record.Goals as goal
-
-pub returns : goal.returns
-returns c = λ m s t devices logs opening es k is fit. over-record m es fit s t devices logs opening k is

@@ -1,5 +1,0 @@
-use Rattle.script_ground.proofs.Standing.{stands-on-ground}
-use Rattle.script_ground.proofs.laws.a_bound_script_stands_on_ground.Goals as goal
-
-pub returns : goal.returns
-returns c = stands-on-ground

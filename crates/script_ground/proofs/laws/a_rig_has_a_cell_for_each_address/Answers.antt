@@ -1,5 +1,0 @@
-use Rattle.script_ground.proofs.Units.{over-units}
-use Rattle.script_ground.proofs.laws.a_rig_has_a_cell_for_each_address.Goals as goal
-
-pub returns : goal.returns
-returns c = over-units

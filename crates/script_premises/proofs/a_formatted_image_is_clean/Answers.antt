@@ -1,5 +1,0 @@
-use Rattle.script_premises.proofs.Fresh.{formatted_below, formatted_clean, shapes_are}
-use Rattle.script_premises.proofs.a_formatted_image_is_clean.Goals as goal
-
-pub returns : goal.returns
-returns c = record { clean = formatted_clean; shapes = shapes_are; bytes = formatted_below }

@@ -1,5 +1,0 @@
-use Rattle.script_premises.proofs.Formed.{stays-clean}
-use Rattle.script_premises.proofs.a_still_script_leaves_its_devices_clean.Goals as goal
-
-pub returns : goal.returns
-returns c = λ s t us b p. stays-clean s t us c.a_calm_run_leaves_its_devices_clean.ensures b p

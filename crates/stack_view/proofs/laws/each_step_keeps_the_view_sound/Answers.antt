@@ -1,5 +1,0 @@
-use Rattle.stack_view.proofs.Keeps.{keeps}
-use Rattle.stack_view.proofs.laws.each_step_keeps_the_view_sound.Goals as goal
-
-pub returns : goal.returns
-returns c = λ p v t cut fates on s h a. keeps p v t cut fates on s h a

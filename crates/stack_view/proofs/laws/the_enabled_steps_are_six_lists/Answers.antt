@@ -1,5 +1,0 @@
-use Rattle.stack_view.proofs.Lists.{by-lists}
-use Rattle.stack_view.proofs.laws.the_enabled_steps_are_six_lists.Goals as goal
-
-pub returns : goal.returns
-returns c = by-lists

@@ -1,0 +1,52 @@
+use Rattle.std.specs.Prelude.{ℕ, Bool, true, false, ◌&&◌, ◌||◌, not, eqb, if◌then◌else◌, List, [], ◌∷◌, get_or, nat_abs, Option, Some, None}
+use Rattle.std.specs.List.{list_any}
+use Rattle.fault_schedule.specs.Altered.{is_line_of, shift_of}
+use Rattle.fault_schedule.specs.declared.fault.Crossing.{Crossing}
+use Rattle.fault_schedule.specs.declared.fault.Crossing.TheVariants.{AdapterToHost, AdapterToTarget, MediumToTarget, TargetToAdapter, TargetToMedium}
+use Rattle.fault_schedule.specs.declared.fault.FaultKind.{FaultKind}
+use Rattle.fault_schedule.specs.declared.fault.FaultKind.TheVariants.{Flip, Shift}
+use Rattle.block_path.specs.Acts.{State}
+use Rattle.block_path.specs.Blocks.{fetched_cell, own_cell, stored_cell}
+use Rattle.walk_laws.specs.Past.{Accepted, Brought, Event, Lost, Overwritten, brought_by}
+use Rattle.walk_laws.specs.Settings.{Block, Setting, route}
+
+-- Which layer is the first that checks after a fault, and what was the last accepted write: in type 1 with tuples that are passed and protect field 001b.
+
+pub data Layer : Type 0 where
+  AtTarget : Layer
+  AtAdapter : Layer
+  AtOwner : Layer
+
+abbrev pub is_flip : FaultKind → Bool
+is_flip (Flip off bytes) = true
+is_flip (Shift by) = false
+
+-- A line flips bytes of the block at this crossing.
+abbrev pub has_flip : Setting → Block → Crossing → Bool
+has_flip m b at = list_any (λ line. is_line_of line at (route m b).label && is_flip line.kind) m.site.faults
+
+-- The op's addresses are shifted at this crossing.
+abbrev pub has_shift : Setting → Block → Crossing → Bool
+has_shift m b at = not (eqb (nat_abs (shift_of m.site.faults at b.op)) 0)
+
+-- A cell is hit where, since the last block that was accepted and stored there, an overwrite altered it, or that block had a flip on its way to the medium.
+abbrev pub is_hit : Setting → (cell : ℕ) → List Event → Bool
+is_hit m cell [] = false
+is_hit m cell (Accepted b e ∷ past) = if eqb (stored_cell m.site (route m b)) cell then has_flip m b TargetToMedium else is_hit m cell past
+is_hit m cell (Lost b ∷ past) = is_hit m cell past
+is_hit m cell (Overwritten other ∷ past) = eqb other cell || is_hit m cell past
+
+-- The target is the first for a fault of the medium, the adapter for one on the wire, the owner of the tuple for one at the host; else there is none.
+abbrev pub first_layer : Setting → List Event → Block → Option Layer
+first_layer m past b =
+    if has_shift m b MediumToTarget || (has_flip m b MediumToTarget || is_hit m (fetched_cell m.site (route m b)) past) then Some AtTarget
+    else if has_shift m b AdapterToTarget || has_flip m b TargetToAdapter then Some AtAdapter
+    else if has_flip m b AdapterToHost then Some AtOwner
+    else None
+
+-- what the newest accepted write of the virtual block brought, else what the opening image has at its place
+abbrev pub last_accepted : Setting → (opening : State) → Block → List Event → Brought
+last_accepted m opening b [] = brought_by m.size (get_or opening.blocks (own_cell m.site (route m b)) [])
+last_accepted m opening b (Accepted a e ∷ past) = if eqb a.virt b.virt then e else last_accepted m opening b past
+last_accepted m opening b (Lost a ∷ past) = last_accepted m opening b past
+last_accepted m opening b (Overwritten cell ∷ past) = last_accepted m opening b past
