@@ -243,8 +243,9 @@ build_program() {
     cd "$here/crates/$crate" || return
     # (first is some words)
     # shellcheck disable=SC2086
-    held env DIX_BUILD="$work" rt run -- $first </dev/null >"$work/ran" 2>>"$log"
+    held env DIX_BUILD="$work" rt run -- $first </dev/null >"$work/ran" 2>&1
     status=$?
+    cat "$work/ran" >>"$log"
     [ "$status" != 0 ] || keep_verdict "$work/ran" "$out"
     cd "$OLDPWD" && return "$status"
 }

@@ -16,8 +16,12 @@ run_watched() {
     fi
     held=$!
     [ -z "$signal" ] || pass_on "$signal"
-    watch_from_outside "$held" "$@" 8<&- &
-    watcher=$!
+    watcher=
+    # (who types a script knows what is waited for)
+    if ! { takes_script "$@" && [ -t 0 ]; }; then
+        watch_from_outside "$held" "$@" 8<&- &
+        watcher=$!
+    fi
     wait "$held" 2>/dev/null
     status=$?
     # (a signal ends the wait, and not yet the program)
@@ -25,8 +29,10 @@ run_watched() {
         wait "$held" 2>/dev/null
         status=$?
     done
-    kill -TERM "$watcher" 2>/dev/null
-    wait "$watcher" 2>/dev/null
+    if [ -n "$watcher" ]; then
+        kill -TERM "$watcher" 2>/dev/null
+        wait "$watcher" 2>/dev/null
+    fi
     [ -z "$signal" ] || end_by "$signal"
     [ "$status" -le 128 ] || end_by $((status - 128))
     name_status "$status" "$@"
@@ -111,11 +117,26 @@ input_file() {
 name_fault() {
     script=$(input_file) || script=SCRIPT
     case $1 in
-    run | trace | vectors | sweep) say "$lab explain < $script marks it; $lab explain IMAGE < $script also what doesn't fit an image" ;;
+    vectors | sweep) name_sent "$1" "$script" ;;
+    run | trace) say_explain "$script" ;;
     mirror) say "$lab explain < $script marks it; what a mirror refuses besides stands in docs/MIRROR.md" ;;
     nvme) say 'docs/NVME.md says what is wrong with such a line' ;;
     import) say "a dump has a piece for each block of the place; $lab show $2 writes how many blocks there are" ;;
     esac
+}
+
+say_explain() { say "$lab explain < $1 marks it; $lab explain IMAGE < $1 also what doesn't fit an image"; }
+
+# Of what takes a list too, and no script that alters anything on its way.
+name_sent() {
+    altering=$(grep -nE '^ *(fault|shift|overwrite) ' "$2" 2>/dev/null | head -n 1 | cut -d : -f 1)
+    if grep -q '^ *dix vectors' "$2" 2>/dev/null; then
+        say 'docs/LAB.md says what is wrong with a list of commands'
+    elif [ -n "$altering" ]; then
+        say "$1 takes no script with a fault, shift or overwrite line, as line $altering of $2"
+    else
+        say_explain "$2"
+    fi
 }
 
 # The lines of the script's volume, or the units of the image.

@@ -59,8 +59,10 @@ held() {
 end() {
     trap '' INT TERM HUP
     [ -z "$held" ] || kill -TERM "$held" 2>/dev/null
-    stop_crates
-    [ -z "$work" ] || end_kit
+    if [ -n "$work" ]; then
+        stop_crates
+        end_kit
+    fi
     wait
     [ -z "$work" ] || rm -rf "$work"
     [ "$1" -lt 128 ] || rm -f "$log"
