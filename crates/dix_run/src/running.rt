@@ -19,7 +19,8 @@ use unit_words::image_of;
 
 /// Writes the report of a run.
 fn report_run<O: Sink>(out: &mut O, run: &Finished) -> Status
-    ensures written { Written (done_status (has_bad run.now.stack.replies.items)) (report run.now.stack.replies.items) (O.taken out.old) (O.taken out.new) (O.faults out.old) (O.faults out.new) result }
+    ensures written { Written (done_status (has_bad run.now.stack.replies.items)) (report run.now.stack.replies.items)
+        (O.taken out.old) (O.taken out.new) (O.faults out.old) (O.faults out.new) result }
     ensures handed { IsPassedOn result (O.passed out.new) (O.taken out.new) }
 {
     match print_run(out, run) {

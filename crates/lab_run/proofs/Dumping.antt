@@ -120,10 +120,10 @@ unfit_import words place layout old new left reads rig second x b taken o h k q 
 found_since : (x : Found) (place : PlaceWord) (layout : Layout) (name : List ℕ) (old mid new : StoreState) → new.handed ≡ mid.handed → new.openings ≡ mid.openings → IsFound x place name old mid → HasPlace (units_open x.image) x.at place name old new
 found_since x place layout name old mid new n k h = has_since (units_open x.image) x.at place name old mid new n k h.has
 
-dumped : (words : List (List ℕ)) (place : PlaceWord) (layout : Layout) (old mid new : StoreState) (left : Option (List ℕ)) (reads : ℕ) (rig : RigState) (second : StoreState) (x : Found) (r : Result (Unit {0}) WalkFault) (taken taken' : Option (List ℕ)) (o n : ℕ) (s : Status) →
+pub exported : (words : List (List ℕ)) (place : PlaceWord) (layout : Layout) (old mid new : StoreState) (left : Option (List ℕ)) (reads : ℕ) (rig : RigState) (second : StoreState) (x : Found) (r : Result (Unit {0}) WalkFault) (taken taken' : Option (List ℕ)) (o n : ℕ) (s : Status) →
     IsFound x place (image_in words) old mid → ReadsOnce (image_in words) old mid → WasRead mid new → fits layout (spec_of (units_open x.image) x.at.dev).ty ≡ true → DumpEnds r layout (units_open x.image) x.at mid.bytes mid.faults new.faults o n taken taken' → s ≡ dumped_status r →
     Came (Some (Export place layout)) (Ok s) (on_first words old new left reads rig second) taken taken' o n
-dumped words place layout old mid new left reads rig second x (Ok y) taken taken' o n s h k g z e w = record {
+exported words place layout old mid new left reads rig second x (Ok y) taken taken' o n s h k g z e w = record {
   comes = (
     record { units = units_open x.image; at = x.at; blocks = e.blocks; broken = None },
     record {
@@ -135,7 +135,7 @@ dumped words place layout old mid new left reads rig second x (Ok y) taken taken
   );
   kept = reads_first words old new left reads rig second (reads_on (image_in words) old mid new k g);
 }
-dumped words place layout old mid new left reads rig second x (Err walk.Store) taken taken' o n s h k g z e w = record {
+exported words place layout old mid new left reads rig second x (Err walk.Store) taken taken' o n s h k g z e w = record {
   comes = (
     record { units = units_open x.image; at = x.at; blocks = e.1.blocks; broken = Some e.1.written.0 },
     record {
@@ -147,7 +147,7 @@ dumped words place layout old mid new left reads rig second x (Err walk.Store) t
   );
   kept = reads_first words old new left reads rig second (reads_on (image_in words) old mid new k g);
 }
-dumped words place layout old mid new left reads rig second x (Err walk.Sink) taken taken' o n s h k g z e w = record {
+exported words place layout old mid new left reads rig second x (Err walk.Sink) taken taken' o n s h k g z e w = record {
   comes = (
     record { units = units_open x.image; at = x.at; blocks = e.1.blocks; broken = None },
     record {
@@ -159,12 +159,6 @@ dumped words place layout old mid new left reads rig second x (Err walk.Sink) ta
   );
   kept = reads_first words old new left reads rig second (reads_on (image_in words) old mid new k g);
 }
-
-pub exported : (words : List (List ℕ)) (place : PlaceWord) (layout : Layout) (old mid new : StoreState) (left : Option (List ℕ)) (reads : ℕ) (rig : RigState) (second : StoreState) (x : Found) (r : Result (Unit {0}) WalkFault) (taken taken' : Option (List ℕ)) (o n : ℕ) (s : Status) →
-    IsFound x place (image_in words) old mid → ReadsOnce (image_in words) old mid → WasRead mid new → fits layout (spec_of (units_open x.image) x.at.dev).ty ≡ true → DumpEnds r layout (units_open x.image) x.at mid.bytes mid.faults new.faults o n taken taken' → s ≡ dumped_status r →
-    Came (Some (Export place layout)) (Ok s) (on_first words old new left reads rig second) taken taken' o n
-exported words place layout old mid new left reads rig second x r taken taken' o n s h k g z e w =
-    dumped words place layout old mid new left reads rig second x r taken taken' o n s h k g z e w
 
 -- ---- blocks that are imported
 
