@@ -18,4 +18,4 @@ returns-in-Ok-scrub_text-clause-ended g c = λ left reads.
 pub returns-clause-ended : goal.returns-clause-ended
 returns-clause-ended g c = λ left reads.
     refused dix scrub_work no_memory _ _ _ _ _ c.refuse-in-Err-scrub_text.result
-    (scrub_spared _ _ _ _ _ (rw c.image_of.ensures at c.in-Ok.ensures), (refl, refl)) c.refuse-in-Err-scrub_text.ensures
+    (scrub_spared _ _ _ _ _ (rw c.image_of.ensures at c.in-Ok.ensures), (refl, refl)) c.refuse-in-Err-scrub_text.ensures.written
