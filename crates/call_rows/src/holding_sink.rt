@@ -2,7 +2,7 @@
 
 ghost use Rattle.std.specs.Prelude.{◌≡◌, ◌≤◌, ◌<◌, ◌++◌, length, take, Some, IfOk, IsOk, OnErr, OnOk};
 ghost use Rattle.dix_base.specs.Told.{Rose};
-ghost use Rattle.call_rows.proofs.Holding.{front-behind};
+ghost use Rattle.call_rows.specs.Holding.{front-behind};
 
 use dix_base::{Failed, MemSink, Sink};
 use std::marker::Model;
