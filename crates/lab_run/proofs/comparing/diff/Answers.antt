@@ -1,7 +1,8 @@
-use Rattle.std.proofs.Common.{refl, sym, ◌∙◌}
+use Rattle.std.proofs.Common.{refl, sym, ◌∙◌, ap}
 use Rattle.std.proofs.lemmas.Bool.{eqb-true}
 use Rattle.std.proofs.lemmas.Result.{err_from_is_err_and}
 use Rattle.dix_base.specs.Stores.{StoreState}
+use Rattle.lab_run.specs.Comparing.{compared_status}
 use Rattle.lab_run.specs.Texts.{no_memory}
 use Rattle.lab_run.proofs.Differing.{compared, no_first, no_second, other_count, other_size, spared}
 use Rattle.lab_run.proofs.Openings.{finds_named}
@@ -65,3 +66,6 @@ returns-clause-came g c = λ left reads rig.
     let s = c.diff_blocks-ended.ensures in
     compared _ c.args.one c.args.other was mid is beside_was beside_mid beside_is left reads rig c.in_ok-here.here c.in-Ok.there c.diff_blocks-ended.result _ _ _ _ c.status_of.result
     (record { first = h.came; kept = h.kept; second = k.came; second_kept = k.kept }) (record { first = s.first; second = s.second }) (eqb-true _ _ (sym c.are_one_size.ensures ∙ c.if-not-are_one_size.false)) c.if-here-there.false s.compared c.status_of.ensures
+
+pub returns-clause-handed : goal.returns-clause-handed
+returns-clause-handed g c = λ h. c.diff_blocks-ended.ensures.handed (λ e. h (c.status_of.ensures ∙ ap compared_status e))

@@ -1,6 +1,7 @@
-use Rattle.std.proofs.Common.{refl, sym, ◌∙◌}
+use Rattle.std.proofs.Common.{refl, sym, ◌∙◌, ap}
 use Rattle.std.proofs.lemmas.Result.{err_from_is_err_and}
 use Rattle.dix_base.specs.Stores.{StoreState}
+use Rattle.lab_run.specs.Dumping.{dumped_status}
 use Rattle.lab_run.specs.Texts.{no_memory}
 use Rattle.lab_run.proofs.Dumping.{exported, spared_export, unfit_export, unfound_export}
 use Rattle.lab_run.proofs.Openings.{finds_named}
@@ -40,3 +41,6 @@ returns-clause-came g c = λ left reads rig second.
     let s = c.export_blocks-ended.ensures in
     exported _ c.args.place c.args.layout was mid is left reads rig second c.in_ok-found.found c.export_blocks-ended.result _ _ _ _ c.dumped.result h.came h.kept s.store
     (sym c.fits_there.ensures ∙ c.if-not-fits_there.false) s.dumped c.dumped.ensures
+
+pub returns-clause-handed : goal.returns-clause-handed
+returns-clause-handed g c = λ h. c.export_blocks-ended.ensures.handed (λ e. h (c.dumped.ensures ∙ ap dumped_status e))

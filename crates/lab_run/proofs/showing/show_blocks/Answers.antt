@@ -1,6 +1,7 @@
-use Rattle.std.proofs.Common.{refl}
+use Rattle.std.proofs.Common.{refl, ap, ◌∙◌}
 use Rattle.std.proofs.lemmas.Result.{err_from_is_err_and}
 use Rattle.dix_base.specs.Stores.{StoreState}
+use Rattle.lab_run.specs.Showing.{shown_status}
 use Rattle.lab_run.specs.Texts.{no_memory}
 use Rattle.lab_run.proofs.Openings.{finds_named}
 use Rattle.lab_run.proofs.Shows.{shown, spared, unshown}
@@ -31,3 +32,6 @@ returns-clause-came g c = λ left reads rig second.
     let h = finds_named _ c.args.place _ _ was mid c.image_of.ensures c.in_ok-found.ensures in
     let s = c.show_blocks-ended.ensures in
     shown _ c.args.place was mid is left reads rig second c.in_ok-found.found c.show_blocks-ended.result _ _ _ _ c.status_of.result h.came h.kept s.store s.shown c.status_of.ensures
+
+pub returns-clause-handed : goal.returns-clause-handed
+returns-clause-handed g c = λ h. c.show_blocks-ended.ensures.handed (λ e. h (c.status_of.ensures ∙ ap shown_status e))
