@@ -2,6 +2,7 @@
 
 ghost use Rattle.std.specs.Prelude.{◌≡◌, ◌+◌, ◌≤◌, ◌<◌, ◌^◌, [], IfErr, IfOk, IsErrOf, OnErr, OnOk, length, true, Err};
 ghost use Rattle.dix_base.specs.Told.{Appended, AppendedSome, Rose};
+ghost use Rattle.report_text.specs.Writing.{Wrote};
 ghost use Rattle.run_command.specs.Working.{IsSound};
 ghost use Rattle.target_answer.specs.Headers.{is_layout};
 ghost use Rattle.flip_sweep.specs.Flips.{AreSites, IsSite, sites_of};
@@ -103,10 +104,7 @@ fn go_on<O: Sink>(
 ) -> Result<Stretch, Halt>
     requires { current.last + 1 < 2 ^ 32 }
     ensures current { IfOk result (λ s. s ≡ next_open current verdict) }
-    ensures whole { OnOk result (Appended (row_before site current verdict) (O.taken out.old) (O.taken out.new)) }
-    ensures part { OnErr result (AppendedSome (row_before site current verdict) (O.taken out.old) (O.taken out.new)) }
-    ensures cause { OnErr result (Rose (O.faults out.old) (O.faults out.new)) }
-    ensures count { O.faults out.old ≤ O.faults out.new }
+    ensures wrote { Wrote O.taken O.faults (row_before site current verdict) out.old out.new result }
 {
     let next = current.last + 1;
     if is_same_verdict(current.verdict, verdict) {
@@ -124,10 +122,7 @@ fn go_on<O: Sink>(
 }
 
 fn write_row<O: Sink>(out: &mut O, site: Site, stretch: Stretch) -> Result<(), Halt>
-    ensures whole { OnOk result (Appended (row site stretch) (O.taken out.old) (O.taken out.new)) }
-    ensures part { OnErr result (AppendedSome (row site stretch) (O.taken out.old) (O.taken out.new)) }
-    ensures cause { OnErr result (Rose (O.faults out.old) (O.faults out.new)) }
-    ensures count { O.faults out.old ≤ O.faults out.new }
+    ensures { Wrote O.taken O.faults (row site stretch) out.old out.new result }
 {
     write_all(out, row(site, stretch).as_slice())?;
     Ok(())
@@ -192,29 +187,20 @@ fn sweep_sites<O: Sink>(
 }
 
 fn write_text<O: Sink>(out: &mut O, text: &[u8]) -> Result<(), Halt>
-    ensures whole { OnOk result (Appended text.now (O.taken out.old) (O.taken out.new)) }
-    ensures part { OnErr result (AppendedSome text.now (O.taken out.old) (O.taken out.new)) }
-    ensures cause { OnErr result (Rose (O.faults out.old) (O.faults out.new)) }
-    ensures count { O.faults out.old ≤ O.faults out.new }
+    ensures { Wrote O.taken O.faults text.now out.old out.new result }
 {
     write_all(out, text)?;
     Ok(())
 }
 
 fn write_first<O: Sink>(out: &mut O) -> Result<(), Halt>
-    ensures whole { OnOk result (Appended first_line (O.taken out.old) (O.taken out.new)) }
-    ensures part { OnErr result (AppendedSome first_line (O.taken out.old) (O.taken out.new)) }
-    ensures cause { OnErr result (Rose (O.faults out.old) (O.faults out.new)) }
-    ensures count { O.faults out.old ≤ O.faults out.new }
+    ensures { Wrote O.taken O.faults first_line out.old out.new result }
 {
     write_text(out, b"dix sweep 1\n")
 }
 
 fn write_last<O: Sink>(out: &mut O, counts: Counts) -> Result<(), Halt>
-    ensures whole { OnOk result (Appended (last_line counts) (O.taken out.old) (O.taken out.new)) }
-    ensures part { OnErr result (AppendedSome (last_line counts) (O.taken out.old) (O.taken out.new)) }
-    ensures cause { OnErr result (Rose (O.faults out.old) (O.faults out.new)) }
-    ensures count { O.faults out.old ≤ O.faults out.new }
+    ensures { Wrote O.taken O.faults (last_line counts) out.old out.new result }
 {
     write_text(out, last_line(counts).as_slice())
 }

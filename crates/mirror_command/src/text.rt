@@ -1,7 +1,7 @@
 //! The text of a script on a mirror.
 
-ghost use Rattle.std.specs.Prelude.{◌≡◌, ◌≤◌, OnErr, OnOk};
-ghost use Rattle.dix_base.specs.Told.{Appended, AppendedSome, Rose};
+ghost use Rattle.std.specs.Prelude.{◌≡◌, OnOk};
+ghost use Rattle.report_text.specs.Writing.{Wrote};
 ghost use Rattle.mirror_command.specs.Texts.{mirror_text, repair_line};
 
 use crate::mirrored::Mirrored;
@@ -24,10 +24,7 @@ fn repair_line(repair: Repair) -> Line
 
 /// Writes the report of a script on a mirror: that of its ops, and behind it how many blocks were repaired and lost.
 pub fn print_mirrored<O: Sink>(out: &mut O, run: &Mirrored) -> Result<(), Failed>
-    ensures whole { OnOk result (Appended (mirror_text run.now.mirror.replies.items run.now.repair.repaired run.now.repair.lost) (O.taken out.old) (O.taken out.new)) }
-    ensures part { OnErr result (AppendedSome (mirror_text run.now.mirror.replies.items run.now.repair.repaired run.now.repair.lost) (O.taken out.old) (O.taken out.new)) }
-    ensures cause { OnErr result (Rose (O.faults out.old) (O.faults out.new)) }
-    ensures count { O.faults out.old ≤ O.faults out.new }
+    ensures wrote { Wrote O.taken O.faults (mirror_text run.now.mirror.replies.items run.now.repair.repaired run.now.repair.lost) out.old out.new result }
     ensures handed { OnOk result (O.passed out.new ≡ O.taken out.new) }
 {
     print_report(out, run.mirror.replies())?;

@@ -1,8 +1,8 @@
 //! The report.
 
-ghost use Rattle.std.specs.Prelude.{◌≡◌, ◌+◌, ◌≤◌, ◌<◌, ◌^◌, ◌++◌, length, codes, decimal, OnErr, OnOk};
+ghost use Rattle.std.specs.Prelude.{◌≡◌, ◌+◌, ◌≤◌, ◌++◌, length, codes, decimal, OnOk};
 ghost use Rattle.hex.specs.Hex.{encode_lower};
-ghost use Rattle.dix_base.specs.Told.{Appended, AppendedSome, Rose};
+ghost use Rattle.report_text.specs.Writing.{Wrote};
 ghost use Rattle.report_text.specs.Report.{bad_line, bad_lines, lines_of, op_line, report};
 
 use crate::line::{Line, add, add_number};
@@ -58,10 +58,7 @@ fn line_of(number: u64, block: BadBlock) -> Line
 }
 
 fn print_blocks<O: Sink>(out: &mut O, number: u64, blocks: &[BadBlock]) -> Result<(), Failed>
-    ensures whole { OnOk result (Appended (bad_lines number blocks.now) (O.taken out.old) (O.taken out.new)) }
-    ensures part { OnErr result (AppendedSome (bad_lines number blocks.now) (O.taken out.old) (O.taken out.new)) }
-    ensures cause { OnErr result (Rose (O.faults out.old) (O.faults out.new)) }
-    ensures count { O.faults out.old ≤ O.faults out.new }
+    ensures { Wrote O.taken O.faults (bad_lines number blocks.now) out.old out.new result }
 {
     for block in blocks {
         write_all(out, line_of(number, *block).as_slice())?;
@@ -70,10 +67,7 @@ fn print_blocks<O: Sink>(out: &mut O, number: u64, blocks: &[BadBlock]) -> Resul
 }
 
 fn print_bad<O: Sink>(out: &mut O, number: u64, blocks: &[BadBlock]) -> Result<(), Failed>
-    ensures whole { OnOk result (Appended (op_line number (codes "bad " ++ decimal (length blocks.now)) ++ bad_lines number blocks.now) (O.taken out.old) (O.taken out.new)) }
-    ensures part { OnErr result (AppendedSome (op_line number (codes "bad " ++ decimal (length blocks.now)) ++ bad_lines number blocks.now) (O.taken out.old) (O.taken out.new)) }
-    ensures cause { OnErr result (Rose (O.faults out.old) (O.faults out.new)) }
-    ensures count { O.faults out.old ≤ O.faults out.new }
+    ensures { Wrote O.taken O.faults (op_line number (codes "bad " ++ decimal (length blocks.now)) ++ bad_lines number blocks.now) out.old out.new result }
 {
     let front = bad_front(number, blocks.len() as u64);
     write_all(out, front.as_slice())?;
@@ -81,10 +75,7 @@ fn print_bad<O: Sink>(out: &mut O, number: u64, blocks: &[BadBlock]) -> Result<(
 }
 
 fn print_shown<O: Sink>(out: &mut O, number: u64, bytes: &[u8]) -> Result<(), Failed>
-    ensures whole { OnOk result (Appended (op_line number (encode_lower bytes.now)) (O.taken out.old) (O.taken out.new)) }
-    ensures part { OnErr result (AppendedSome (op_line number (encode_lower bytes.now)) (O.taken out.old) (O.taken out.new)) }
-    ensures cause { OnErr result (Rose (O.faults out.old) (O.faults out.new)) }
-    ensures count { O.faults out.old ≤ O.faults out.new }
+    ensures { Wrote O.taken O.faults (op_line number (encode_lower bytes.now)) out.old out.new result }
 {
     let front = op_front(number);
     write_all(out, front.as_slice())?;
@@ -94,10 +85,7 @@ fn print_shown<O: Sink>(out: &mut O, number: u64, bytes: &[u8]) -> Result<(), Fa
 
 /// The lines of the op of this number.
 fn print_reply<O: Sink>(out: &mut O, number: u64, reply: &Reply) -> Result<(), Failed>
-    ensures whole { OnOk result (Appended (lines_of number reply.now) (O.taken out.old) (O.taken out.new)) }
-    ensures part { OnErr result (AppendedSome (lines_of number reply.now) (O.taken out.old) (O.taken out.new)) }
-    ensures cause { OnErr result (Rose (O.faults out.old) (O.faults out.new)) }
-    ensures count { O.faults out.old ≤ O.faults out.new }
+    ensures { Wrote O.taken O.faults (lines_of number reply.now) out.old out.new result }
 {
     match reply {
         Reply::Silent => Ok(()),
@@ -109,10 +97,7 @@ fn print_reply<O: Sink>(out: &mut O, number: u64, reply: &Reply) -> Result<(), F
 }
 
 fn write_report<O: Sink>(out: &mut O, replies: &[Reply]) -> Result<(), Failed>
-    ensures whole { OnOk result (Appended (report replies.now) (O.taken out.old) (O.taken out.new)) }
-    ensures part { OnErr result (AppendedSome (report replies.now) (O.taken out.old) (O.taken out.new)) }
-    ensures cause { OnErr result (Rose (O.faults out.old) (O.faults out.new)) }
-    ensures count { O.faults out.old ≤ O.faults out.new }
+    ensures { Wrote O.taken O.faults (report replies.now) out.old out.new result }
 {
     write_all(out, b"dix report 1\n")?;
     for (i, reply) in replies.iter().enumerate() {
@@ -129,10 +114,7 @@ fn write_report<O: Sink>(out: &mut O, replies: &[Reply]) -> Result<(), Failed>
 /// `Failed` comes only where the sink's count of faults rose; then a prefix of the report was
 /// written. It takes no memory.
 pub fn print_report<O: Sink>(out: &mut O, replies: &[Reply]) -> Result<(), Failed>
-    ensures whole { OnOk result (Appended (report replies.now) (O.taken out.old) (O.taken out.new)) }
-    ensures part { OnErr result (AppendedSome (report replies.now) (O.taken out.old) (O.taken out.new)) }
-    ensures cause { OnErr result (Rose (O.faults out.old) (O.faults out.new)) }
-    ensures count { O.faults out.old ≤ O.faults out.new }
+    ensures wrote { Wrote O.taken O.faults (report replies.now) out.old out.new result }
     ensures handed { OnOk result (O.passed out.new ≡ O.taken out.new) }
 {
     write_report(out, replies)?;

@@ -1,7 +1,7 @@
 //! The trace.
 
-ghost use Rattle.std.specs.Prelude.{◌≡◌, ◌+◌, ◌≤◌, ◌<◌, ◌++◌, true, length, drop, codes, decimal, OnErr, OnOk};
-ghost use Rattle.dix_base.specs.Told.{Appended, AppendedSome, Rose};
+ghost use Rattle.std.specs.Prelude.{◌≡◌, ◌+◌, ◌≤◌, ◌++◌, true, length, drop, codes, decimal, OnOk};
+ghost use Rattle.report_text.specs.Writing.{Wrote};
 ghost use Rattle.rig_api.specs.Log.{has_key};
 ghost use Rattle.report_text.specs.Trace.{end_text, trace, trace_line};
 
@@ -38,10 +38,7 @@ fn end_of(outcome: Outcome) -> Line
 
 pub(crate) fn print_record<O: Sink>(out: &mut O, what: &Record) -> Result<(), Failed>
     requires { has_key what.now.outcome.sense ≡ true }
-    ensures whole { OnOk result (Appended (trace_line what.now) (O.taken out.old) (O.taken out.new)) }
-    ensures part { OnErr result (AppendedSome (trace_line what.now) (O.taken out.old) (O.taken out.new)) }
-    ensures cause { OnErr result (Rose (O.faults out.old) (O.faults out.new)) }
-    ensures count { O.faults out.old ≤ O.faults out.new }
+    ensures { Wrote O.taken O.faults (trace_line what.now) out.old out.new result }
 {
     write_all(out, front_of(what.dev).as_slice())?;
     write_hex(out, what.cdb.as_slice())?;
@@ -50,10 +47,7 @@ pub(crate) fn print_record<O: Sink>(out: &mut O, what: &Record) -> Result<(), Fa
 
 fn write_trace<O: Sink, R: Rig>(out: &mut O, rig: &R, from: u32) -> Result<(), Failed>
     requires { from ≤ length (R.state rig.now).log }
-    ensures whole { OnOk result (Appended (trace (drop from (R.state rig.now).log)) (O.taken out.old) (O.taken out.new)) }
-    ensures part { OnErr result (AppendedSome (trace (drop from (R.state rig.now).log)) (O.taken out.old) (O.taken out.new)) }
-    ensures cause { OnErr result (Rose (O.faults out.old) (O.faults out.new)) }
-    ensures count { O.faults out.old ≤ O.faults out.new }
+    ensures { Wrote O.taken O.faults (trace (drop from (R.state rig.now).log)) out.old out.new result }
 {
     for i in from..rig.records() {
         print_record(out, rig.logged(i))?;
@@ -70,10 +64,7 @@ fn write_trace<O: Sink, R: Rig>(out: &mut O, rig: &R, from: u32) -> Result<(), F
 /// written. It takes no memory.
 pub fn print_trace<O: Sink, R: Rig>(out: &mut O, rig: &R, from: u32) -> Result<(), Failed>
     requires { from ≤ length (R.state rig.now).log }
-    ensures whole { OnOk result (Appended (trace (drop from (R.state rig.now).log)) (O.taken out.old) (O.taken out.new)) }
-    ensures part { OnErr result (AppendedSome (trace (drop from (R.state rig.now).log)) (O.taken out.old) (O.taken out.new)) }
-    ensures cause { OnErr result (Rose (O.faults out.old) (O.faults out.new)) }
-    ensures count { O.faults out.old ≤ O.faults out.new }
+    ensures wrote { Wrote O.taken O.faults (trace (drop from (R.state rig.now).log)) out.old out.new result }
     ensures handed { OnOk result (O.passed out.new ≡ O.taken out.new) }
 {
     write_trace(out, rig, from)?;

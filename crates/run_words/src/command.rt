@@ -1,7 +1,7 @@
 //! Commands in words.
 
-ghost use Rattle.std.specs.Prelude.{◌≡◌, ◌+◌, ◌≤◌, ◌++◌, OnErr, OnOk, length};
-ghost use Rattle.dix_base.specs.Told.{Appended, AppendedSome, Rose};
+ghost use Rattle.std.specs.Prelude.{◌≡◌, ◌+◌, ◌≤◌, ◌++◌, length};
+ghost use Rattle.report_text.specs.Writing.{Wrote};
 ghost use Rattle.cdb_codec.specs.declared.command.Cdb.{Cdb};
 ghost use Rattle.run_words.specs.Commands.{cdb_words, command_words, rw_words, tag_words};
 
@@ -69,10 +69,7 @@ fn command_words(command: &Cdb) -> Line
 
 /// Writes a command descriptor block in words, or its digits where it is that of no command.
 pub(crate) fn print_cdb<O: Sink>(out: &mut O, cdb: &[u8]) -> Result<(), Failed>
-    ensures whole { OnOk result (Appended (cdb_words cdb.now) (O.taken out.old) (O.taken out.new)) }
-    ensures part { OnErr result (AppendedSome (cdb_words cdb.now) (O.taken out.old) (O.taken out.new)) }
-    ensures cause { OnErr result (Rose (O.faults out.old) (O.faults out.new)) }
-    ensures count { O.faults out.old ≤ O.faults out.new }
+    ensures { Wrote O.taken O.faults (cdb_words cdb.now) out.old out.new result }
 {
     match Cdb::decode(cdb) {
         Ok(command) => write_all(out, command_words(&command).as_slice()),

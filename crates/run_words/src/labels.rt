@@ -1,7 +1,7 @@
 //! Whose blocks a command carried.
 
-ghost use Rattle.std.specs.Prelude.{◌≡◌, ◌≤◌, IfOk, OnErr, OnOk};
-ghost use Rattle.dix_base.specs.Told.{Appended, AppendedSome, Rose};
+ghost use Rattle.std.specs.Prelude.{◌≡◌, IfOk};
+ghost use Rattle.report_text.specs.Writing.{Wrote};
 ghost use Rattle.run_words.specs.Texts.{begun, ended_lines, goes_on, longer, next_run, run_line, run_lines, runs_of};
 
 use crate::guide::{OpSite, site_of};
@@ -69,10 +69,7 @@ fn print_ended<O: Sink>(
     label: Label,
 ) -> Result<Run, Failed>
     ensures next { IfOk result (λ r. r ≡ next_run run label) }
-    ensures whole { OnOk result (Appended (ended_lines sites.now run label) (O.taken out.old) (O.taken out.new)) }
-    ensures part { OnErr result (AppendedSome (ended_lines sites.now run label) (O.taken out.old) (O.taken out.new)) }
-    ensures cause { OnErr result (Rose (O.faults out.old) (O.faults out.new)) }
-    ensures count { O.faults out.old ≤ O.faults out.new }
+    ensures wrote { Wrote O.taken O.faults (ended_lines sites.now run label) out.old out.new result }
 {
     if goes_on(run, label) {
         return Ok(longer(run, label));
@@ -87,10 +84,7 @@ pub(crate) fn print_runs<O: Sink>(
     sites: &[OpSite],
     labels: &[Label],
 ) -> Result<(), Failed>
-    ensures whole { OnOk result (Appended (run_lines sites.now (runs_of labels.now)) (O.taken out.old) (O.taken out.new)) }
-    ensures part { OnErr result (AppendedSome (run_lines sites.now (runs_of labels.now)) (O.taken out.old) (O.taken out.new)) }
-    ensures cause { OnErr result (Rose (O.faults out.old) (O.faults out.new)) }
-    ensures count { O.faults out.old ≤ O.faults out.new }
+    ensures { Wrote O.taken O.faults (run_lines sites.now (runs_of labels.now)) out.old out.new result }
 {
     let Some((label, rest)) = labels.split_first() else {
         return Ok(());

@@ -1,7 +1,7 @@
 //! The blocks that a report lists.
 
-ghost use Rattle.std.specs.Prelude.{◌≡◌, ◌+◌, ◌≤◌, ◌<◌, All, OnErr, OnOk, length};
-ghost use Rattle.dix_base.specs.Told.{Appended, AppendedSome, Rose};
+ghost use Rattle.std.specs.Prelude.{◌≡◌, ◌+◌, ◌≤◌, ◌<◌, All, length};
+ghost use Rattle.report_text.specs.Writing.{Wrote};
 ghost use Rattle.stack_ops.specs.declared.reply.BadBlock.{BadBlock as AnyBlock};
 ghost use Rattle.volume_table.specs.Places.{volume_len};
 ghost use Rattle.volume_table.specs.Tables.{IsTable, Table};
@@ -79,10 +79,7 @@ fn print_listed<O: Sink>(
 ) -> Result<(), Failed>
     requires table { (t : Table) × (t.entries ≡ entries.now) × IsTable t }
     requires inside { All (λ (b : AnyBlock). site.first + b.k < volume_len entries.now) blocks.now }
-    ensures whole { OnOk result (Appended (listed_lines entries.now number site blocks.now) (O.taken out.old) (O.taken out.new)) }
-    ensures part { OnErr result (AppendedSome (listed_lines entries.now number site blocks.now) (O.taken out.old) (O.taken out.new)) }
-    ensures cause { OnErr result (Rose (O.faults out.old) (O.faults out.new)) }
-    ensures count { O.faults out.old ≤ O.faults out.new }
+    ensures { Wrote O.taken O.faults (listed_lines entries.now number site blocks.now) out.old out.new result }
 {
     for block in blocks {
         write_all(out, listed_line(entries, number, site, *block).as_slice())?;
@@ -100,10 +97,7 @@ fn print_reply<O: Sink>(
 ) -> Result<(), Failed>
     requires table { (t : Table) × (t.entries ≡ entries.now) × IsTable t }
     requires inside { IsInside site.first (volume_len entries.now) reply.now }
-    ensures whole { OnOk result (Appended (reply_lines entries.now number site reply.now) (O.taken out.old) (O.taken out.new)) }
-    ensures part { OnErr result (AppendedSome (reply_lines entries.now number site reply.now) (O.taken out.old) (O.taken out.new)) }
-    ensures cause { OnErr result (Rose (O.faults out.old) (O.faults out.new)) }
-    ensures count { O.faults out.old ≤ O.faults out.new }
+    ensures { Wrote O.taken O.faults (reply_lines entries.now number site reply.now) out.old out.new result }
 {
     match reply {
         Reply::Silent => Ok(()),
@@ -123,10 +117,7 @@ pub(crate) fn print_all_listed<O: Sink>(
 ) -> Result<(), Failed>
     requires table { (t : Table) × (t.entries ≡ entries.now) × IsTable t }
     requires inside { AreInside (volume_len entries.now) sites.now replies.now }
-    ensures whole { OnOk result (Appended (all_listed entries.now 1 sites.now replies.now) (O.taken out.old) (O.taken out.new)) }
-    ensures part { OnErr result (AppendedSome (all_listed entries.now 1 sites.now replies.now) (O.taken out.old) (O.taken out.new)) }
-    ensures cause { OnErr result (Rose (O.faults out.old) (O.faults out.new)) }
-    ensures count { O.faults out.old ≤ O.faults out.new }
+    ensures { Wrote O.taken O.faults (all_listed entries.now 1 sites.now replies.now) out.old out.new result }
 {
     let mut rest = sites;
     for (i, reply) in replies.iter().enumerate() {

@@ -1,7 +1,7 @@
 //! The records of a call.
 
-ghost use Rattle.std.specs.Prelude.{◌≡◌, ◌≤◌, ◌++◌, OnErr, OnOk, codes, decimal, drop, length};
-ghost use Rattle.dix_base.specs.Told.{Appended, AppendedSome, Rose};
+ghost use Rattle.std.specs.Prelude.{◌≡◌, ◌≤◌, ◌++◌, codes, decimal, drop, length};
+ghost use Rattle.report_text.specs.Writing.{Wrote};
 ghost use Rattle.run_words.specs.Commands.{command_line};
 ghost use Rattle.run_words.specs.Texts.{record_lines, run_lines, runs_of};
 
@@ -29,10 +29,7 @@ fn front_of(number: u64, dev: u32) -> Line
 
 /// Writes the command of a record, and what came of it.
 fn print_command<O: Sink>(out: &mut O, number: u64, what: &Record) -> Result<(), Failed>
-    ensures whole { OnOk result (Appended (command_line number what.now) (O.taken out.old) (O.taken out.new)) }
-    ensures part { OnErr result (AppendedSome (command_line number what.now) (O.taken out.old) (O.taken out.new)) }
-    ensures cause { OnErr result (Rose (O.faults out.old) (O.faults out.new)) }
-    ensures count { O.faults out.old ≤ O.faults out.new }
+    ensures { Wrote O.taken O.faults (command_line number what.now) out.old out.new result }
 {
     write_all(out, front_of(number, what.dev).as_slice())?;
     print_cdb(out, what.cdb.as_slice())?;
@@ -47,10 +44,7 @@ fn print_entry<O: Sink>(
     what: &Record,
     labels: &[Label],
 ) -> Result<(), Failed>
-    ensures whole { OnOk result (Appended (command_line number what.now ++ run_lines sites.now (runs_of labels.now)) (O.taken out.old) (O.taken out.new)) }
-    ensures part { OnErr result (AppendedSome (command_line number what.now ++ run_lines sites.now (runs_of labels.now)) (O.taken out.old) (O.taken out.new)) }
-    ensures cause { OnErr result (Rose (O.faults out.old) (O.faults out.new)) }
-    ensures count { O.faults out.old ≤ O.faults out.new }
+    ensures { Wrote O.taken O.faults (command_line number what.now ++ run_lines sites.now (runs_of labels.now)) out.old out.new result }
 {
     print_command(out, number, what)?;
     print_runs(out, sites, labels)
@@ -64,10 +58,7 @@ pub(crate) fn print_records<O: Sink, R: Rig>(
     from: u32,
 ) -> Result<(), Failed>
     requires { from ≤ length (R.state rig.now).log }
-    ensures whole { OnOk result (Appended (record_lines 0 sites.now (drop from (R.state rig.now).log)) (O.taken out.old) (O.taken out.new)) }
-    ensures part { OnErr result (AppendedSome (record_lines 0 sites.now (drop from (R.state rig.now).log)) (O.taken out.old) (O.taken out.new)) }
-    ensures cause { OnErr result (Rose (O.faults out.old) (O.faults out.new)) }
-    ensures count { O.faults out.old ≤ O.faults out.new }
+    ensures { Wrote O.taken O.faults (record_lines 0 sites.now (drop from (R.state rig.now).log)) out.old out.new result }
 {
     for i in from..rig.records() {
         print_entry(

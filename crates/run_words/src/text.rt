@@ -1,7 +1,8 @@
 //! The text of a run that is explained.
 
-ghost use Rattle.std.specs.Prelude.{◌≡◌, ◌≤◌, ◌++◌, OnErr, OnOk, drop, length};
-ghost use Rattle.dix_base.specs.Told.{Appended, AppendedSome, Rose};
+ghost use Rattle.std.specs.Prelude.{◌≡◌, ◌≤◌, ◌++◌, OnOk, drop, length};
+ghost use Rattle.report_text.specs.Writing.{Wrote};
+ghost use Rattle.report_text.specs.Writing.{Wrote};
 ghost use Rattle.volume_table.specs.Places.{volume_len};
 ghost use Rattle.volume_table.specs.Tables.{IsTable, Table};
 ghost use Rattle.run_words.specs.Sites.{AreInside, Guides};
@@ -29,10 +30,9 @@ fn print_parts<O: Sink, R: Rig>(
     requires records { from ≤ length (R.state rig.now).log }
     requires table { (t : Table) × (t.entries ≡ entries.now) × IsTable t }
     requires inside { AreInside (volume_len entries.now) sites.now replies.now }
-    ensures whole { OnOk result (Appended (record_lines 0 sites.now (drop from (R.state rig.now).log) ++ all_listed entries.now 1 sites.now replies.now) (O.taken out.old) (O.taken out.new)) }
-    ensures part { OnErr result (AppendedSome (record_lines 0 sites.now (drop from (R.state rig.now).log) ++ all_listed entries.now 1 sites.now replies.now) (O.taken out.old) (O.taken out.new)) }
-    ensures cause { OnErr result (Rose (O.faults out.old) (O.faults out.new)) }
-    ensures count { O.faults out.old ≤ O.faults out.new }
+    ensures { Wrote O.taken O.faults
+        (record_lines 0 sites.now (drop from (R.state rig.now).log) ++ all_listed entries.now 1 sites.now replies.now)
+        out.old out.new result }
 {
     print_records(out, sites, rig, from)?;
     print_all_listed(out, entries, sites, replies)
@@ -53,10 +53,7 @@ pub fn print_words<O: Sink, R: Rig>(
 ) -> Result<(), Failed>
     requires records { from ≤ length (R.state rig.now).log }
     requires guides { Guides guide.now replies.now }
-    ensures whole { OnOk result (Appended (words_text guide.now.sites.items guide.now.entries (drop from (R.state rig.now).log) replies.now) (O.taken out.old) (O.taken out.new)) }
-    ensures part { OnErr result (AppendedSome (words_text guide.now.sites.items guide.now.entries (drop from (R.state rig.now).log) replies.now) (O.taken out.old) (O.taken out.new)) }
-    ensures cause { OnErr result (Rose (O.faults out.old) (O.faults out.new)) }
-    ensures count { O.faults out.old ≤ O.faults out.new }
+    ensures wrote { Wrote O.taken O.faults (words_text guide.now.sites.items guide.now.entries (drop from (R.state rig.now).log) replies.now) out.old out.new result }
     ensures handed { OnOk result (O.passed out.new ≡ O.taken out.new) }
 {
     let (sites, entries) = (guide.sites.as_slice(), guide.entries.as_slice());
@@ -72,14 +69,9 @@ pub fn print_explained<O: Sink, R: Rig>(
 ) -> Result<(), Failed>
     requires records { told.now.run.first ≤ length (R.state rig.now).log }
     requires guides { Guides told.now.guide told.now.run.stack.replies.items }
-    ensures whole { OnOk result (Appended
+    ensures wrote { Wrote O.taken O.faults
         (explained_by told.now.guide.sites.items told.now.guide.entries (drop told.now.run.first (R.state rig.now).log) told.now.run.stack.replies.items)
-        (O.taken out.old) (O.taken out.new)) }
-    ensures part { OnErr result (AppendedSome
-        (explained_by told.now.guide.sites.items told.now.guide.entries (drop told.now.run.first (R.state rig.now).log) told.now.run.stack.replies.items)
-        (O.taken out.old) (O.taken out.new)) }
-    ensures cause { OnErr result (Rose (O.faults out.old) (O.faults out.new)) }
-    ensures count { O.faults out.old ≤ O.faults out.new }
+        out.old out.new result }
     ensures handed { OnOk result (O.passed out.new ≡ O.taken out.new) }
 {
     print_run(out, &told.run)?;

@@ -1,8 +1,8 @@
 //! The lines that tell what came of commands.
 
-ghost use Rattle.std.specs.Prelude.{◌≡◌, ◌+◌, ◌≤◌, ◌++◌, true, codes, decimal, OnErr, OnOk};
+ghost use Rattle.std.specs.Prelude.{◌≡◌, ◌+◌, ◌++◌, true, codes, decimal};
 ghost use Rattle.hex.specs.Hex.{encode_lower};
-ghost use Rattle.dix_base.specs.Told.{Appended, AppendedSome, Rose};
+ghost use Rattle.report_text.specs.Writing.{Wrote};
 ghost use Rattle.rig_api.specs.Log.{has_key};
 ghost use Rattle.vector_lines.specs.Printed.{first_line, head_text, in_of, is_write, out_of, outcome_text, tail_text, vector_line, word_text};
 
@@ -41,10 +41,7 @@ pub fn in_of<'a>(cdb: &[u8], moved: &'a [u8]) -> &'a [u8]
 
 /// Writes a space and the digits of the bytes.
 fn write_digits<O: Sink>(out: &mut O, bytes: &[u8]) -> Result<(), Failed>
-    ensures whole { OnOk result (Appended (codes " " ++ encode_lower bytes.now) (O.taken out.old) (O.taken out.new)) }
-    ensures part { OnErr result (AppendedSome (codes " " ++ encode_lower bytes.now) (O.taken out.old) (O.taken out.new)) }
-    ensures cause { OnErr result (Rose (O.faults out.old) (O.faults out.new)) }
-    ensures count { O.faults out.old ≤ O.faults out.new }
+    ensures { Wrote O.taken O.faults (codes " " ++ encode_lower bytes.now) out.old out.new result }
 {
     write_all(out, b" ")?;
     write_hex(out, bytes)
@@ -52,10 +49,7 @@ fn write_digits<O: Sink>(out: &mut O, bytes: &[u8]) -> Result<(), Failed>
 
 /// Writes a space and the digits of the bytes, or a hyphen where there are none.
 fn write_word<O: Sink>(out: &mut O, bytes: &[u8]) -> Result<(), Failed>
-    ensures whole { OnOk result (Appended (word_text bytes.now) (O.taken out.old) (O.taken out.new)) }
-    ensures part { OnErr result (AppendedSome (word_text bytes.now) (O.taken out.old) (O.taken out.new)) }
-    ensures cause { OnErr result (Rose (O.faults out.old) (O.faults out.new)) }
-    ensures count { O.faults out.old ≤ O.faults out.new }
+    ensures { Wrote O.taken O.faults (word_text bytes.now) out.old out.new result }
 {
     match bytes {
         [] => write_all(out, b" -"),
@@ -89,10 +83,7 @@ fn outcome_of(outcome: Outcome) -> Line
 
 /// Writes the device and the command block.
 fn write_head<O: Sink>(out: &mut O, what: &Record) -> Result<(), Failed>
-    ensures whole { OnOk result (Appended (head_text what.now) (O.taken out.old) (O.taken out.new)) }
-    ensures part { OnErr result (AppendedSome (head_text what.now) (O.taken out.old) (O.taken out.new)) }
-    ensures cause { OnErr result (Rose (O.faults out.old) (O.faults out.new)) }
-    ensures count { O.faults out.old ≤ O.faults out.new }
+    ensures { Wrote O.taken O.faults (head_text what.now) out.old out.new result }
 {
     write_all(out, front_of(what.dev).as_slice())?;
     write_word(out, what.cdb.as_slice())
@@ -101,10 +92,7 @@ fn write_head<O: Sink>(out: &mut O, what: &Record) -> Result<(), Failed>
 /// Writes the outcome, what came back, and the end of the line.
 fn write_tail<O: Sink>(out: &mut O, outcome: Outcome, came: &[u8]) -> Result<(), Failed>
     requires { has_key outcome.sense ≡ true }
-    ensures whole { OnOk result (Appended (tail_text outcome came.now) (O.taken out.old) (O.taken out.new)) }
-    ensures part { OnErr result (AppendedSome (tail_text outcome came.now) (O.taken out.old) (O.taken out.new)) }
-    ensures cause { OnErr result (Rose (O.faults out.old) (O.faults out.new)) }
-    ensures count { O.faults out.old ≤ O.faults out.new }
+    ensures { Wrote O.taken O.faults (tail_text outcome came.now) out.old out.new result }
 {
     write_all(out, outcome_of(outcome).as_slice())?;
     write_word(out, came)?;
@@ -121,10 +109,7 @@ pub fn write_vector<O: Sink>(
     came: &[u8],
 ) -> Result<(), Failed>
     requires { has_key what.now.outcome.sense ≡ true }
-    ensures whole { OnOk result (Appended (vector_line what.now sent.now came.now) (O.taken out.old) (O.taken out.new)) }
-    ensures part { OnErr result (AppendedSome (vector_line what.now sent.now came.now) (O.taken out.old) (O.taken out.new)) }
-    ensures cause { OnErr result (Rose (O.faults out.old) (O.faults out.new)) }
-    ensures count { O.faults out.old ≤ O.faults out.new }
+    ensures { Wrote O.taken O.faults (vector_line what.now sent.now came.now) out.old out.new result }
 {
     write_head(out, what)?;
     write_word(out, sent)?;
@@ -133,10 +118,7 @@ pub fn write_vector<O: Sink>(
 
 /// Writes the first line.
 pub fn write_first<O: Sink>(out: &mut O) -> Result<(), Failed>
-    ensures whole { OnOk result (Appended first_line (O.taken out.old) (O.taken out.new)) }
-    ensures part { OnErr result (AppendedSome first_line (O.taken out.old) (O.taken out.new)) }
-    ensures cause { OnErr result (Rose (O.faults out.old) (O.faults out.new)) }
-    ensures count { O.faults out.old ≤ O.faults out.new }
+    ensures { Wrote O.taken O.faults first_line out.old out.new result }
 {
     write_all(out, b"dix vectors 1\n")
 }

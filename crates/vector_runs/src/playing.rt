@@ -1,7 +1,7 @@
 //! The commands of a text done: those of a list, or those of a script's run.
 
-ghost use Rattle.std.specs.Prelude.{◌≡◌, ◌≤◌, MatchResult, OnErr, OnOk, drop};
-ghost use Rattle.dix_base.specs.Told.{Appended, AppendedSome, Rose};
+ghost use Rattle.std.specs.Prelude.{◌≡◌, MatchResult, OnOk, drop};
+ghost use Rattle.report_text.specs.Writing.{Wrote};
 ghost use Rattle.run_command.specs.Verdict.{CauseStopped, Facts};
 ghost use Rattle.run_command.specs.Working.{IsSound};
 ghost use Rattle.vector_runs.specs.Answered.{CauseUnanswered};
@@ -101,10 +101,7 @@ pub fn play_source<S: Source, R: Rig>(
 /// no memory.
 pub fn print_played<O: Sink, R: Rig>(out: &mut O, rig: &R, played: &Played) -> Result<(), Failed>
     requires { AreLogged played.now (R.state rig.now).log }
-    ensures whole { OnOk result (Appended (played_text played.now (drop (first_of played.now) (R.state rig.now).log)) (O.taken out.old) (O.taken out.new)) }
-    ensures part { OnErr result (AppendedSome (played_text played.now (drop (first_of played.now) (R.state rig.now).log)) (O.taken out.old) (O.taken out.new)) }
-    ensures cause { OnErr result (Rose (O.faults out.old) (O.faults out.new)) }
-    ensures count { O.faults out.old ≤ O.faults out.new }
+    ensures wrote { Wrote O.taken O.faults (played_text played.now (drop (first_of played.now) (R.state rig.now).log)) out.old out.new result }
     ensures handed { OnOk result (O.passed out.new ≡ O.taken out.new) }
 {
     match played {

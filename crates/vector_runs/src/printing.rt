@@ -1,7 +1,7 @@
 //! The text of a list that was done.
 
-ghost use Rattle.std.specs.Prelude.{◌≡◌, ◌+◌, ◌<◌, ◌≤◌, OnErr, OnOk, drop, length};
-ghost use Rattle.dix_base.specs.Told.{Appended, AppendedSome, Rose};
+ghost use Rattle.std.specs.Prelude.{◌≡◌, ◌+◌, ◌<◌, ◌≤◌, OnOk, drop, length};
+ghost use Rattle.report_text.specs.Writing.{Wrote};
 ghost use Rattle.rig_api.specs.Log.{entry_at};
 ghost use Rattle.vector_runs.specs.ListText.{has_sense, line_text, lines_text, list_text};
 
@@ -17,10 +17,7 @@ fn write_line<O: Sink, R: Rig>(
     line: &VectorLine,
 ) -> Result<(), Failed>
     requires { i < length (R.state rig.now).log }
-    ensures whole { OnOk result (Appended (line_text line.now (entry_at (R.state rig.now).log i)) (O.taken out.old) (O.taken out.new)) }
-    ensures part { OnErr result (AppendedSome (line_text line.now (entry_at (R.state rig.now).log i)) (O.taken out.old) (O.taken out.new)) }
-    ensures cause { OnErr result (Rose (O.faults out.old) (O.faults out.new)) }
-    ensures count { O.faults out.old ≤ O.faults out.new }
+    ensures { Wrote O.taken O.faults (line_text line.now (entry_at (R.state rig.now).log i)) out.old out.new result }
 {
     let what = rig.logged(i);
     let came = in_of(what.cdb.as_slice(), rig.moved(i));
@@ -34,10 +31,7 @@ fn write_lines<O: Sink, R: Rig>(
     lines: &[VectorLine],
 ) -> Result<(), Failed>
     requires { from + length lines.now ≤ length (R.state rig.now).log }
-    ensures whole { OnOk result (Appended (lines_text lines.now (drop from (R.state rig.now).log)) (O.taken out.old) (O.taken out.new)) }
-    ensures part { OnErr result (AppendedSome (lines_text lines.now (drop from (R.state rig.now).log)) (O.taken out.old) (O.taken out.new)) }
-    ensures cause { OnErr result (Rose (O.faults out.old) (O.faults out.new)) }
-    ensures count { O.faults out.old ≤ O.faults out.new }
+    ensures { Wrote O.taken O.faults (lines_text lines.now (drop from (R.state rig.now).log)) out.old out.new result }
 {
     let mut i = from;
     for line in lines {
@@ -59,10 +53,7 @@ pub fn print_list<O: Sink, R: Rig>(
     lines: &[VectorLine],
 ) -> Result<(), Failed>
     requires { from + length lines.now ≤ length (R.state rig.now).log }
-    ensures whole { OnOk result (Appended (list_text lines.now (drop from (R.state rig.now).log)) (O.taken out.old) (O.taken out.new)) }
-    ensures part { OnErr result (AppendedSome (list_text lines.now (drop from (R.state rig.now).log)) (O.taken out.old) (O.taken out.new)) }
-    ensures cause { OnErr result (Rose (O.faults out.old) (O.faults out.new)) }
-    ensures count { O.faults out.old ≤ O.faults out.new }
+    ensures wrote { Wrote O.taken O.faults (list_text lines.now (drop from (R.state rig.now).log)) out.old out.new result }
     ensures handed { OnOk result (O.passed out.new ≡ O.taken out.new) }
 {
     write_first(out)?;

@@ -1,7 +1,7 @@
 //! The text of records that say all: what was sent stands in them.
 
-ghost use Rattle.std.specs.Prelude.{◌≤◌, ◌<◌, OnErr, OnOk, drop, length, ◌≡◌};
-ghost use Rattle.dix_base.specs.Told.{Appended, AppendedSome, Rose};
+ghost use Rattle.std.specs.Prelude.{◌≤◌, ◌<◌, OnOk, drop, length, ◌≡◌};
+ghost use Rattle.report_text.specs.Writing.{Wrote};
 ghost use Rattle.rig_api.specs.Log.{entry_at};
 ghost use Rattle.vector_runs.specs.RecordText.{record_text, records_text, vectors_text};
 
@@ -12,10 +12,7 @@ use vector_lines::{in_of, out_of, write_first, write_vector};
 /// Writes the line of record `i`.
 fn write_record<O: Sink, R: Rig>(out: &mut O, rig: &R, i: u32) -> Result<(), Failed>
     requires { i < length (R.state rig.now).log }
-    ensures whole { OnOk result (Appended (record_text (entry_at (R.state rig.now).log i)) (O.taken out.old) (O.taken out.new)) }
-    ensures part { OnErr result (AppendedSome (record_text (entry_at (R.state rig.now).log i)) (O.taken out.old) (O.taken out.new)) }
-    ensures cause { OnErr result (Rose (O.faults out.old) (O.faults out.new)) }
-    ensures count { O.faults out.old ≤ O.faults out.new }
+    ensures { Wrote O.taken O.faults (record_text (entry_at (R.state rig.now).log i)) out.old out.new result }
 {
     let what = rig.logged(i);
     let moved = rig.moved(i);
@@ -27,10 +24,7 @@ fn write_record<O: Sink, R: Rig>(out: &mut O, rig: &R, i: u32) -> Result<(), Fai
 
 fn write_records<O: Sink, R: Rig>(out: &mut O, rig: &R, from: u32) -> Result<(), Failed>
     requires { from ≤ length (R.state rig.now).log }
-    ensures whole { OnOk result (Appended (records_text (drop from (R.state rig.now).log)) (O.taken out.old) (O.taken out.new)) }
-    ensures part { OnErr result (AppendedSome (records_text (drop from (R.state rig.now).log)) (O.taken out.old) (O.taken out.new)) }
-    ensures cause { OnErr result (Rose (O.faults out.old) (O.faults out.new)) }
-    ensures count { O.faults out.old ≤ O.faults out.new }
+    ensures { Wrote O.taken O.faults (records_text (drop from (R.state rig.now).log)) out.old out.new result }
 {
     for i in from..rig.records() {
         write_record(out, rig, i)?;
@@ -45,10 +39,7 @@ fn write_records<O: Sink, R: Rig>(out: &mut O, rig: &R, from: u32) -> Result<(),
 /// no memory.
 pub fn print_records<O: Sink, R: Rig>(out: &mut O, rig: &R, from: u32) -> Result<(), Failed>
     requires { from ≤ length (R.state rig.now).log }
-    ensures whole { OnOk result (Appended (vectors_text (drop from (R.state rig.now).log)) (O.taken out.old) (O.taken out.new)) }
-    ensures part { OnErr result (AppendedSome (vectors_text (drop from (R.state rig.now).log)) (O.taken out.old) (O.taken out.new)) }
-    ensures cause { OnErr result (Rose (O.faults out.old) (O.faults out.new)) }
-    ensures count { O.faults out.old ≤ O.faults out.new }
+    ensures wrote { Wrote O.taken O.faults (vectors_text (drop from (R.state rig.now).log)) out.old out.new result }
     ensures handed { OnOk result (O.passed out.new ≡ O.taken out.new) }
 {
     write_first(out)?;

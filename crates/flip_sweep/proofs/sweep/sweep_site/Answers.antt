@@ -48,7 +48,7 @@ returns-in_err-next-clause-part g c =
     let v = c.in_ok-verdict.verdict in
     on_err c.from_residual-in_err-next.result (breaks_off (rows_at w at) (row_before at s v) (open_rows w at (next_open s v)) _ _ _
     (subst (λ t. Left (rows_at w at) t (g.O.Sink.taken c.args.out.now) (g.O.Sink.taken c.loop-current.out)) (rows_next w at s (next_open s v) v c.in_ok-verdict.ensures (omega (arith, c.loop-current-test.true, c.frame_len-len.ensures.len)) refl) c.loop-current.invariant.rows)
-    c.in_err-next.ensures.part)
+    c.in_err-next.ensures.wrote.part)
 
 pub with-more-requires : goal.with-more-requires
 with-more-requires g c =
@@ -65,11 +65,11 @@ loop-current-preserved g c =
     let l : s.last + 1 < w.script.block + 8 = omega (arith, c.loop-current-test.true, c.frame_len-len.ensures.len) in
     record {
       rows = goes_on (rows_at w at) (row_before at s v) (open_rows w at next) _ _ _
-          (subst (λ t. Left (rows_at w at) t (g.O.Sink.taken c.args.out.now) (g.O.Sink.taken c.loop-current.out)) (rows_next w at s next v c.in_ok-verdict.ensures l c.in_ok-next.ensures.current) inv.rows) c.in_ok-next.ensures.whole;
+          (subst (λ t. Left (rows_at w at) t (g.O.Sink.taken c.args.out.now) (g.O.Sink.taken c.loop-current.out)) (rows_next w at s next v c.in_ok-verdict.ensures l c.in_ok-next.ensures.current) inv.rows) c.in_ok-next.ensures.wrote.whole;
       counted = counted_next w at s next v c.loop-current.counted c.with-more.result _ c.in_ok-verdict.ensures l c.in_ok-next.ensures.current c.with-more.ensures inv.counted;
       small = small_on w s next v c.loop-current.counted c.with-more.result l c.in_ok-next.ensures.current c.with-more.ensures inv.small;
       within = omega (arith, last_on w s next v l c.in_ok-next.ensures.current, l);
-      count = omega (arith, c.go_on.ensures.count, inv.count);
+      count = omega (arith, c.go_on.ensures.wrote.count, inv.count);
     }
 
 less_left : (len last next : ℕ) → next ≡ last + 1 → last + 1 < len → len - next < len - last

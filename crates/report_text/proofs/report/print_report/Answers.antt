@@ -1,7 +1,8 @@
-use Rattle.report_text.specs.Report.{report}
-use Rattle.report_text.proofs.Flow.{whole_is_part}
+use Rattle.report_text.proofs.Written.{stops, flushed}
 use Rattle.report_text.proofs.report.print_report.Goals as goal
-use Rattle.small_laws.proofs.Results.{on_err}
 
-pub returns-clause-part : goal.returns-clause-part
-returns-clause-part g c = on_err c.flush.result (whole_is_part (report c.args.replies.now) _ _ _ c.in_ok-write_report.ensures.whole c.flush.ensures.same)
+pub returns-in_err-write_report-clause-wrote : goal.returns-in_err-write_report-clause-wrote
+returns-in_err-write_report-clause-wrote g c = stops c.from_residual.result c.from_residual.ensures.0 c.in_err-write_report.ensures
+
+pub returns-clause-wrote : goal.returns-clause-wrote
+returns-clause-wrote g c = flushed c.flush.result c.in_ok-write_report.ensures c.flush.ensures.same c.flush.ensures.cause c.flush.ensures.count

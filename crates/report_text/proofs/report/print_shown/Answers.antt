@@ -1,36 +1,18 @@
-use Rattle.std.proofs.Common.{◌++◌, codes, subst, ◌∙◌}
-use Rattle.std.proofs.lemmas.Result.{on_ok_weaker, on_err_weaker}
+use Rattle.std.proofs.Common.{◌++◌, codes, ◌∙◌}
 use Rattle.hex.specs.Hex.{encode_lower}
-use Rattle.dix_base.specs.Told.{Appended, AppendedSome}
-use Rattle.dix_base.proofs.Appending.{appended_both}
-use Rattle.report_text.proofs.Flow.{part_first, part_second}
+use Rattle.report_text.proofs.Written.{as_text, stops_first, wrote_both}
 use Rattle.report_text.proofs.Lines.{shown}
 use Rattle.report_text.proofs.report.print_shown.Goals as goal
-use Rattle.small_laws.proofs.Results.{on_err}
 
-pub returns-in_err-write_all-clause-part : goal.returns-in_err-write_all-clause-part
-returns-in_err-write_all-clause-part g c =
-    let text = shown c.as_slice.result.now c.args.number (encode_lower c.args.bytes.now) (c.as_slice.ensures.value ∙ c.op_front-front.ensures.items) in
-    on_err c.from_residual.result (subst (λ t. AppendedSome t (g.O.Sink.taken c.args.out.now) (g.O.Sink.taken c.write_all.new.out)) text
-    (part_first c.as_slice.result.now (encode_lower c.args.bytes.now ++ codes "\n") _ _ c.in_err-write_all.ensures.part))
+pub returns-in_err-write_all : goal.returns-in_err-write_all
+returns-in_err-write_all g c = as_text (shown c.as_slice.result.now c.args.number (encode_lower c.args.bytes.now) (c.as_slice.ensures.value ∙ c.op_front-front.ensures.items))
+    (stops_first (encode_lower c.args.bytes.now ++ codes "\n") c.from_residual.result c.from_residual.ensures.0 c.in_err-write_all.ensures)
 
-pub returns-in_err-write_hex-clause-part : goal.returns-in_err-write_hex-clause-part
-returns-in_err-write_hex-clause-part g c =
-    let text = shown c.as_slice.result.now c.args.number (encode_lower c.args.bytes.now) (c.as_slice.ensures.value ∙ c.op_front-front.ensures.items) in
-    on_err c.from_residual-in_err-write_hex.result (subst (λ t. AppendedSome t (g.O.Sink.taken c.args.out.now) (g.O.Sink.taken c.write_hex.new.out)) text
-    (part_second c.as_slice.result.now (encode_lower c.args.bytes.now ++ codes "\n") _ _ _ c.in_ok-write_all.ensures.whole
-    (part_first (encode_lower c.args.bytes.now) (codes "\n") _ _ c.in_err-write_hex.ensures.part)))
+pub returns-in_err-write_hex : goal.returns-in_err-write_hex
+returns-in_err-write_hex g c = as_text (shown c.as_slice.result.now c.args.number (encode_lower c.args.bytes.now) (c.as_slice.ensures.value ∙ c.op_front-front.ensures.items))
+    (wrote_both c.from_residual-in_err-write_hex.result c.in_ok-write_all.ensures
+    (stops_first (codes "\n") c.from_residual-in_err-write_hex.result c.from_residual-in_err-write_hex.ensures.0 c.in_err-write_hex.ensures))
 
-pub returns-clause-whole : goal.returns-clause-whole
-returns-clause-whole g c =
-    let text = shown c.as_slice.result.now c.args.number (encode_lower c.args.bytes.now) (c.as_slice.ensures.value ∙ c.op_front-front.ensures.items) in
-    on_ok_weaker c.write_all-2.result (λ w. subst (λ t. Appended t (g.O.Sink.taken c.args.out.now) (g.O.Sink.taken c.write_all-2.new.out)) text
-    (appended_both c.as_slice.result.now (encode_lower c.args.bytes.now ++ codes "\n") _ _ _ c.in_ok-write_all.ensures.whole
-    (appended_both (encode_lower c.args.bytes.now) (codes "\n") _ _ _ c.in_ok-write_hex.ensures.whole w))) c.write_all-2.ensures.whole
-
-pub returns-clause-part : goal.returns-clause-part
-returns-clause-part g c =
-    let text = shown c.as_slice.result.now c.args.number (encode_lower c.args.bytes.now) (c.as_slice.ensures.value ∙ c.op_front-front.ensures.items) in
-    on_err_weaker c.write_all-2.result (λ w. subst (λ t. AppendedSome t (g.O.Sink.taken c.args.out.now) (g.O.Sink.taken c.write_all-2.new.out)) text
-    (part_second c.as_slice.result.now (encode_lower c.args.bytes.now ++ codes "\n") _ _ _ c.in_ok-write_all.ensures.whole
-    (part_second (encode_lower c.args.bytes.now) (codes "\n") _ _ _ c.in_ok-write_hex.ensures.whole w))) c.write_all-2.ensures.part
+pub returns : goal.returns
+returns g c = as_text (shown c.as_slice.result.now c.args.number (encode_lower c.args.bytes.now) (c.as_slice.ensures.value ∙ c.op_front-front.ensures.items))
+    (wrote_both c.write_all-2.result c.in_ok-write_all.ensures (wrote_both c.write_all-2.result c.in_ok-write_hex.ensures c.write_all-2.ensures))

@@ -1,8 +1,8 @@
-use Rattle.std.proofs.Common.{drop}
-use Rattle.report_text.specs.Trace.{trace}
-use Rattle.report_text.proofs.Flow.{whole_is_part}
+use Rattle.report_text.proofs.Written.{stops, flushed}
 use Rattle.report_text.proofs.trace.print_trace.Goals as goal
-use Rattle.small_laws.proofs.Results.{on_err}
 
-pub returns-clause-part : goal.returns-clause-part
-returns-clause-part g c = on_err c.flush.result (whole_is_part (trace (drop c.args.from (g.R.Rig.state c.args.rig.now).log)) _ _ _ c.in_ok-write_trace.ensures.whole c.flush.ensures.same)
+pub returns-in_err-write_trace-clause-wrote : goal.returns-in_err-write_trace-clause-wrote
+returns-in_err-write_trace-clause-wrote g c = stops c.from_residual.result c.from_residual.ensures.0 c.in_err-write_trace.ensures
+
+pub returns-clause-wrote : goal.returns-clause-wrote
+returns-clause-wrote g c = flushed c.flush.result c.in_ok-write_trace.ensures c.flush.ensures.same c.flush.ensures.cause c.flush.ensures.count

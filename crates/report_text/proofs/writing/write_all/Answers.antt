@@ -1,12 +1,17 @@
-use Rattle.std.proofs.Common.{arith}
-use Rattle.report_text.proofs.Flow.{goes_on_by, stops}
+use Rattle.std.proofs.Common.{refl, Err, sym, arith}
+use Rattle.std.proofs.lemmas.List.{take-append-drop, nil_from_length}
+use Rattle.report_text.proofs.Written.{begins, as_left, writes, breaks, ends, failed, took}
 use Rattle.report_text.proofs.writing.write_all.Goals as goal
 
-pub returns-in-Err-clause-part : goal.returns-in-Err-clause-part
-returns-in-Err-clause-part g c = stops c.args.text.now c.loop-rest.rest.now _ _ _ c.loop-rest.invariant.left c.in-Err.ensures.same
+pub loop-rest-init : goal.loop-rest-init
+loop-rest-init g c = begins
+
+pub returns-in-Err : goal.returns-in-Err
+returns-in-Err g c = breaks c.loop-rest.rest.now (Err _) refl c.loop-rest.invariant (failed c.in-Err.field-0 c.in-Err.ensures.same c.in-Err.ensures.cause c.put.ensures.count)
 
 pub loop-rest-preserved : goal.loop-rest-preserved
-loop-rest-preserved g c = record {
-  left = rw c.split_at.ensures.back (goes_on_by c.in-Ok.n c.args.text.now c.loop-rest.rest.now _ _ _ c.loop-rest.invariant.left c.in-Ok.ensures.taken);
-  count = omega (arith, c.put.ensures.count, c.loop-rest.invariant.count);
-}
+loop-rest-preserved g c = as_left (sym c.split_at.ensures.back) (writes (as_left (sym (take-append-drop c.in-Ok.n c.loop-rest.rest.now)) c.loop-rest.invariant)
+    (took c.in-Ok.n c.in-Ok.ensures.taken c.put.ensures.count))
+
+pub returns : goal.returns
+returns g c = ends c.loop-rest.invariant (nil_from_length c.loop-rest.rest.now (omega (arith, c.loop-rest-test.false)))

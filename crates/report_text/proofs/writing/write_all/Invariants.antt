@@ -1,12 +1,9 @@
-use Rattle.std.proofs.Common.{◌≤◌, length}
-use Rattle.report_text.proofs.Flow.{Left}
+use Rattle.std.proofs.Common.{length}
+use Rattle.report_text.proofs.Written.{Writing}
 use Rattle.report_text.proofs.writing.write_all.Given as goal
 
 abbrev pub invariant-loop-rest : goal.invariant-loop-rest
-invariant-loop-rest g l = record {
-  left : Left l.text l.rest (g.O.Sink.taken l.initial.out) (g.O.Sink.taken l.out);
-  count : g.O.Sink.faults l.initial.out ≤ g.O.Sink.faults l.out;
-}
+invariant-loop-rest g l = Writing (g.O.Sink.taken) (g.O.Sink.faults) l.text l.rest l.initial.out l.out
 
 abbrev pub decreases-loop-rest : goal.decreases-loop-rest
 decreases-loop-rest g l = length l.rest

@@ -1,16 +1,8 @@
-use Rattle.std.proofs.Common.{sym, subst}
-use Rattle.std.proofs.lemmas.Result.{on_ok_weaker, on_err_weaker}
-use Rattle.dix_base.specs.Told.{Appended, AppendedSome}
+use Rattle.std.proofs.Common.{sym, ap, ◌∙◌}
 use Rattle.stack_ops.specs.declared.reply.Reply.TheVariants.{Bad}
 use Rattle.run_words.specs.Texts.{reply_lines}
+use Rattle.report_text.proofs.Written.{as_text}
 use Rattle.run_words.proofs.listed.print_reply.Goals as goal
 
-pub returns-in-Bad-clause-whole : goal.returns-in-Bad-clause-whole
-returns-in-Bad-clause-whole g c =
-    on_ok_weaker c.print_listed.result (λ w. subst (λ r. Appended (reply_lines c.args.entries.now c.args.number c.args.site r) (g.O.Sink.taken c.args.out.now) (g.O.Sink.taken c.print_listed.new.out)) (sym c.in-Bad.is)
-    (subst (λ bs. Appended (reply_lines c.args.entries.now c.args.number c.args.site (Bad bs)) (g.O.Sink.taken c.args.out.now) (g.O.Sink.taken c.print_listed.new.out)) c.as_slice.ensures w)) c.print_listed.ensures.whole
-
-pub returns-in-Bad-clause-part : goal.returns-in-Bad-clause-part
-returns-in-Bad-clause-part g c =
-    on_err_weaker c.print_listed.result (λ w. subst (λ r. AppendedSome (reply_lines c.args.entries.now c.args.number c.args.site r) (g.O.Sink.taken c.args.out.now) (g.O.Sink.taken c.print_listed.new.out)) (sym c.in-Bad.is)
-    (subst (λ bs. AppendedSome (reply_lines c.args.entries.now c.args.number c.args.site (Bad bs)) (g.O.Sink.taken c.args.out.now) (g.O.Sink.taken c.print_listed.new.out)) c.as_slice.ensures w)) c.print_listed.ensures.part
+pub returns-in-Bad : goal.returns-in-Bad
+returns-in-Bad g c = as_text (ap (λ bs. reply_lines c.args.entries.now c.args.number c.args.site (Bad bs)) c.as_slice.ensures ∙ ap (reply_lines c.args.entries.now c.args.number c.args.site) (sym c.in-Bad.is)) c.print_listed.ensures

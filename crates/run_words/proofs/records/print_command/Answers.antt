@@ -1,36 +1,20 @@
-use Rattle.std.proofs.Common.{◌++◌, refl, subst, ◌∙◌}
-use Rattle.std.proofs.lemmas.Result.{on_ok_weaker, on_err_weaker}
-use Rattle.dix_base.specs.Told.{Appended, AppendedSome}
-use Rattle.dix_base.proofs.Appending.{appended_both}
-use Rattle.report_text.proofs.Flow.{part_first, part_second}
+use Rattle.std.proofs.Common.{◌++◌, refl, ◌∙◌}
 use Rattle.run_words.specs.Commands.{cdb_words, outcome_words}
 use Rattle.run_words.proofs.Lines.{command_parts}
+use Rattle.report_text.proofs.Written.{as_text, stops_first, wrote_both}
 use Rattle.run_words.proofs.records.print_command.Goals as goal
-use Rattle.small_laws.proofs.Results.{on_err}
 
-pub returns-in_err-write_all-clause-part : goal.returns-in_err-write_all-clause-part
-returns-in_err-write_all-clause-part g c =
-    let text = command_parts c.as_slice.result.now c.args.what.now.cdb (outcome_words c.args.what.now.outcome) c.args.number c.args.what.now (c.as_slice.ensures.value ∙ c.front_of.ensures) refl refl in
-    on_err c.from_residual.result (subst (λ t. AppendedSome t (g.O.Sink.taken c.args.out.now) (g.O.Sink.taken c.write_all.new.out)) text
-    (part_first c.as_slice.result.now (cdb_words c.args.what.now.cdb ++ outcome_words c.args.what.now.outcome) _ _ c.in_err-write_all.ensures.part))
+pub returns-in_err-write_all : goal.returns-in_err-write_all
+returns-in_err-write_all g c = as_text (command_parts c.as_slice.result.now c.args.what.now.cdb (outcome_words c.args.what.now.outcome) c.args.number c.args.what.now (c.as_slice.ensures.value ∙ c.front_of.ensures) refl refl)
+    (stops_first (cdb_words c.args.what.now.cdb ++ outcome_words c.args.what.now.outcome) c.from_residual.result c.from_residual.ensures.0 c.in_err-write_all.ensures)
 
-pub returns-in_err-print_cdb-clause-part : goal.returns-in_err-print_cdb-clause-part
-returns-in_err-print_cdb-clause-part g c =
-    let text = command_parts c.as_slice.result.now c.as_slice-2.result.now (outcome_words c.args.what.now.outcome) c.args.number c.args.what.now (c.as_slice.ensures.value ∙ c.front_of.ensures) c.as_slice-2.ensures refl in
-    on_err c.from_residual-in_err-print_cdb.result (subst (λ t. AppendedSome t (g.O.Sink.taken c.args.out.now) (g.O.Sink.taken c.print_cdb.new.out)) text
-    (part_second c.as_slice.result.now (cdb_words c.as_slice-2.result.now ++ outcome_words c.args.what.now.outcome) _ _ _ c.in_ok-write_all.ensures.whole
-    (part_first (cdb_words c.as_slice-2.result.now) (outcome_words c.args.what.now.outcome) _ _ c.in_err-print_cdb.ensures.part)))
+pub returns-in_err-print_cdb : goal.returns-in_err-print_cdb
+returns-in_err-print_cdb g c =
+    let r = c.from_residual-in_err-print_cdb.result in
+    as_text (command_parts c.as_slice.result.now c.as_slice-2.result.now (outcome_words c.args.what.now.outcome) c.args.number c.args.what.now (c.as_slice.ensures.value ∙ c.front_of.ensures) c.as_slice-2.ensures refl)
+    (wrote_both r c.in_ok-write_all.ensures (stops_first (outcome_words c.args.what.now.outcome) r c.from_residual-in_err-print_cdb.ensures.0 c.in_err-print_cdb.ensures))
 
-pub returns-clause-whole : goal.returns-clause-whole
-returns-clause-whole g c =
-    let text = command_parts c.as_slice.result.now c.as_slice-2.result.now c.as_slice-3.result.now c.args.number c.args.what.now (c.as_slice.ensures.value ∙ c.front_of.ensures) c.as_slice-2.ensures (c.as_slice-3.ensures.value ∙ c.outcome_line.ensures) in
-    on_ok_weaker c.write_all-2.result (λ w. subst (λ t. Appended t (g.O.Sink.taken c.args.out.now) (g.O.Sink.taken c.write_all-2.new.out)) text
-    (appended_both c.as_slice.result.now (cdb_words c.as_slice-2.result.now ++ c.as_slice-3.result.now) _ _ _ c.in_ok-write_all.ensures.whole
-    (appended_both (cdb_words c.as_slice-2.result.now) c.as_slice-3.result.now _ _ _ c.in_ok-print_cdb.ensures.whole w))) c.write_all-2.ensures.whole
-
-pub returns-clause-part : goal.returns-clause-part
-returns-clause-part g c =
-    let text = command_parts c.as_slice.result.now c.as_slice-2.result.now c.as_slice-3.result.now c.args.number c.args.what.now (c.as_slice.ensures.value ∙ c.front_of.ensures) c.as_slice-2.ensures (c.as_slice-3.ensures.value ∙ c.outcome_line.ensures) in
-    on_err_weaker c.write_all-2.result (λ w. subst (λ t. AppendedSome t (g.O.Sink.taken c.args.out.now) (g.O.Sink.taken c.write_all-2.new.out)) text
-    (part_second c.as_slice.result.now (cdb_words c.as_slice-2.result.now ++ c.as_slice-3.result.now) _ _ _ c.in_ok-write_all.ensures.whole
-    (part_second (cdb_words c.as_slice-2.result.now) c.as_slice-3.result.now _ _ _ c.in_ok-print_cdb.ensures.whole w))) c.write_all-2.ensures.part
+pub returns : goal.returns
+returns g c =
+    as_text (command_parts c.as_slice.result.now c.as_slice-2.result.now c.as_slice-3.result.now c.args.number c.args.what.now (c.as_slice.ensures.value ∙ c.front_of.ensures) c.as_slice-2.ensures (c.as_slice-3.ensures.value ∙ c.outcome_line.ensures))
+    (wrote_both c.write_all-2.result c.in_ok-write_all.ensures (wrote_both c.write_all-2.result c.in_ok-print_cdb.ensures c.write_all-2.ensures))

@@ -1,27 +1,29 @@
-use Rattle.std.proofs.Common.{◌≡◌, ◌<◌, ◌+◌, ◌-◌, length, drop, subst, arith}
-use Rattle.report_text.proofs.Flow.{Left, breaks_off, goes_on}
+use Rattle.std.proofs.Common.{◌≡◌, ◌<◌, ◌+◌, ◌-◌, length, drop, ap, arith}
+use Rattle.std.proofs.lemmas.List.{drop_all}
 use Rattle.run_words.specs.Texts.{record_lines}
 use Rattle.run_words.proofs.Lines.{next_record}
+use Rattle.report_text.proofs.Written.{as_left, begins, breaks, ends, writes}
 use Rattle.run_words.proofs.records.print_records.Goals as goal
-use Rattle.small_laws.proofs.Results.{on_err}
 
-pub returns-in_err-print_entry-clause-part : goal.returns-in_err-print_entry-clause-part
-returns-in_err-print_entry-clause-part g c =
+pub loop-i-init : goal.loop-i-init
+loop-i-init g c =
+    let none : 0 ≡ c.args.from - c.args.from = omega arith in
+    as_left (ap (λ k. record_lines k c.args.sites.now (drop c.args.from (g.R.Rig.state c.args.rig.now).log)) none) begins
+
+pub returns-in_err-print_entry : goal.returns-in_err-print_entry
+returns-in_err-print_entry g c =
     let log = (g.R.Rig.state c.args.rig.now).log in
-    let text = record_lines 0 c.args.sites.now (drop c.args.from log) in
     let here : c.loop-i.i < length log = omega (arith, c.loop-i-test.true, c.records-i-end.ensures) in
     let next = next_record (c.loop-i.i - c.args.from) c.from.result c.loop-i.i c.args.sites.now log c.logged.result.now c.labels.result.now here c.from.ensures c.logged.ensures c.labels.ensures in
-    on_err c.from_residual.result (breaks_off text _ _ _ _ _ (subst (λ t. Left text t (g.O.Sink.taken c.args.out.now) (g.O.Sink.taken c.loop-i.out)) next c.loop-i.invariant.left) c.in_err-print_entry.ensures.part)
+    breaks _ c.from_residual.result c.from_residual.ensures.0 (as_left next c.loop-i.invariant) c.in_err-print_entry.ensures
 
 pub loop-i-preserved : goal.loop-i-preserved
 loop-i-preserved g c =
     let log = (g.R.Rig.state c.args.rig.now).log in
-    let text = record_lines 0 c.args.sites.now (drop c.args.from log) in
     let here : c.loop-i.i < length log = omega (arith, c.loop-i-test.true, c.records-i-end.ensures) in
     let next = next_record (c.loop-i.i - c.args.from) c.from.result c.loop-i.i c.args.sites.now log c.logged.result.now c.labels.result.now here c.from.ensures c.logged.ensures c.labels.ensures in
     let step : c.loop-i.i - c.args.from + 1 ≡ c.loop-i.i + 1 - c.args.from = omega (arith, c.loop-i.auto.i) in
-    record {
-      left = subst (λ k. Left text (record_lines k c.args.sites.now (drop (c.loop-i.i + 1) log)) (g.O.Sink.taken c.args.out.now) (g.O.Sink.taken c.print_entry.new.out)) step
-          (goes_on text _ _ _ _ _ (subst (λ t. Left text t (g.O.Sink.taken c.args.out.now) (g.O.Sink.taken c.loop-i.out)) next c.loop-i.invariant.left) c.in_ok-print_entry.ensures.whole);
-      count = omega (arith, c.print_entry.ensures.count, c.loop-i.invariant.count);
-    }
+    as_left (ap (λ k. record_lines k c.args.sites.now (drop (c.loop-i.i + 1) log)) step) (writes (as_left next c.loop-i.invariant) c.in_ok-print_entry.ensures)
+
+pub returns : goal.returns
+returns g c = ends c.loop-i.invariant (ap (record_lines (c.loop-i.i - c.args.from) c.args.sites.now) (drop_all c.loop-i.i (g.R.Rig.state c.args.rig.now).log (omega (arith, c.loop-i-test.false, c.records-i-end.ensures))))

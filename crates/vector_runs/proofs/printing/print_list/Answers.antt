@@ -1,20 +1,15 @@
-use Rattle.std.proofs.Common.{drop}
-use Rattle.report_text.proofs.Flow.{part_first, part_second, whole_is_part}
-use Rattle.vector_lines.specs.Printed.{first_line}
-use Rattle.vector_runs.specs.ListText.{lines_text, list_text}
+use Rattle.std.proofs.Common.{drop, Ok}
+use Rattle.vector_runs.specs.ListText.{lines_text}
+use Rattle.report_text.proofs.Written.{flushed, stops, stops_first, wrote_both}
 use Rattle.vector_runs.proofs.printing.print_list.Goals as goal
-use Rattle.small_laws.proofs.Results.{on_err}
-use Rattle.dix_base.proofs.Appending.{appended_both}
 
-pub returns-in_err-write_first-clause-part : goal.returns-in_err-write_first-clause-part
-returns-in_err-write_first-clause-part g c = on_err c.from_residual.result (part_first first_line (lines_text c.args.lines.now (drop c.args.from (g.R.Rig.state c.args.rig.now).log)) _ _ c.in_err-write_first.ensures.part)
+pub returns-in_err-write_first-clause-wrote : goal.returns-in_err-write_first-clause-wrote
+returns-in_err-write_first-clause-wrote g c = stops_first (lines_text c.args.lines.now (drop c.args.from (g.R.Rig.state c.args.rig.now).log)) c.from_residual.result c.from_residual.ensures.0 c.in_err-write_first.ensures
 
-pub returns-in_err-write_lines-clause-part : goal.returns-in_err-write_lines-clause-part
-returns-in_err-write_lines-clause-part g c =
-    on_err c.from_residual-in_err-write_lines.result (part_second first_line (lines_text c.args.lines.now (drop c.args.from (g.R.Rig.state c.args.rig.now).log)) _ _ _ c.in_ok-write_first.ensures.whole c.in_err-write_lines.ensures.part)
+pub returns-in_err-write_lines-clause-wrote : goal.returns-in_err-write_lines-clause-wrote
+returns-in_err-write_lines-clause-wrote g c =
+    let r = c.from_residual-in_err-write_lines.result in
+    wrote_both r c.in_ok-write_first.ensures (stops r c.from_residual-in_err-write_lines.ensures.0 c.in_err-write_lines.ensures)
 
-pub returns-clause-part : goal.returns-clause-part
-returns-clause-part g c =
-    let log = (g.R.Rig.state c.args.rig.now).log in
-    on_err c.flush.result (whole_is_part (list_text c.args.lines.now (drop c.args.from log)) _ _ _
-    (appended_both first_line (lines_text c.args.lines.now (drop c.args.from log)) _ _ _ c.in_ok-write_first.ensures.whole c.in_ok-write_lines.ensures.whole) c.flush.ensures.same)
+pub returns-clause-wrote : goal.returns-clause-wrote
+returns-clause-wrote g c = flushed c.flush.result (wrote_both (Ok _) c.in_ok-write_first.ensures c.in_ok-write_lines.ensures) c.flush.ensures.same c.flush.ensures.cause c.flush.ensures.count

@@ -1,20 +1,15 @@
-use Rattle.std.proofs.Common.{drop}
-use Rattle.report_text.proofs.Flow.{part_first, part_second, whole_is_part}
-use Rattle.vector_lines.specs.Printed.{first_line}
-use Rattle.vector_runs.specs.RecordText.{records_text, vectors_text}
+use Rattle.std.proofs.Common.{drop, Ok}
+use Rattle.vector_runs.specs.RecordText.{records_text}
+use Rattle.report_text.proofs.Written.{flushed, stops, stops_first, wrote_both}
 use Rattle.vector_runs.proofs.records.print_records.Goals as goal
-use Rattle.small_laws.proofs.Results.{on_err}
-use Rattle.dix_base.proofs.Appending.{appended_both}
 
-pub returns-in_err-write_first-clause-part : goal.returns-in_err-write_first-clause-part
-returns-in_err-write_first-clause-part g c = on_err c.from_residual.result (part_first first_line (records_text (drop c.args.from (g.R.Rig.state c.args.rig.now).log)) _ _ c.in_err-write_first.ensures.part)
+pub returns-in_err-write_first-clause-wrote : goal.returns-in_err-write_first-clause-wrote
+returns-in_err-write_first-clause-wrote g c = stops_first (records_text (drop c.args.from (g.R.Rig.state c.args.rig.now).log)) c.from_residual.result c.from_residual.ensures.0 c.in_err-write_first.ensures
 
-pub returns-in_err-write_records-clause-part : goal.returns-in_err-write_records-clause-part
-returns-in_err-write_records-clause-part g c =
-    on_err c.from_residual-in_err-write_records.result (part_second first_line (records_text (drop c.args.from (g.R.Rig.state c.args.rig.now).log)) _ _ _ c.in_ok-write_first.ensures.whole c.in_err-write_records.ensures.part)
+pub returns-in_err-write_records-clause-wrote : goal.returns-in_err-write_records-clause-wrote
+returns-in_err-write_records-clause-wrote g c =
+    let r = c.from_residual-in_err-write_records.result in
+    wrote_both r c.in_ok-write_first.ensures (stops r c.from_residual-in_err-write_records.ensures.0 c.in_err-write_records.ensures)
 
-pub returns-clause-part : goal.returns-clause-part
-returns-clause-part g c =
-    let log = (g.R.Rig.state c.args.rig.now).log in
-    on_err c.flush.result (whole_is_part (vectors_text (drop c.args.from log)) _ _ _
-    (appended_both first_line (records_text (drop c.args.from log)) _ _ _ c.in_ok-write_first.ensures.whole c.in_ok-write_records.ensures.whole) c.flush.ensures.same)
+pub returns-clause-wrote : goal.returns-clause-wrote
+returns-clause-wrote g c = flushed c.flush.result (wrote_both (Ok _) c.in_ok-write_first.ensures c.in_ok-write_records.ensures) c.flush.ensures.same c.flush.ensures.cause c.flush.ensures.count
