@@ -1,4 +1,4 @@
-use Rattle.std.proofs.Common.{ap, ◌+◌, drop, ◌∙◌, refl}
+use Rattle.std.proofs.Common.{ap, ◌+◌, drop, ◌∙◌}
 use Rattle.std.proofs.lemmas.List.{drop_all}
 use Rattle.report_text.specs.Report.{bad_lines}
 use Rattle.report_text.proofs.Written.{begins, as_left, writes, breaks, ends}
