@@ -1,5 +1,7 @@
 pub mod Words
-pub mod Marks
 pub mod Sentences
+pub mod Details
+pub mod Closer
+pub mod Marks
 pub mod Texts
 pub mod Premises

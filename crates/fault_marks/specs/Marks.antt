@@ -1,4 +1,4 @@
-use Rattle.std.specs.Prelude.{ℕ, ◌+◌, ◌-◌, Bool, false, not, ◌&&◌, eqb, nat_lt, if◌then◌else◌, List, [], ◌∷◌, ◌++◌, length, map, take, replicate, codes, Option, Some, None, Result, Ok, Err}
+use Rattle.std.specs.Prelude.{ℕ, ◌+◌, ◌-◌, Bool, false, not, ◌&&◌, eqb, nat_lt, if◌then◌else◌, List, [], ◌∷◌, ◌++◌, length, map, take, replicate, codes, slice_get, Option, Some, None, Result, Ok, Err}
 use Rattle.std.specs.List.{position}
 use Rattle.script_words.specs.Cuts.{is_printable}
 use Rattle.script_lines.specs.Kinds.{kind_number}
@@ -43,6 +43,14 @@ abbrev pub or_first : Option ℕ → List Span → ℕ
 or_first None words = first_begin words
 or_first (Some place) words = place
 
+abbrev pub begin_or : List Span → Option Span → ℕ
+begin_or words None = first_begin words
+begin_or words (Some w) = w.begin
+
+-- where the word of this number begins, counted from 0; where the first does, if there are fewer
+abbrev pub word_begin : (word : ℕ) → List Span → ℕ
+word_begin word words = begin_or words (slice_get words word)
+
 abbrev pub is_foreign : ℕ → Bool
 is_foreign b = not (is_printable b)
 
@@ -54,24 +62,24 @@ or_zero (Some place) = place
 abbrev pub under_word : ScriptFault → (text line : List ℕ) → ℕ
 under_word fault text line = or_first (word_at_fault fault text (line_begin fault.line text) (spans_of line)) (spans_of line)
 
--- how many bytes of the line stand before the caret: it is under the first foreign byte; under the word at fault; two places behind the last word, where one is missing; else under the first word
-abbrev pub column : ScriptKind → ScriptFault → (text line : List ℕ) → ℕ
-column NotAscii fault text line = or_zero (position is_foreign line)
-column UnknownWord fault text line = under_word fault text line
-column BadNumber fault text line = under_word fault text line
-column ExtraWord fault text line = under_word fault text line
-column MissingWord fault text line = last_end (spans_of line) + 1
-column _ fault text line = first_begin (spans_of line)
+-- how many bytes of the line stand before the caret: it is under the first foreign byte; under the word at fault; two places behind the last word, where one is missing; else under the word of this number
+abbrev pub column : ScriptKind → (word : ℕ) → ScriptFault → (text line : List ℕ) → ℕ
+column NotAscii word fault text line = or_zero (position is_foreign line)
+column UnknownWord word fault text line = under_word fault text line
+column BadNumber word fault text line = under_word fault text line
+column ExtraWord word fault text line = under_word fault text line
+column MissingWord word fault text line = last_end (spans_of line) + 1
+column _ word fault text line = word_begin word (spans_of line)
 
 -- a byte that isn't printable is a question mark
 abbrev pub shown_byte : ℕ → ℕ
 shown_byte b = if is_foreign b then 63 else b
 
 -- the line, and the caret under it
-abbrev pub two_lines : ScriptFault → (text line : List ℕ) → List ℕ
-two_lines fault text line = map shown_byte line ++ (codes "\n" ++ (replicate (column fault.kind fault text line) 32 ++ codes "^\n"))
+abbrev pub two_lines : (word : ℕ) → ScriptFault → (text line : List ℕ) → List ℕ
+two_lines word fault text line = map shown_byte line ++ (codes "\n" ++ (replicate (column fault.kind word fault text line) 32 ++ codes "^\n"))
 
 -- nothing, where the text has no such line, or it has more than 4,096 bytes
-abbrev pub line_marked : ScriptFault → (text : List ℕ) → Option (List ℕ) → List ℕ
-line_marked fault text None = []
-line_marked fault text (Some line) = if nat_lt LONGEST_LINE (length line) then [] else two_lines fault text line
+abbrev pub line_marked : (word : ℕ) → ScriptFault → (text : List ℕ) → Option (List ℕ) → List ℕ
+line_marked word fault text None = []
+line_marked word fault text (Some line) = if nat_lt LONGEST_LINE (length line) then [] else two_lines word fault text line

@@ -5,7 +5,9 @@ use Rattle.script_text.specs.declared.script.Script.{Script}
 use Rattle.stack_ops.specs.declared.op.Op.{Op}
 use Rattle.stack_ops.specs.declared.op.Op.TheVariants.{Write, Fetch, WritePi, FetchPi}
 use Rattle.fault_marks.specs.Marks.{line_marked}
-use Rattle.fault_marks.specs.Sentences.{sentence}
+use Rattle.fault_marks.specs.Closer.{closer_of}
+use Rattle.fault_marks.specs.Details.{detail_text}
+use Rattle.fault_marks.specs.declared.closer.Closer.{Closer}
 use Rattle.fault_marks.specs.Premises.{premise_lines}
 use Rattle.fault_marks.specs.Words.{line_at}
 
@@ -15,9 +17,12 @@ use Rattle.fault_marks.specs.Words.{line_at}
 abbrev pub fault_line : ScriptFault → List ℕ
 fault_line fault = codes "script " ++ (decimal fault.line ++ (codes " " ++ (decimal (kind_number fault.kind) ++ (codes " " ++ (kind_name fault.kind ++ codes "\n")))))
 
+abbrev pub marked_by : Closer → (text : List ℕ) → ScriptFault → List ℕ
+marked_by c text fault = fault_line fault ++ (line_marked c.word fault text (line_at fault.line text) ++ (detail_text fault.kind c.detail ++ codes "\n"))
+
 -- the fault, the line with a caret under what is wrong, and a sentence
 abbrev pub marked_text : (text : List ℕ) → ScriptFault → List ℕ
-marked_text text fault = fault_line fault ++ (line_marked fault text (line_at fault.line text) ++ (sentence fault.kind ++ codes "\n"))
+marked_text text fault = marked_by (closer_of text fault) text fault
 
 -- how many blocks an op asks for: those of a request
 abbrev pub blocks_asked : Op → ℕ

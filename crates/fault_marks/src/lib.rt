@@ -2,10 +2,16 @@
 //! a right script holds.
 #![tactic(auto)]
 
+mod bound;
+mod closer;
+mod detail;
 mod lines;
+mod listed;
 mod marks;
+mod order;
 mod premises;
 mod right;
+mod said;
 mod sentences;
 mod texts;
 mod words;

@@ -2,13 +2,14 @@
 
 ghost use Rattle.std.specs.Prelude.{◌≡◌, ◌+◌, ◌-◌, ◌<◌, ◌≤◌, ◌++◌, IfOk, OnOk, length, map, replicate, take, Some};
 ghost use Rattle.std.specs.List.{position};
-ghost use Rattle.fault_marks.specs.Marks.{column, is_fault, is_foreign, last_end, line_begin, line_marked, or_first, or_zero, shown_byte, two_lines, under_word, word_at_fault};
+ghost use Rattle.fault_marks.specs.Marks.{column, is_fault, is_foreign, last_end, line_begin, line_marked, or_first, or_zero, shown_byte, two_lines, under_word, word_at_fault, word_begin};
 ghost use Rattle.fault_marks.specs.Texts.{marked_text};
 ghost use Rattle.fault_marks.specs.Words.{line_at, spans_of};
 ghost use Rattle.script_text.specs.Language.{script_in};
 
+use crate::closer::closer_of;
+use crate::detail::add_detail;
 use crate::lines::{line_at, text_behind};
-use crate::sentences::sentence;
 use crate::texts::fault_line;
 use crate::words::{Span, first_begin, last_end, spans_of};
 use script_text::{ScriptFault, ScriptKind, read_script};
@@ -101,11 +102,27 @@ fn behind_last(alloc: Global, line: &[u8]) -> Result<usize, AllocError>
     Ok(two_behind(&words, line))
 }
 
-/// How many bytes of the line stand before the caret.
-fn column(alloc: Global, fault: ScriptFault, text: &[u8], line: &[u8]) -> Result<usize, AllocError>
+/// Where the word of this number begins, counted from 0.
+fn word_begin(words: &[Span], word: usize) -> usize
+    ensures { result ≡ word_begin word words.now }
+{
+    match words.get(word) {
+        Some(span) => span.begin,
+        None => first_begin(words),
+    }
+}
+
+/// How many bytes of the line stand before the caret, which may be under the word of this number.
+fn column(
+    alloc: Global,
+    fault: ScriptFault,
+    word: usize,
+    text: &[u8],
+    line: &[u8],
+) -> Result<usize, AllocError>
     requires line { 0 < fault.line }
     requires short { length line.now ≤ LONGEST_LINE }
-    ensures { IfOk result (λ c. c ≡ column fault.kind fault text.now line.now) }
+    ensures { IfOk result (λ c. c ≡ column fault.kind word fault text.now line.now) }
 {
     match fault.kind {
         ScriptKind::NotAscii => Ok(first_foreign(line)),
@@ -113,7 +130,7 @@ fn column(alloc: Global, fault: ScriptFault, text: &[u8], line: &[u8]) -> Result
             under_word(alloc, fault, text, line)
         }
         ScriptKind::MissingWord => behind_last(alloc, line),
-        _ => Ok(first_begin(&spans_of(alloc, line)?)),
+        _ => Ok(word_begin(&spans_of(alloc, line)?, word)),
     }
 }
 
@@ -173,14 +190,15 @@ fn add_spaces(out: &mut Vec<u8>, count: usize) -> Result<(), AllocError>
 fn two_lines(
     alloc: Global,
     fault: ScriptFault,
+    word: usize,
     text: &[u8],
     line: &[u8],
 ) -> Result<Vec<u8>, AllocError>
     requires line { 0 < fault.line }
     requires short { length line.now ≤ LONGEST_LINE }
-    ensures { IfOk result (λ v. v.items ≡ two_lines fault text.now line.now) }
+    ensures { IfOk result (λ v. v.items ≡ two_lines word fault text.now line.now) }
 {
-    let spaces = column(alloc, fault, text, line)?;
+    let spaces = column(alloc, fault, word, text, line)?;
     let mut out = Vec::new(alloc);
     add_shown(&mut out, line)?;
     out.extend_from_slice(b"\n")?;
@@ -190,8 +208,13 @@ fn two_lines(
 }
 
 /// The line of the fault and the caret under it; nothing where the text hasn't the line, or it is too long.
-fn line_marked(alloc: Global, fault: ScriptFault, text: &[u8]) -> Result<Vec<u8>, AllocError>
-    ensures { IfOk result (λ v. v.items ≡ line_marked fault text.now (line_at fault.line text.now)) }
+fn line_marked(
+    alloc: Global,
+    fault: ScriptFault,
+    word: usize,
+    text: &[u8],
+) -> Result<Vec<u8>, AllocError>
+    ensures { IfOk result (λ v. v.items ≡ line_marked word fault text.now (line_at fault.line text.now)) }
 {
     match line_at(text, fault.line) {
         None => Ok(Vec::new(alloc)),
@@ -199,7 +222,7 @@ fn line_marked(alloc: Global, fault: ScriptFault, text: &[u8]) -> Result<Vec<u8>
             if line.len() > LONGEST_LINE {
                 return Ok(Vec::new(alloc));
             }
-            two_lines(alloc, fault, text, line)
+            two_lines(alloc, fault, word, text, line)
         }
     }
 }
@@ -210,10 +233,11 @@ fn line_marked(alloc: Global, fault: ScriptFault, text: &[u8]) -> Result<Vec<u8>
 pub fn marked_text(alloc: Global, text: &[u8], fault: ScriptFault) -> Result<Vec<u8>, AllocError>
     ensures { IfOk result (λ v. v.items ≡ marked_text text.now fault) }
 {
-    let line = line_marked(alloc, fault, text)?;
+    let found = closer_of(alloc, text, fault)?;
+    let line = line_marked(alloc, fault, found.word, text)?;
     let mut out = fault_line(alloc, fault)?;
     out.extend_from_slice(&line)?;
-    out.extend_from_slice(sentence(fault.kind))?;
+    add_detail(&mut out, fault.kind, found.detail)?;
     out.extend_from_slice(b"\n")?;
     Ok(out)
 }

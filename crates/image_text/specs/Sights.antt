@@ -1,4 +1,4 @@
-use Rattle.std.specs.Prelude.{ℕ, Bool, true, false, if◌then◌else◌, List, ◌++◌, codes, decimal, Option, Some, None}
+use Rattle.std.specs.Prelude.{ℕ, Bool, true, false, not, ◌&&◌, if◌then◌else◌, List, [], ◌++◌, codes, decimal, Option, Some, None}
 use Rattle.std.specs.Int.{w16, w32, to_be_bytes}
 use Rattle.hex.specs.Hex.{encode_lower}
 use Rattle.pi_guard.specs.Guards.{crc}
@@ -34,6 +34,13 @@ is_at_fault Escape = false
 is_at_fault (AtFault check) = true
 is_at_fault Good = false
 
+-- the block has no tuple, or one that says that it isn't to be checked
+abbrev pub is_unchecked : Verdict → Bool
+is_unchecked NoTuple = true
+is_unchecked Escape = true
+is_unchecked (AtFault check) = false
+is_unchecked Good = false
+
 abbrev pub verdict_text : Verdict → List ℕ
 verdict_text NoTuple = codes "none"
 verdict_text Escape = codes "escape"
@@ -64,3 +71,7 @@ sight_text ty lba guard t verdict = codes "have " ++ (have_text ty t ++ (codes "
 abbrev pub block_line : (dev : ℕ) → PiType → (size lba : ℕ) → List ℕ → List ℕ
 block_line dev ty size lba b =
     decimal dev ++ (codes " " ++ (decimal lba ++ (codes " " ++ (sight_text ty lba (crc (data_of size b)) (tuple_of size b) (verdict_of ty size lba b) ++ codes "\n"))))
+
+-- the line of a block, unless the blocks at fault alone are told and it isn't one
+abbrev pub block_text : (only_bad : Bool) → (dev : ℕ) → PiType → (size lba : ℕ) → List ℕ → List ℕ
+block_text only_bad dev ty size lba b = if only_bad && not (is_at_fault (verdict_of ty size lba b)) then [] else block_line dev ty size lba b

@@ -36,7 +36,7 @@ pub(crate) fn stored_len(unit: UnitSpec) -> usize
 }
 
 /// The bytes of a block's piece.
-pub(crate) fn piece_len(layout: Layout, unit: UnitSpec) -> usize
+pub fn piece_len(layout: Layout, unit: UnitSpec) -> usize
     ensures { result ≡ piece_len layout unit.ty unit.size }
 {
     match layout {

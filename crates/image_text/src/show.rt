@@ -3,12 +3,22 @@
 ghost use Rattle.std.specs.Prelude.{◌≡◌, ◌+◌, ◌*◌, ◌^◌, ◌<◌, ◌≤◌, IfOk, OnErr, OnOk, codes, length};
 ghost use Rattle.dix_base.specs.Told.{Appended, AppendedSome, Rose};
 ghost use Rattle.target_answer.specs.Frames.{frames_of, stored_size};
-ghost use Rattle.image_text.specs.ShowText.{image_text, count_bad, first_line, last_line, one_if};
+ghost use Rattle.image_text.specs.ShowText.{count_bad, count_unchecked, first_line, image_text, last_line, one_if};
+ghost use Rattle.image_text.specs.Sights.{block_text, is_at_fault, is_unchecked, verdict_of};
 
-use crate::sight::add_block;
+use crate::sight::{Verdict, add_block, is_at_fault, is_unchecked};
 use dix_base::{Failed, Sink};
 use report_text::{Line, add, add_number, write_all};
 use target_answer::{UnitSpec, stored_size};
+
+/// How many blocks are at fault, and how many aren't checked.
+#[derive(Clone, Copy, Debug, PartialEq, Eq)]
+pub struct Tally {
+    /// The blocks at fault.
+    pub bad: u32,
+    /// The blocks that aren't checked: escapes, and all blocks of type 0.
+    pub unchecked: u32,
+}
 
 /// The bytes of a stored block.
 pub(crate) fn stored_len(unit: UnitSpec) -> usize
@@ -25,6 +35,19 @@ pub(crate) fn counted(bad: u32, is_bad: bool) -> u32
     if is_bad { bad + 1 } else { bad }
 }
 
+/// The blocks that were counted, with one of which this is found.
+fn tallied(tally: Tally, verdict: Verdict) -> Tally
+    requires bad { tally.bad + 1 < 2 ^ 32 }
+    requires unchecked { tally.unchecked + 1 < 2 ^ 32 }
+    ensures bad { result.bad ≡ tally.bad + one_if (is_at_fault verdict) }
+    ensures unchecked { result.unchecked ≡ tally.unchecked + one_if (is_unchecked verdict) }
+{
+    Tally {
+        bad: counted(tally.bad, is_at_fault(verdict)),
+        unchecked: counted(tally.unchecked, is_unchecked(verdict)),
+    }
+}
+
 /// Writes the first line.
 pub fn write_first<O: Sink>(out: &mut O) -> Result<(), Failed>
     ensures whole { OnOk result (Appended first_line (O.taken out.old) (O.taken out.new)) }
@@ -35,59 +58,90 @@ pub fn write_first<O: Sink>(out: &mut O) -> Result<(), Failed>
     write_all(out, b"dix show 1\n")
 }
 
-/// Writes a line for each of so many stored blocks, the first of which has this address, and says how
-/// many of them are at fault. A sink that fails has taken a prefix of the lines.
+/// Writes the line of a stored block, unless the blocks at fault alone are told and it isn't one, and says what is found
+/// of it.
+fn write_block<O: Sink>(
+    out: &mut O,
+    only_bad: bool,
+    dev: u32,
+    unit: UnitSpec,
+    lba: u64,
+    block: &[u8],
+) -> Result<Verdict, Failed>
+    requires { length block.now ≡ stored_size unit.ty unit.size }
+    ensures verdict { IfOk result (λ v. v ≡ verdict_of unit.ty unit.size lba block.now) }
+    ensures whole { OnOk result (Appended (block_text only_bad dev unit.ty unit.size lba block.now) (O.taken out.old) (O.taken out.new)) }
+    ensures part { OnErr result (AppendedSome (block_text only_bad dev unit.ty unit.size lba block.now) (O.taken out.old) (O.taken out.new)) }
+    ensures cause { OnErr result (Rose (O.faults out.old) (O.faults out.new)) }
+    ensures count { O.faults out.old ≤ O.faults out.new }
+{
+    let mut line = Line::new();
+    let verdict = add_block(&mut line, dev, unit, lba, block);
+    if only_bad && !is_at_fault(verdict) {
+        return Ok(verdict);
+    }
+    write_all(out, line.as_slice())?;
+    Ok(verdict)
+}
+
+/// Writes a line for each of so many stored blocks, the first of which has this address, or for those at fault alone, and
+/// says how many of them are at fault or unchecked. A sink that fails has taken a prefix of the lines.
 pub fn write_blocks<O: Sink>(
     out: &mut O,
+    only_bad: bool,
     dev: u32,
     unit: UnitSpec,
     first: u64,
     count: u32,
     frames: &[u8],
-) -> Result<u32, Failed>
+) -> Result<Tally, Failed>
     requires stored { length frames.now ≡ count * stored_size unit.ty unit.size }
     requires end { first + count < 2 ^ 64 }
-    ensures bad { IfOk result (λ n. n ≡ count_bad unit.ty unit.size dev first (frames_of (stored_size unit.ty unit.size) count frames.now)) }
-    ensures whole { OnOk result (Appended (image_text dev unit.ty unit.size first (frames_of (stored_size unit.ty unit.size) count frames.now)) (O.taken out.old) (O.taken out.new)) }
-    ensures part { OnErr result (AppendedSome (image_text dev unit.ty unit.size first (frames_of (stored_size unit.ty unit.size) count frames.now)) (O.taken out.old) (O.taken out.new)) }
+    ensures bad { IfOk result (λ t. t.bad ≡ count_bad unit.ty unit.size dev first (frames_of (stored_size unit.ty unit.size) count frames.now)) }
+    ensures unchecked { IfOk result (λ t. t.unchecked ≡ count_unchecked unit.ty unit.size first (frames_of (stored_size unit.ty unit.size) count frames.now)) }
+    ensures whole { OnOk result (Appended (image_text only_bad dev unit.ty unit.size first (frames_of (stored_size unit.ty unit.size) count frames.now)) (O.taken out.old) (O.taken out.new)) }
+    ensures part { OnErr result (AppendedSome (image_text only_bad dev unit.ty unit.size first (frames_of (stored_size unit.ty unit.size) count frames.now)) (O.taken out.old) (O.taken out.new)) }
     ensures cause { OnErr result (Rose (O.faults out.old) (O.faults out.new)) }
     ensures count { O.faults out.old ≤ O.faults out.new }
 {
     let mut rest = frames;
     let mut lba = first;
     let mut left = count;
-    let mut bad = 0u32;
+    let mut tally = Tally {
+        bad: 0,
+        unchecked: 0,
+    };
     while left > 0 {
         let (block, more) = rest.split_at(stored_len(unit));
-        let mut line = Line::new();
-        let is_bad = add_block(&mut line, dev, unit, lba, block);
-        write_all(out, line.as_slice())?;
-        bad = counted(bad, is_bad);
+        let verdict = write_block(out, only_bad, dev, unit, lba, block)?;
+        tally = tallied(tally, verdict);
         rest = more;
         lba += 1;
         left -= 1;
     }
-    Ok(bad)
+    Ok(tally)
 }
 
-fn last_line(count: u32, bad: u32) -> Line
-    ensures { result.items ≡ last_line count bad }
+fn last_line(count: u32, tally: Tally) -> Line
+    ensures { result.items ≡ last_line count tally }
 {
     let mut line = Line::new();
     add(&mut line, b"shown ");
     add_number(&mut line, u64::from(count));
     add(&mut line, b" bad ");
-    add_number(&mut line, u64::from(bad));
+    add_number(&mut line, u64::from(tally.bad));
+    add(&mut line, b" unchecked ");
+    add_number(&mut line, u64::from(tally.unchecked));
     add(&mut line, b"\n");
     line
 }
 
-/// Writes the last line: how many blocks were told, and how many of them are at fault.
-pub fn write_last<O: Sink>(out: &mut O, count: u32, bad: u32) -> Result<(), Failed>
-    ensures whole { OnOk result (Appended (last_line count bad) (O.taken out.old) (O.taken out.new)) }
-    ensures part { OnErr result (AppendedSome (last_line count bad) (O.taken out.old) (O.taken out.new)) }
+/// Writes the last line: how many blocks were told of, and how many of them are at fault or unchecked.
+pub fn write_last<O: Sink>(out: &mut O, count: u32, tally: Tally) -> Result<(), Failed>
+    ensures whole { OnOk result (Appended (last_line count tally) (O.taken out.old) (O.taken out.new)) }
+    ensures part { OnErr result (AppendedSome (last_line count tally) (O.taken out.old) (O.taken out.new)) }
     ensures cause { OnErr result (Rose (O.faults out.old) (O.faults out.new)) }
     ensures count { O.faults out.old ≤ O.faults out.new }
 {
-    write_all(out, last_line(count, bad).as_slice())
+    write_all(out, last_line(count, tally).as_slice())
 }

@@ -1,13 +1,12 @@
 //! What a line says of a stored block.
 
-ghost use Rattle.std.specs.Prelude.{◌≡◌, ◌+◌, ◌≤◌, ◌++◌, is_some, length};
-ghost use Rattle.pi_scrub.specs.Faults.{stored_finding};
+ghost use Rattle.std.specs.Prelude.{◌≡◌, ◌+◌, ◌≤◌, ◌++◌, length};
 ghost use Rattle.pi_tuple.specs.Finds.{is_zero};
 ghost use Rattle.pi_tuple.specs.Tuples.{tuple_in};
 ghost use Rattle.pi_guard.specs.Guards.{crc};
 ghost use Rattle.target_answer.specs.Frames.{data_of, stored_size, tuple_of};
 ghost use Rattle.target_answer.specs.Passing.{is_one};
-ghost use Rattle.image_text.specs.Sights.{block_line, have_text, is_at_fault, ref_text, sight_text, tuple_text, verdict_by, verdict_of, verdict_text, want_text};
+ghost use Rattle.image_text.specs.Sights.{block_line, have_text, is_at_fault, is_unchecked, ref_text, sight_text, tuple_text, verdict_by, verdict_of, verdict_text, want_text};
 
 use crate::line::add_hex;
 use pi_guard::crc16;
@@ -89,12 +88,23 @@ fn verdict_by(block: Protected) -> Verdict
     }
 }
 
-fn is_at_fault(verdict: Verdict) -> bool
+/// Whether a block is at fault.
+pub(crate) fn is_at_fault(verdict: Verdict) -> bool
     ensures { result ≡ is_at_fault verdict }
 {
     match verdict {
         Verdict::AtFault(_) => true,
         Verdict::NoTuple | Verdict::Escape | Verdict::Good => false,
+    }
+}
+
+/// Whether a block isn't checked: it has no tuple, or one that says so.
+pub(crate) fn is_unchecked(verdict: Verdict) -> bool
+    ensures { result ≡ is_unchecked verdict }
+{
+    match verdict {
+        Verdict::NoTuple | Verdict::Escape => true,
+        Verdict::AtFault(_) | Verdict::Good => false,
     }
 }
 
@@ -165,12 +175,12 @@ fn add_want(line: &mut Line, ty: PiType, lba: u64, guard: u16)
     add_ref(line, ty, lba);
 }
 
-/// What is told of a block under a tuple, and whether it is at fault.
-fn add_protected(line: &mut Line, block: Protected) -> bool
+/// What is told of a block under a tuple, and what is found of it.
+fn add_protected(line: &mut Line, block: Protected) -> Verdict
     requires { length line.old.items ≤ 128 }
     ensures items { line.new.items ≡ line.old.items ++ sight_text block.ty block.lba block.guard block.tuple (verdict_by block.ty block.lba block.guard block.tuple) }
     ensures bound { length line.new.items ≤ length line.old.items + 64 }
-    ensures fault { result ≡ is_at_fault (verdict_by block.ty block.lba block.guard block.tuple) }
+    ensures verdict { result ≡ verdict_by block.ty block.lba block.guard block.tuple }
 {
     let verdict = verdict_by(block);
     add(line, b"have ");
@@ -179,20 +189,20 @@ fn add_protected(line: &mut Line, block: Protected) -> bool
     add_want(line, block.ty, block.lba, block.guard);
     add(line, b" ");
     add(line, verdict_text(verdict));
-    is_at_fault(verdict)
+    verdict
 }
 
-/// What is told of a stored block, and whether it is at fault.
-fn add_sight(line: &mut Line, unit: UnitSpec, lba: u64, block: &[u8]) -> bool
+/// What is told of a stored block, and what is found of it.
+fn add_sight(line: &mut Line, unit: UnitSpec, lba: u64, block: &[u8]) -> Verdict
     requires room { length line.old.items ≤ 128 }
     requires stored { length block.now ≡ stored_size unit.ty unit.size }
     ensures items { line.new.items ≡ line.old.items ++ sight_text unit.ty lba (crc (data_of unit.size block.now)) (tuple_of unit.size block.now) (verdict_of unit.ty unit.size lba block.now) }
     ensures bound { length line.new.items ≤ length line.old.items + 64 }
-    ensures fault { result ≡ is_some (stored_finding unit.ty unit.size lba block.now) }
+    ensures verdict { result ≡ verdict_of unit.ty unit.size lba block.now }
 {
     if is_zero(unit.ty) {
         add(line, b"have - - - want - - none");
-        return false;
+        return Verdict::NoTuple;
     }
     let (data, behind) = block.split_at(unit.size as usize);
     let block = Protected {
@@ -204,18 +214,18 @@ fn add_sight(line: &mut Line, unit: UnitSpec, lba: u64, block: &[u8]) -> bool
     add_protected(line, block)
 }
 
-/// Puts the line of a stored block behind the line, and says whether the block is at fault.
-pub fn add_block(line: &mut Line, dev: u32, unit: UnitSpec, lba: u64, block: &[u8]) -> bool
+/// Puts the line of a stored block behind the line, and says what is found of the block.
+pub fn add_block(line: &mut Line, dev: u32, unit: UnitSpec, lba: u64, block: &[u8]) -> Verdict
     requires room { length line.old.items ≤ 16 }
     requires stored { length block.now ≡ stored_size unit.ty unit.size }
     ensures items { line.new.items ≡ line.old.items ++ block_line dev unit.ty unit.size lba block.now }
-    ensures fault { result ≡ is_some (stored_finding unit.ty unit.size lba block.now) }
+    ensures verdict { result ≡ verdict_of unit.ty unit.size lba block.now }
 {
     add_number(line, u64::from(dev));
     add(line, b" ");
     add_number(line, lba);
     add(line, b" ");
-    let is_bad = add_sight(line, unit, lba, block);
+    let verdict = add_sight(line, unit, lba, block);
     add(line, b"\n");
-    is_bad
+    verdict
 }

@@ -8,5 +8,5 @@ pub returns-in-Err-clause-shown : goal.returns-in-Err-clause-shown
 returns-in-Err-clause-shown g c =
     let us = units_open c.args.image.now in (
       rise _ _ _ c.show_all-ended.ensures.sinks c.in-Err.ensures.cause,
-      some_ended c.show_all-ended.result (text_of us c.args.place) us c.args.place _ _ _ _ _ _ _ _ c.flush.ensures.same c.show_all-ended.ensures.shown,
+      some_ended c.show_all-ended.result (text_of c.args.only_bad us c.args.place) us c.args.place _ _ _ _ _ _ _ _ c.flush.ensures.same c.show_all-ended.ensures.shown,
     )

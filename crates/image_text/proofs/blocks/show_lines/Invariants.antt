@@ -8,7 +8,7 @@ use Rattle.image_text.proofs.blocks.show_lines.Given as goal
 abbrev pub invariant-loop-left : goal.invariant-loop-left
 invariant-loop-left g l = record {
   there : IsStretch (units_open l.image) l.left;
-  lines : SoFar (units_open l.image) l.fn.place l.left (g.S.Store.state l.initial.store).bytes l.bad (g.O.Sink.taken l.initial.out) (g.O.Sink.taken l.out);
+  lines : SoFar l.only_bad (units_open l.image) l.fn.place l.left (g.S.Store.state l.initial.store).bytes l.tally (g.O.Sink.taken l.initial.out) (g.O.Sink.taken l.out);
   room : length l.room ≡ length l.initial.room;
   store : WasRead (g.S.Store.state l.initial.store) (g.S.Store.state l.store);
   sinks : g.O.Sink.faults l.initial.out ≤ g.O.Sink.faults l.out;

@@ -1,0 +1,128 @@
+//! What is wrong with a line of a script over its volume.
+
+ghost use Rattle.std.specs.Prelude.{◌≡◌, eqb, slice_get, take, Some};
+ghost use Rattle.std.specs.List.{list_any, position};
+ghost use Rattle.script_text.specs.Bindings.{is_at_medium, is_shift, shifts};
+ghost use Rattle.fault_marks.specs.Closer.{bound_closer, bound_fault, bound_line, bound_op, request_closer, shift_closer};
+
+use crate::closer::{Closer, at_word, plain};
+use crate::detail::Detail;
+use fault_schedule::{Crossing, FaultKind, FaultLine};
+use script_text::{Script, ScriptKind, request_at};
+use stack_ops::Op;
+
+fn is_shift(kind: &FaultKind) -> bool
+    ensures { result ≡ is_shift kind.now }
+{
+    match kind {
+        FaultKind::Flip { .. } => false,
+        FaultKind::Shift { .. } => true,
+    }
+}
+
+fn is_at_medium(at: Crossing) -> bool
+    ensures { result ≡ is_at_medium at }
+{
+    match at {
+        Crossing::TargetToMedium => true,
+        _ => false,
+    }
+}
+
+/// Whether one of these lines shifts the op of this number.
+fn is_shifted(lines: &[FaultLine], op: u32) -> bool
+    ensures { result ≡ list_any (shifts op) lines.now }
+{
+    lines.iter().any(|line| op == line.op && is_shift(&line.kind))
+}
+
+/// A line behind these whose request has the block.
+fn shift_closer(earlier: &[FaultLine], line: &FaultLine) -> Closer
+    ensures { result ≡ shift_closer earlier.now line.now line.now.kind }
+{
+    if !is_shift(&line.kind) {
+        return plain();
+    }
+    if is_at_medium(line.at) {
+        return at_word(Detail::ShiftStored, 2);
+    }
+    if is_shifted(earlier, line.op) {
+        return at_word(Detail::ShiftTwice, 1);
+    }
+    at_word(Detail::ShiftAway, 3)
+}
+
+/// A line behind these, whose op is this request, if any.
+fn request_closer(
+    earlier: &[FaultLine],
+    line: &FaultLine,
+    request: Option<(u64, u32)>,
+) -> Closer
+    ensures { result ≡ request_closer earlier.now line.now request }
+{
+    match request {
+        None => at_word(Detail::NoRequest, 1),
+        Some((_, blocks)) => {
+            if blocks <= line.k {
+                return at_word(Detail::NoBlock { blocks }, 2);
+            }
+            shift_closer(earlier, line)
+        }
+    }
+}
+
+/// A fault line, counted from 0.
+fn bound_fault(script: &Script, i: usize) -> Closer
+    ensures { result ≡ bound_fault script.now i (slice_get script.now.faults i) }
+{
+    let faults = script.faults.as_slice();
+    match faults.get(i) {
+        None => plain(),
+        Some(line) => request_closer(
+            &faults[..i],
+            line,
+            request_at(script.ops.as_slice(), line.op),
+        ),
+    }
+}
+
+/// An op, counted from 0.
+fn bound_op(ops: &[Op], i: usize) -> Closer
+    ensures { result ≡ bound_op (slice_get ops.now i) }
+{
+    match ops.get(i) {
+        None => plain(),
+        Some(Op::Overwrite { .. }) => at_word(Detail::NoStored, 1),
+        Some(_) => at_word(Detail::PastVolume, 1),
+    }
+}
+
+fn place_of(lines: &[u32], line: u32) -> Option<usize>
+    ensures { result ≡ position (eqb line) lines.now }
+{
+    lines.iter().position(|number| line == *number)
+}
+
+/// The line of this place among those of the faults and ops.
+fn bound_line(script: &Script, place: usize) -> Closer
+    ensures { result ≡ bound_line script.now (Some place) }
+{
+    let faults = script.faults.as_slice().len();
+    if place < faults {
+        return bound_fault(script, place);
+    }
+    bound_op(script.ops.as_slice(), place - faults)
+}
+
+/// What is wrong with the line of this number.
+pub(crate) fn bound_closer(kind: ScriptKind, script: &Script, line: u32) -> Closer
+    ensures { result ≡ bound_closer kind script.now line }
+{
+    if let ScriptKind::NoIntegrity = kind {
+        return at_word(Detail::NoTuples, 0);
+    }
+    match place_of(script.lines.as_slice(), line) {
+        Some(place) => bound_line(script, place),
+        None => plain(),
+    }
+}
