@@ -1,8 +1,8 @@
 //! The text that tells in which blocks two places differ.
 
-ghost use Rattle.std.specs.Prelude.{◌≡◌, ◌+◌, ◌*◌, ◌^◌, ◌<◌, ◌≤◌, ◌++◌, true, IfOk, OnErr, OnOk, length};
+ghost use Rattle.std.specs.Prelude.{◌≡◌, ◌+◌, ◌*◌, ◌^◌, ◌<◌, ◌≤◌, ◌++◌, true, IfOk, length};
 ghost use Rattle.pi_tuple.specs.Tuples.{tuple_in};
-ghost use Rattle.dix_base.specs.Told.{Appended, AppendedSome, Rose};
+ghost use Rattle.report_text.specs.Writing.{Wrote};
 ghost use Rattle.target_answer.specs.Frames.{frames_of, stored_size};
 ghost use Rattle.image_text.specs.DiffText.{compared_line, count_differ, counted_tag, diff_first, diff_line, diff_lines, differences, differs, have_tuples, line_of, side_text, tuples_differ, what_text, word_if};
 
@@ -168,10 +168,7 @@ fn difference_line(pair: Pair, lba: u64, other: u64, found: WhatDiffers) -> Line
 
 /// Writes the first line.
 pub fn write_diff_first<O: Sink>(out: &mut O) -> Result<(), Failed>
-    ensures whole { OnOk result (Appended diff_first (O.taken out.old) (O.taken out.new)) }
-    ensures part { OnErr result (AppendedSome diff_first (O.taken out.old) (O.taken out.new)) }
-    ensures cause { OnErr result (Rose (O.faults out.old) (O.faults out.new)) }
-    ensures count { O.faults out.old ≤ O.faults out.new }
+    ensures { Wrote O.taken O.faults diff_first out.old out.new result }
 {
     write_all(out, b"dix diff 1\n")
 }
@@ -188,10 +185,7 @@ fn write_difference<O: Sink>(
     requires one { length one.now ≡ stored_size pair.unit.ty pair.unit.size }
     requires two { length two.now ≡ stored_size pair.other_unit.ty pair.other_unit.size }
     ensures differ { IfOk result (λ is_other. is_other ≡ differs (differences pair lba other one.now two.now)) }
-    ensures whole { OnOk result (Appended (diff_line pair lba other one.now two.now) (O.taken out.old) (O.taken out.new)) }
-    ensures part { OnErr result (AppendedSome (diff_line pair lba other one.now two.now) (O.taken out.old) (O.taken out.new)) }
-    ensures cause { OnErr result (Rose (O.faults out.old) (O.faults out.new)) }
-    ensures count { O.faults out.old ≤ O.faults out.new }
+    ensures wrote { Wrote O.taken O.faults (diff_line pair lba other one.now two.now) out.old out.new result }
 {
     let found = differences(pair, lba, other, one, two);
     if !differs(found) {
@@ -220,16 +214,11 @@ pub fn write_differences<O: Sink>(
     ensures differ { IfOk result (λ n. n ≡ count_differ pair first other_first
         (frames_of (stored_size pair.unit.ty pair.unit.size) count frames.now)
         (frames_of (stored_size pair.other_unit.ty pair.other_unit.size) count others.now)) }
-    ensures whole { OnOk result (Appended (diff_lines pair first other_first
+    ensures wrote { Wrote O.taken O.faults
+        (diff_lines pair first other_first
         (frames_of (stored_size pair.unit.ty pair.unit.size) count frames.now)
         (frames_of (stored_size pair.other_unit.ty pair.other_unit.size) count others.now))
-        (O.taken out.old) (O.taken out.new)) }
-    ensures part { OnErr result (AppendedSome (diff_lines pair first other_first
-        (frames_of (stored_size pair.unit.ty pair.unit.size) count frames.now)
-        (frames_of (stored_size pair.other_unit.ty pair.other_unit.size) count others.now))
-        (O.taken out.old) (O.taken out.new)) }
-    ensures cause { OnErr result (Rose (O.faults out.old) (O.faults out.new)) }
-    ensures count { O.faults out.old ≤ O.faults out.new }
+        out.old out.new result }
 {
     let len = stored_len(pair.unit);
     let other_len = stored_len(pair.other_unit);
@@ -267,10 +256,7 @@ fn compared_line(count: u32, differ: u32) -> Line
 
 /// Writes the last line: how many blocks were compared, and how many of them differ.
 pub fn write_compared<O: Sink>(out: &mut O, count: u32, differ: u32) -> Result<(), Failed>
-    ensures whole { OnOk result (Appended (compared_line count differ) (O.taken out.old) (O.taken out.new)) }
-    ensures part { OnErr result (AppendedSome (compared_line count differ) (O.taken out.old) (O.taken out.new)) }
-    ensures cause { OnErr result (Rose (O.faults out.old) (O.faults out.new)) }
-    ensures count { O.faults out.old ≤ O.faults out.new }
+    ensures { Wrote O.taken O.faults (compared_line count differ) out.old out.new result }
 {
     let line = compared_line(count, differ);
     write_all(out, line.as_slice())

@@ -1,7 +1,7 @@
 //! Blocks to a dump.
 
-ghost use Rattle.std.specs.Prelude.{◌≡◌, ◌*◌, ◌≤◌, OnErr, OnOk, length, Err};
-ghost use Rattle.dix_base.specs.Told.{Appended, AppendedSome, Rose};
+ghost use Rattle.std.specs.Prelude.{◌≡◌, ◌*◌, ◌≤◌, length, Err};
+ghost use Rattle.report_text.specs.Writing.{Wrote};
 ghost use Rattle.target_answer.specs.Frames.{frames_of, stored_size};
 ghost use Rattle.target_answer.specs.Headers.{image_size};
 ghost use Rattle.image_rig.specs.LayoutPlaces.{block_len};
@@ -42,12 +42,7 @@ fn write_pieces<O: Sink>(
     frames: &[u8],
 ) -> Result<(), Failed>
     requires { length frames.now ≡ count * stored_size unit.ty unit.size }
-    ensures whole { OnOk result (Appended (dump_of layout unit.size (frames_of (stored_size unit.ty unit.size) count frames.now))
-        (O.taken out.old) (O.taken out.new)) }
-    ensures part { OnErr result (AppendedSome (dump_of layout unit.size (frames_of (stored_size unit.ty unit.size) count frames.now))
-        (O.taken out.old) (O.taken out.new)) }
-    ensures cause { OnErr result (Rose (O.faults out.old) (O.faults out.new)) }
-    ensures count { O.faults out.old ≤ O.faults out.new }
+    ensures { Wrote O.taken O.faults (dump_of layout unit.size (frames_of (stored_size unit.ty unit.size) count frames.now)) out.old out.new result }
 {
     let mut rest = frames;
     let mut left = count;
@@ -69,12 +64,7 @@ fn write_dump<O: Sink>(
     frames: &[u8],
 ) -> Result<(), Failed>
     requires { length frames.now ≡ count * stored_size unit.ty unit.size }
-    ensures whole { OnOk result (Appended (dump_of layout unit.size (frames_of (stored_size unit.ty unit.size) count frames.now))
-        (O.taken out.old) (O.taken out.new)) }
-    ensures part { OnErr result (AppendedSome (dump_of layout unit.size (frames_of (stored_size unit.ty unit.size) count frames.now))
-        (O.taken out.old) (O.taken out.new)) }
-    ensures cause { OnErr result (Rose (O.faults out.old) (O.faults out.new)) }
-    ensures count { O.faults out.old ≤ O.faults out.new }
+    ensures { Wrote O.taken O.faults (dump_of layout unit.size (frames_of (stored_size unit.ty unit.size) count frames.now)) out.old out.new result }
 {
     match layout {
         Layout::Interleaved => write_all(out, frames),

@@ -1,7 +1,7 @@
 //! The text that tells the stored blocks of a place.
 
-ghost use Rattle.std.specs.Prelude.{◌≡◌, ◌+◌, ◌*◌, ◌^◌, ◌<◌, ◌≤◌, IfOk, OnErr, OnOk, codes, length};
-ghost use Rattle.dix_base.specs.Told.{Appended, AppendedSome, Rose};
+ghost use Rattle.std.specs.Prelude.{◌≡◌, ◌+◌, ◌*◌, ◌^◌, ◌<◌, IfOk, length};
+ghost use Rattle.report_text.specs.Writing.{Wrote};
 ghost use Rattle.target_answer.specs.Frames.{frames_of, stored_size};
 ghost use Rattle.image_text.specs.ShowText.{count_bad, count_unchecked, first_line, image_text, last_line, one_if};
 ghost use Rattle.image_text.specs.Sights.{block_text, is_at_fault, is_unchecked, verdict_of};
@@ -50,10 +50,7 @@ fn tallied(tally: Tally, verdict: Verdict) -> Tally
 
 /// Writes the first line.
 pub fn write_first<O: Sink>(out: &mut O) -> Result<(), Failed>
-    ensures whole { OnOk result (Appended first_line (O.taken out.old) (O.taken out.new)) }
-    ensures part { OnErr result (AppendedSome first_line (O.taken out.old) (O.taken out.new)) }
-    ensures cause { OnErr result (Rose (O.faults out.old) (O.faults out.new)) }
-    ensures count { O.faults out.old ≤ O.faults out.new }
+    ensures { Wrote O.taken O.faults first_line out.old out.new result }
 {
     write_all(out, b"dix show 1\n")
 }
@@ -70,10 +67,7 @@ fn write_block<O: Sink>(
 ) -> Result<Verdict, Failed>
     requires { length block.now ≡ stored_size unit.ty unit.size }
     ensures verdict { IfOk result (λ v. v ≡ verdict_of unit.ty unit.size lba block.now) }
-    ensures whole { OnOk result (Appended (block_text only_bad dev unit.ty unit.size lba block.now) (O.taken out.old) (O.taken out.new)) }
-    ensures part { OnErr result (AppendedSome (block_text only_bad dev unit.ty unit.size lba block.now) (O.taken out.old) (O.taken out.new)) }
-    ensures cause { OnErr result (Rose (O.faults out.old) (O.faults out.new)) }
-    ensures count { O.faults out.old ≤ O.faults out.new }
+    ensures wrote { Wrote O.taken O.faults (block_text only_bad dev unit.ty unit.size lba block.now) out.old out.new result }
 {
     let mut line = Line::new();
     let verdict = add_block(&mut line, dev, unit, lba, block);
@@ -99,10 +93,9 @@ pub fn write_blocks<O: Sink>(
     requires end { first + count < 2 ^ 64 }
     ensures bad { IfOk result (λ t. t.bad ≡ count_bad unit.ty unit.size dev first (frames_of (stored_size unit.ty unit.size) count frames.now)) }
     ensures unchecked { IfOk result (λ t. t.unchecked ≡ count_unchecked unit.ty unit.size first (frames_of (stored_size unit.ty unit.size) count frames.now)) }
-    ensures whole { OnOk result (Appended (image_text only_bad dev unit.ty unit.size first (frames_of (stored_size unit.ty unit.size) count frames.now)) (O.taken out.old) (O.taken out.new)) }
-    ensures part { OnErr result (AppendedSome (image_text only_bad dev unit.ty unit.size first (frames_of (stored_size unit.ty unit.size) count frames.now)) (O.taken out.old) (O.taken out.new)) }
-    ensures cause { OnErr result (Rose (O.faults out.old) (O.faults out.new)) }
-    ensures count { O.faults out.old ≤ O.faults out.new }
+    ensures wrote { Wrote O.taken O.faults
+        (image_text only_bad dev unit.ty unit.size first (frames_of (stored_size unit.ty unit.size) count frames.now))
+        out.old out.new result }
 {
     let mut rest = frames;
     let mut lba = first;
@@ -138,10 +131,7 @@ fn last_line(count: u32, tally: Tally) -> Line
 
 /// Writes the last line: how many blocks were told of, and how many of them are at fault or unchecked.
 pub fn write_last<O: Sink>(out: &mut O, count: u32, tally: Tally) -> Result<(), Failed>
-    ensures whole { OnOk result (Appended (last_line count tally) (O.taken out.old) (O.taken out.new)) }
-    ensures part { OnErr result (AppendedSome (last_line count tally) (O.taken out.old) (O.taken out.new)) }
-    ensures cause { OnErr result (Rose (O.faults out.old) (O.faults out.new)) }
-    ensures count { O.faults out.old ≤ O.faults out.new }
+    ensures { Wrote O.taken O.faults (last_line count tally) out.old out.new result }
 {
     write_all(out, last_line(count, tally).as_slice())
 }

@@ -1,7 +1,7 @@
 //! The text that tells the units of an image.
 
-ghost use Rattle.std.specs.Prelude.{◌≡◌, ◌+◌, ◌≤◌, ◌++◌, OnErr, OnOk, length};
-ghost use Rattle.dix_base.specs.Told.{Appended, AppendedSome, Rose};
+ghost use Rattle.std.specs.Prelude.{◌≡◌, ◌+◌, ◌≤◌, ◌++◌, length};
+ghost use Rattle.report_text.specs.Writing.{Wrote};
 ghost use Rattle.target_answer.specs.Headers.{number_of};
 ghost use Rattle.image_text.specs.UnitText.{unit_line, unit_lines, unit_word, units_text};
 
@@ -52,10 +52,7 @@ fn unit_line(dev: u32, unit: UnitSpec) -> Line
 /// Writes a line for each of at most eight units.
 fn write_lines<O: Sink>(out: &mut O, units: &[UnitSpec]) -> Result<(), Failed>
     requires { length units.now ≤ 8 }
-    ensures whole { OnOk result (Appended (unit_lines 0 units.now) (O.taken out.old) (O.taken out.new)) }
-    ensures part { OnErr result (AppendedSome (unit_lines 0 units.now) (O.taken out.old) (O.taken out.new)) }
-    ensures cause { OnErr result (Rose (O.faults out.old) (O.faults out.new)) }
-    ensures count { O.faults out.old ≤ O.faults out.new }
+    ensures { Wrote O.taken O.faults (unit_lines 0 units.now) out.old out.new result }
 {
     let mut dev = 0u32;
     for unit in units {
@@ -69,10 +66,7 @@ fn write_lines<O: Sink>(out: &mut O, units: &[UnitSpec]) -> Result<(), Failed>
 /// Writes the text that tells the units of an image, at most eight: the first line, and a line for each.
 pub fn write_units<O: Sink>(out: &mut O, units: &[UnitSpec]) -> Result<(), Failed>
     requires { length units.now ≤ 8 }
-    ensures whole { OnOk result (Appended (units_text units.now) (O.taken out.old) (O.taken out.new)) }
-    ensures part { OnErr result (AppendedSome (units_text units.now) (O.taken out.old) (O.taken out.new)) }
-    ensures cause { OnErr result (Rose (O.faults out.old) (O.faults out.new)) }
-    ensures count { O.faults out.old ≤ O.faults out.new }
+    ensures { Wrote O.taken O.faults (units_text units.now) out.old out.new result }
 {
     write_first(out)?;
     write_lines(out, units)

@@ -1,5 +1,5 @@
 use Rattle.std.proofs.Common.{◌≡◌, ◌*◌, ◌≤◌, length}
-use Rattle.report_text.proofs.Flow.{Left}
+use Rattle.report_text.proofs.Written.{Writing}
 use Rattle.target_answer.specs.Frames.{frames_of, stored_size}
 use Rattle.image_text.specs.Dumps.{dump_of}
 use Rattle.image_text.proofs.export.write_pieces.Given as goal
@@ -9,9 +9,8 @@ invariant-loop-left g l =
     let size = l.unit.size in
     let len = stored_size l.unit.ty size in
     record {
-      pieces : Left (dump_of l.layout size (frames_of len l.count l.frames)) (dump_of l.layout size (frames_of len l.left l.rest)) (g.O.Sink.taken l.initial.out) (g.O.Sink.taken l.out);
+      pieces : Writing (g.O.Sink.taken) (g.O.Sink.faults) (dump_of l.layout size (frames_of len l.count l.frames)) (dump_of l.layout size (frames_of len l.left l.rest)) l.initial.out l.out;
       long : length l.rest ≡ l.left * len;
-      count : g.O.Sink.faults l.initial.out ≤ g.O.Sink.faults l.out;
     }
 
 abbrev pub decreases-loop-left : goal.decreases-loop-left

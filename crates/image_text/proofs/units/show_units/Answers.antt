@@ -1,11 +1,11 @@
-use Rattle.std.proofs.Common.{subst}
-use Rattle.report_text.proofs.Flow.{whole_is_part}
-use Rattle.dix_base.specs.Told.{Appended}
+use Rattle.std.proofs.Common.{ap}
 use Rattle.image_text.specs.UnitText.{units_text}
-use Rattle.image_blocks.specs.Images.{units_open}
+use Rattle.report_text.proofs.Written.{as_text, flushed, stops}
 use Rattle.image_text.proofs.units.show_units.Goals as goal
-use Rattle.small_laws.proofs.Results.{on_err}
 
-pub returns-clause-part : goal.returns-clause-part
-returns-clause-part g c = on_err c.flush.result (whole_is_part (units_text (units_open c.args.image.now)) _ _ _
-    (subst (λ us. Appended (units_text us) (g.O.Sink.taken c.args.out.now) (g.O.Sink.taken c.write_units.new.out)) c.units.ensures c.in_ok-write_units.ensures.whole) c.flush.ensures.same)
+pub returns-in_err-write_units-clause-wrote : goal.returns-in_err-write_units-clause-wrote
+returns-in_err-write_units-clause-wrote g c = as_text (ap units_text c.units.ensures) (stops c.from_residual.result c.from_residual.ensures.0 c.in_err-write_units.ensures)
+
+pub returns-clause-wrote : goal.returns-clause-wrote
+returns-clause-wrote g c =
+    as_text (ap units_text c.units.ensures) (flushed c.flush.result c.in_ok-write_units.ensures c.flush.ensures.same c.flush.ensures.calm c.flush.ensures.cause c.flush.ensures.count)
