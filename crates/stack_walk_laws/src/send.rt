@@ -41,7 +41,8 @@ pub fn a_group_is_sent()
         (cames : List (Result (List ℕ) AnyWhy))
         → AllGoing m n ops a ios (length opening.logs) status bs spots → AllGoOut m a ios now.bytes bs cames → Follows m n ops opening status now es
         → SentOut m n ops a ios opening now bs cames status es }
-    ensures inward { (m : Setting) (n : ℕ) (ops : List AnyOp) (a : AnyAdapter) (ios : List AnyIo) (opening now : State) (status : ℕ → ℕ → Status) (es : List Sent) (bs : List Block) (spots : List BlockSpot)
+    ensures inward { (m : Setting) (n : ℕ) (ops : List AnyOp) (a : AnyAdapter) (ios : List AnyIo) (opening now : State) (status : ℕ → ℕ → Status)
+        (es : List Sent) (bs : List Block) (spots : List BlockSpot)
         (cames : List (Result (List ℕ) AnyWhy))
         → m.site.faults ≡ a.tamper → AllGoing m n ops a ios (length opening.logs) status bs spots → AllComeIn m a ios now.blocks bs cames → Follows m n ops opening status now es
         → SentIn m n ops a ios opening now bs cames status es }
