@@ -72,17 +72,6 @@ impl Route {
         )
     }
 
-    fn adapter_finds_out(&self, frame: &[u8]) -> Option<Check>
-        requires { length frame.now ≡ self.now.size + TUPLE }
-        ensures { result ≡ adapter_finds_out self.now (take (host_size self.now) frame.now) }
-    {
-        if self.mode.dix {
-            self.host_finding(self.lba, frame)
-        } else {
-            None
-        }
-    }
-
     fn adapter_finds_in(&self, frame: &[u8]) -> Option<Check>
         requires { length frame.now ≡ self.now.size + TUPLE }
         ensures { result ≡ adapter_finds_in self.now (take (wire_size self.now) frame.now) }
@@ -167,8 +156,10 @@ impl Route {
         ensures length { length frame.new ≡ length frame.old }
     {
         self.cross(tamper, Crossing::HostToAdapter, frame);
-        if let Some(check) = self.adapter_finds_out(frame) {
-            return Some(check);
+        if self.mode.dix {
+            if let Some(check) = self.host_finding(self.lba, frame) {
+                return Some(check);
+            }
         }
         self.hand_on(Dir::Write, frame);
         None

@@ -3,7 +3,7 @@ use Rattle.std.proofs.Common.{append_assoc, ◌≡◌, ◌<◌, ◌≤◌, ℕ, 
 use Rattle.std.specs.Prelude.{if◌then◌else◌, ◌&&◌, not}
 use Rattle.pi_tuple.specs.Finds.{is_zero}
 use Rattle.block_path.specs.Routes.{wire_size}
-use Rattle.std.proofs.lemmas.List.{append-nil, drop_at, get_or_default, length-drop, length-map, length-take, map-append, take-append-drop}
+use Rattle.std.proofs.lemmas.List.{append-nil, drop_at, get_or_default, length-drop, length-map, length-take, map-append, take-append-drop, take-append-le}
 use Rattle.std.proofs.Math.Nat.{mul-le-mul_left, mul-le-mul_right}
 use Rattle.std.proofs.lemmas.List.Elements.{All-get_or}
 use Rattle.page_pool.specs.Cells.{scatter}
@@ -258,14 +258,9 @@ place-more done left n w at end h l p e =
 pub ahead-behind : (at n : ℕ) (X back frames first : List ℕ) → length X ≡ at → drop n back ≡ drop n (drop at frames) → drop at frames ≡ drop at first → drop (at + n) (X ++ back) ≡ drop (at + n) first
 ahead-behind at n X back frames first l b d = drop-sum at n (X ++ back) ∙ ap (drop n) (drop_at X back at l) ∙ b ∙ ap (drop n) d ∙ sym (drop-sum at n first)
 
-take-front : (w : ℕ) (X Y : List ℕ) → w ≤ length X → take w (X ++ Y) ≡ take w X
-take-front zero X Y h = refl
-take-front (suc w) [] Y h = absurd (omega arith)
-take-front (suc w) (x ∷ X) Y h = ap (λ z. x ∷ z) (take-front w X Y (omega arith))
-
 -- the frame in the middle
 pub frame-front : (at w : ℕ) (X F Y : List ℕ) → length X ≡ at → w ≤ length F → take w (drop at (X ++ (F ++ Y))) ≡ take w F
-frame-front at w X F Y l h = ap (take w) (drop_at X (F ++ Y) at l) ∙ take-front w F Y h
+frame-front at w X F Y l h = ap (take w) (drop_at X (F ++ Y) at l) ∙ take-append-le w F Y h
 
 -- only the frames themselves count
 pub frames-front : (w n : ℕ) (X Y : List ℕ) → n * w ≤ length X → frames_of w n (X ++ Y) ≡ frames_of w n X
@@ -274,7 +269,7 @@ frames-front w (suc n) X Y h =
     let l : w ≤ length X = omega arith in
     let d = length-drop w X in
     let r = frames-front w n (drop w X) Y (omega arith) in
-    ap (λ z. z ∷ frames_of w n (drop w (X ++ Y))) (take-front w X Y l) ∙ ap (λ z. take w X ∷ frames_of w n z) (drop-front w X Y l) ∙ ap (λ z. take w X ∷ z) r
+    ap (λ z. z ∷ frames_of w n (drop w (X ++ Y))) (take-append-le w X Y l) ∙ ap (λ z. take w X ∷ frames_of w n z) (drop-front w X Y l) ∙ ap (λ z. take w X ∷ z) r
 
 pub frames-taken : (w n len : ℕ) (X : List ℕ) → n * w ≤ len → len ≤ length X → frames_of w n X ≡ frames_of w n (take len X)
 frames-taken w n len X h l = ap (frames_of w n) (sym (take-append-drop len X)) ∙ frames-front w n (take len X) (drop len X) (let e = length-take len X in omega arith)

@@ -145,7 +145,6 @@ impl Adapter {
         requires fates { length fates.old.items + count ≤ vec_capacity fates.old }
         ensures landed { HasLandedFirst self.now io.now bio.now count frames.old pool.old pool.new fates.old.items fates.new.items }
         ensures size { result ≡ count * wire_size (route_by self.now io.now bio.now 0) }
-        ensures within { result ≤ length frames.old }
         ensures behind { KeepsBehind result frames.old frames.new }
         ensures capacity { vec_capacity fates.new ≡ vec_capacity fates.old }
     {

@@ -26,8 +26,7 @@ impl Log {
         ensures labelled { (room_in self.old).labels ≤ (room_in self.new).labels + labels_len exchanged.now.cdb.now exchanged.now.outcome exchanged.now.labels.now }
         ensures moved { (room_in self.old).moved ≤ (room_in self.new).moved + moved_len exchanged.now.size exchanged.now.cdb.now exchanged.now.outcome exchanged.now.out.now exchanged.now.into.now }
     {
-        let kept = exchanged.kept();
         let what = Record::of(exchanged.dev, exchanged.cdb, exchanged.outcome);
-        self.append(what, kept.labels, kept.moved);
+        self.append(what, exchanged.kept_labels(), exchanged.moved());
     }
 }

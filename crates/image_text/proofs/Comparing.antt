@@ -305,6 +305,15 @@ last_some p differ first second x y w v a q l = record {
   written = part_second diff_first _ x y v a (part_second (lines_of p q.ones q.twos) _ y w v q.written (subst (λ t. AppendedSome t w v) (last_of p differ first second y w q) l));
 }
 
+pub last_whole : (p : Places) (differ : ℕ) (first second x y w v : Option (List ℕ)) → Appended diff_first x y → HasCompared (lines_of p) p first second differ y w → Appended (compared_line p.at.count differ) w v → HasCompared (diff_of p) p first second differ x v
+last_whole p differ first second x y w v a q l = record {
+  ones = q.ones;
+  twos = q.twos;
+  has = q.has;
+  counted = q.counted;
+  written = appended_both diff_first _ x y v a (appended_both (lines_of p q.ones q.twos) _ y w v q.written (subst (λ t. Appended t w v) (last_of p differ first second y w q) l));
+}
+
 -- a text that was written whole is its beginning too
 whole_some : (text : (ones twos : List (List ℕ)) → List ℕ) (p : Places) (differ : ℕ) (first second x y z : Option (List ℕ)) → z ≡ y → HasCompared text p first second differ x y → HasComparedSome text p first second x z
 whole_some text p differ first second x y z e q = record { ones = q.ones; twos = q.twos; has = q.has; written = whole_is_part (text q.ones q.twos) x y z q.written e }

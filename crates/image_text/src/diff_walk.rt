@@ -13,17 +13,26 @@ use crate::{Pair, write_compared, write_diff_first, write_differences};
 use dix_base::{Failed, Sink, Store};
 use image_blocks::{Image, Stretch, behind_of, block_bytes, blocks_in, front_of, read_blocks};
 
+/// Two places, each on its image.
+#[derive(Clone, Copy)]
+struct Sides<'a> {
+    image: &'a Image,
+    place: Stretch,
+    other_image: &'a Image,
+    to: Stretch,
+}
+
 /// The units in which two places lie.
-fn pair_of(image: &Image, at: Stretch, other_image: &Image, to: Stretch) -> Pair
-    requires place { IsStretch (units_open image.now) at }
-    requires other_place { IsStretch (units_open other_image.now) to }
-    ensures { result ≡ pair_of (places (units_open image.now) at (units_open other_image.now) to) }
+fn pair_of(sides: Sides<'_>) -> Pair
+    requires place { IsStretch (units_open sides.image.now) sides.place }
+    requires other_place { IsStretch (units_open sides.other_image.now) sides.to }
+    ensures { result ≡ pair_of (places (units_open sides.entry.image.now) sides.entry.place (units_open sides.entry.other_image.now) sides.entry.to) }
 {
     Pair {
-        dev: at.dev,
-        unit: image.units()[at.dev as usize],
-        other_dev: to.dev,
-        other_unit: other_image.units()[to.dev as usize],
+        dev: sides.place.dev,
+        unit: sides.image.units()[sides.place.dev as usize],
+        other_dev: sides.to.dev,
+        other_unit: sides.other_image.units()[sides.to.dev as usize],
     }
 }
 
@@ -31,19 +40,17 @@ fn pair_of(image: &Image, at: Stretch, other_image: &Image, to: Stretch) -> Pair
 /// lines of those that differ.
 fn diff_piece<S: Store, T: Store, O: Sink>(
     store: &mut S,
-    image: &Image,
-    at: Stretch,
     other: &mut T,
-    other_image: &Image,
-    to: Stretch,
+    sides: Sides<'_>,
     into: &mut [u8],
     other_into: &mut [u8],
     out: &mut O,
 ) -> Result<u32, DiffFault>
-    requires places { CanCompare (places (units_open image.now) at (units_open other_image.now) to) (S.state store.old).length (T.state other.old).length }
-    requires room { length into.old ≡ at.count * block_len (units_open image.now) at.dev }
-    requires other_room { length other_into.old ≡ to.count * block_len (units_open other_image.now) to.dev }
-    ensures compared { DiffEnds result (lines_of (places (units_open image.now) at (units_open other_image.now) to)) (places (units_open image.now) at (units_open other_image.now) to)
+    requires places { CanCompare (places (units_open sides.image.now) sides.place (units_open sides.other_image.now) sides.to) (S.state store.old).length (T.state other.old).length }
+    requires room { length into.old ≡ sides.place.count * block_len (units_open sides.image.now) sides.place.dev }
+    requires other_room { length other_into.old ≡ sides.to.count * block_len (units_open sides.other_image.now) sides.to.dev }
+    ensures compared { DiffEnds result (lines_of (places (units_open sides.entry.image.now) sides.entry.place (units_open sides.entry.other_image.now) sides.entry.to))
+        (places (units_open sides.entry.image.now) sides.entry.place (units_open sides.entry.other_image.now) sides.entry.to)
         (S.state store.old).bytes (T.state other.old).bytes
         (counts (S.state store.old).faults (S.state store.new).faults (T.state other.old).faults (T.state other.new).faults (O.faults out.old) (O.faults out.new))
         (O.taken out.old) (O.taken out.new) }
@@ -51,16 +58,25 @@ fn diff_piece<S: Store, T: Store, O: Sink>(
     ensures second { WasRead (T.state other.old) (T.state other.new) }
     ensures sinks { O.faults out.old ≤ O.faults out.new }
 {
-    match read_blocks(store, image, at, into) {
+    match read_blocks(store, sides.image, sides.place, into) {
         Ok(()) => {}
         Err(Failed) => return Err(DiffFault::First),
     }
-    match read_blocks(other, other_image, to, other_into) {
+    match read_blocks(other, sides.other_image, sides.to, other_into) {
         Ok(()) => {}
         Err(Failed) => return Err(DiffFault::Second),
     }
-    let pair = pair_of(image, at, other_image, to);
-    match write_differences(out, pair, at.first, to.first, at.count, into, other_into) {
+    let (place, to) = (sides.place, sides.to);
+    let pair = pair_of(sides);
+    match write_differences(
+        out,
+        pair,
+        place.first,
+        to.first,
+        place.count,
+        into,
+        other_into,
+    ) {
         Ok(differ) => Ok(differ),
         Err(Failed) => Err(DiffFault::Sink),
     }
@@ -70,19 +86,17 @@ fn diff_piece<S: Store, T: Store, O: Sink>(
 /// and `other_room` in pieces of as many blocks as both hold.
 fn diff_lines<S: Store, T: Store, O: Sink>(
     store: &mut S,
-    image: &Image,
-    place: Stretch,
     other: &mut T,
-    other_image: &Image,
-    to: Stretch,
+    sides: Sides<'_>,
     room: &mut [u8],
     other_room: &mut [u8],
     out: &mut O,
 ) -> Result<u32, DiffFault>
-    requires places { CanCompare (places (units_open image.now) place (units_open other_image.now) to) (S.state store.old).length (T.state other.old).length }
+    requires places { CanCompare (places (units_open sides.image.now) sides.place (units_open sides.other_image.now) sides.to) (S.state store.old).length (T.state other.old).length }
     requires least { MOST_FRAME ≤ length room.old }
     requires other_least { MOST_FRAME ≤ length other_room.old }
-    ensures compared { DiffEnds result (lines_of (places (units_open image.now) place (units_open other_image.now) to)) (places (units_open image.now) place (units_open other_image.now) to)
+    ensures compared { DiffEnds result (lines_of (places (units_open sides.entry.image.now) sides.entry.place (units_open sides.entry.other_image.now) sides.entry.to))
+        (places (units_open sides.entry.image.now) sides.entry.place (units_open sides.entry.other_image.now) sides.entry.to)
         (S.state store.old).bytes (T.state other.old).bytes
         (counts (S.state store.old).faults (S.state store.new).faults (T.state other.old).faults (T.state other.new).faults (O.faults out.old) (O.faults out.new))
         (O.taken out.old) (O.taken out.new) }
@@ -90,6 +104,12 @@ fn diff_lines<S: Store, T: Store, O: Sink>(
     ensures second { WasRead (T.state other.old) (T.state other.new) }
     ensures sinks { O.faults out.old ≤ O.faults out.new }
 {
+    let Sides {
+        image,
+        place,
+        other_image,
+        to,
+    } = sides;
     let len = block_bytes(image, place.dev);
     let other_len = block_bytes(other_image, to.dev);
     let fit = blocks_in(room.len(), len);
@@ -105,11 +125,13 @@ fn diff_lines<S: Store, T: Store, O: Sink>(
         let other_bytes = other_piece.count as usize * other_len;
         let more = match diff_piece(
             store,
-            image,
-            piece,
             other,
-            other_image,
-            other_piece,
+            Sides {
+                image,
+                place: piece,
+                other_image,
+                to: other_piece,
+            },
             &mut room[..bytes],
             &mut other_room[..other_bytes],
             out,
@@ -127,19 +149,17 @@ fn diff_lines<S: Store, T: Store, O: Sink>(
 /// Writes the first line, the lines of the blocks that differ, and the last line.
 fn diff_all<S: Store, T: Store, O: Sink>(
     store: &mut S,
-    image: &Image,
-    place: Stretch,
     other: &mut T,
-    other_image: &Image,
-    to: Stretch,
+    sides: Sides<'_>,
     room: &mut [u8],
     other_room: &mut [u8],
     out: &mut O,
 ) -> Result<u32, DiffFault>
-    requires places { CanCompare (places (units_open image.now) place (units_open other_image.now) to) (S.state store.old).length (T.state other.old).length }
+    requires places { CanCompare (places (units_open sides.image.now) sides.place (units_open sides.other_image.now) sides.to) (S.state store.old).length (T.state other.old).length }
     requires least { MOST_FRAME ≤ length room.old }
     requires other_least { MOST_FRAME ≤ length other_room.old }
-    ensures compared { DiffEnds result (diff_of (places (units_open image.now) place (units_open other_image.now) to)) (places (units_open image.now) place (units_open other_image.now) to)
+    ensures compared { DiffEnds result (diff_of (places (units_open sides.entry.image.now) sides.entry.place (units_open sides.entry.other_image.now) sides.entry.to))
+        (places (units_open sides.entry.image.now) sides.entry.place (units_open sides.entry.other_image.now) sides.entry.to)
         (S.state store.old).bytes (T.state other.old).bytes
         (counts (S.state store.old).faults (S.state store.new).faults (T.state other.old).faults (T.state other.new).faults (O.faults out.old) (O.faults out.new))
         (O.taken out.old) (O.taken out.new) }
@@ -151,21 +171,11 @@ fn diff_all<S: Store, T: Store, O: Sink>(
         Ok(()) => {}
         Err(Failed) => return Err(DiffFault::Sink),
     }
-    let differ = match diff_lines(
-        store,
-        image,
-        place,
-        other,
-        other_image,
-        to,
-        room,
-        other_room,
-        out,
-    ) {
+    let differ = match diff_lines(store, other, sides, room, other_room, out) {
         Ok(differ) => differ,
         Err(fault) => return Err(fault),
     };
-    match write_compared(out, place.count, differ) {
+    match write_compared(out, sides.place.count, differ) {
         Ok(()) => Ok(differ),
         Err(Failed) => Err(DiffFault::Sink),
     }
@@ -200,17 +210,13 @@ pub fn diff_blocks<S: Store, T: Store, O: Sink>(
 {
     let half = room.len() / 2;
     let (front, back) = room.split_at_mut(half);
-    let ended = diff_all(
-        store,
+    let sides = Sides {
         image,
         place,
-        other,
         other_image,
         to,
-        front,
-        back,
-        out,
-    );
+    };
+    let ended = diff_all(store, other, sides, front, back, out);
     match out.flush() {
         Ok(()) => ended,
         Err(Failed) => Err(DiffFault::Sink),

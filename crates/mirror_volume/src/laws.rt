@@ -29,7 +29,8 @@ use mirror_laws::{a_mirror_reads_the_last_write, a_repair_makes_both_legs_equal}
 /// repaired: both legs hold these, and no block is lost.
 pub fn one_good_leg_is_enough()
     ensures reads { (s : AnyScript) (devices : List AnyDevice) (us : List Stored) → IsMirrorOver s devices us → IsOneGoodRun s devices us → AllReadLast s devices us }
-    ensures repaired { (s : AnyScript) (devices : List AnyDevice) (us left : List Stored) (marks : List AnyMarks) (repaired lost : ℕ) → IsMirrorOver s devices us → HoldsBytes us → IsOneGoodRun s devices us
+    ensures repaired { (s : AnyScript) (devices : List AnyDevice) (us left : List Stored) (marks : List AnyMarks) (repaired lost : ℕ)
+        → IsMirrorOver s devices us → HoldsBytes us → IsOneGoodRun s devices us
         → IsRepairedAs s devices us (length s.ops) marks repaired lost left → WasEnough s devices us left lost }
 {
     // By laws.
@@ -50,7 +51,8 @@ pub fn a_formed_mirror_has_one_good_leg()
 /// A law: without a fault line and without an overwrite it is so under any protect field.
 pub fn no_fault_is_enough_under_any_protect_field()
     ensures reads { (s : AnyScript) (devices : List AnyDevice) (us : List Stored) → IsMirrorOver s devices us → HoldsBytes us → IsStillMirror s devices us → AllReadLast s devices us }
-    ensures repaired { (s : AnyScript) (devices : List AnyDevice) (us left : List Stored) (marks : List AnyMarks) (repaired lost : ℕ) → IsMirrorOver s devices us → HoldsBytes us → IsStillMirror s devices us
+    ensures repaired { (s : AnyScript) (devices : List AnyDevice) (us left : List Stored) (marks : List AnyMarks) (repaired lost : ℕ)
+        → IsMirrorOver s devices us → HoldsBytes us → IsStillMirror s devices us
         → IsRepairedAs s devices us (length s.ops) marks repaired lost left → WasEnough s devices us left lost }
 {
     // By laws.

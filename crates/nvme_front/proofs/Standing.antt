@@ -33,14 +33,10 @@ of-image s bytes dev on l =
     let b : all_bytes (specs_of s) ≤ length (drop 512 bytes) = (let x = image_long s.head bytes on.right on.told in let y = ap all_bytes e in let d = length-drop 512 bytes in omega arith) in
     blocks-long (specs_of s) (drop 512 bytes) dev b n
 
-units-same : (xs ys : List Stored) → Some xs ≡ Some ys → xs ≡ ys
-units-same xs ys e = ap (λ x. told-or x) e
-  where
-    told-or : Option (List Stored) → List Stored
-    told-or None = []
-    told-or (Some x) = x
-
 pub unit-whole : (s : Standing) (image : Option (List ℕ)) (us : List Stored) (dev : ℕ) → units_told s image ≡ Some us → IsStanding s image → dev < s.devices → IsWhole (unit_at us dev)
 unit-whole s None us dev e i l = absurd (cc)
 unit-whole s (Some bytes) us dev e (inl z) l = absurd (omega arith)
-unit-whole s (Some bytes) us dev e (inr on) l = subst (λ x. IsWhole (unit_at x dev)) (units-same _ us e) (of-image s bytes dev on l)
+unit-whole s (Some bytes) us dev e (inr on) l =
+    let told : Some (units_in (specs_of s) bytes) ≡ Some us = e in
+    let same : units_in (specs_of s) bytes ≡ us = cc in
+    subst (λ x. IsWhole (unit_at x dev)) same (of-image s bytes dev on l)

@@ -55,11 +55,6 @@ unfolding folded
 folded-add zero t = refl
 folded-add (suc s) t = folded_same (s % 65535 + 1 + t) (suc s + t) (s / 65535) 0 (omega arith) (λ h. omega arith) (λ h. omega arith)
 
-pub carried_once : (s : ℕ) → 65535 < s → s ≤ 131070 → s - 65535 ≡ folded s
-unfolding folded
-carried_once zero h k = absurd (omega arith)
-carried_once (suc s) h k = omega arith
-
 pub fold_none : (s : ℕ) → s ≡ 0 → 0 ≡ folded s
 unfolding folded
 fold_none s e = rw e refl
@@ -76,28 +71,6 @@ complement (suc s) =
     let e : suc s - 1 ≡ s = omega arith in
     let o : eqb (suc s) 0 ≡ false = eqb-suc-zero s in
     rw (o, e) refl
-
--- the carry is added back at each word
-pub words_taken : (sum : ℕ) (xs : List ℕ) (word : ℕ) (more : List ℕ) → word_sum xs ≡ word + word_sum more →
-    folded (folded (sum + word) + word_sum more) ≡ folded (sum + word_sum xs)
-words_taken sum xs word more e =
-    let k : sum + word + word_sum more ≡ sum + word_sum xs = omega arith in
-    folded-add (sum + word) (word_sum more) ∙ ap folded k
-
-pub first_word : (xs pair more : List ℕ) → pair ≡ take 2 xs → more ≡ drop 2 xs → length more + 2 ≡ length xs →
-    word_sum xs ≡ get_or pair 0 0 * 256 + get_or pair 1 0 + word_sum more
-first_word [] pair more e f h = absurd (omega arith)
-first_word (x ∷ []) pair more e f h = let l = ap length f in absurd (omega arith)
-first_word (x ∷ y ∷ r) pair more e f h = rw (e, f) refl
-
-pub one_left : (sum : ℕ) (xs : List ℕ) (x : ℕ) → length xs < 2 → 0 < length xs → x ≡ get_or xs 0 0 → folded (sum + x * 256) ≡ folded (sum + word_sum xs)
-one_left sum [] x h k e = absurd (omega arith)
-one_left sum (y ∷ []) x h k e = ap (λ v. folded (sum + v * 256)) e
-one_left sum (y ∷ z ∷ r) x h k e = absurd (omega arith)
-
-pub none_left : (sum : ℕ) (xs : List ℕ) → sum < 65536 → length xs ≤ 0 → sum ≡ folded (sum + word_sum xs)
-none_left sum [] h k = sym (folded_small sum h) ∙ ap folded (omega arith)
-none_left sum (x ∷ xs) h k = absurd (omega arith)
 
 -- ---- parts
 

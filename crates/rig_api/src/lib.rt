@@ -7,6 +7,6 @@ mod record;
 mod rig;
 
 pub use change::Change;
-pub use record::{Exchanged, KeptParts, blocks_of, front};
+pub use record::{Exchanged, blocks_of, front};
 pub use rig::{Outcome, Record, Rig, RigFault};
 pub use target_answer::UnitSpec;

@@ -1,7 +1,7 @@
 //! What the record of an exchange keeps, for whoever implements a rig.
 
 ghost use Rattle.std.specs.Prelude.{◌≡◌, ◌+◌, ◌*◌, ◌≤◌, ◌<◌, ◌^◌, Some, length, take};
-ghost use Rattle.rig_api.specs.Log.{capacity_by, capacity_len, frames_done, labels_of, moved_by, moved_of};
+ghost use Rattle.rig_api.specs.Log.{capacity_len, frames_done, labels_of, moved_of};
 ghost use Rattle.target_answer.specs.Frames.{sent_size};
 ghost use Rattle.target_answer.specs.Requests.{blocks_in, blocks_of, transferred};
 ghost use Rattle.cdb_codec.specs.Decoded.{decoded};
@@ -49,19 +49,6 @@ fn frames_done<'a>(size: u32, c: Rw, done: u32, buffer: &'a [u8]) -> &'a [u8]
     ensures bound { length result.now ≤ (size + TUPLE) * c.n }
 {
     front(buffer, done.min(c.n) as usize * sent_size(c.protect, size))
-}
-
-fn moved_by<'a>(size: u32, request: Request, done: u32, out: &'a [u8], into: &'a [u8]) -> &'a [u8]
-    requires { size ≤ LARGEST_BLOCK }
-    ensures value { result.now ≡ moved_by size request done out.now into.now }
-    ensures bound { length result.now ≤ (size + TUPLE) * transferred request + capacity_by request (length into.now) }
-{
-    match request {
-        Request::Read(c) => frames_done(size, c, done, into),
-        Request::Write(c) => frames_done(size, c, done, out),
-        Request::Verify(_) => &[],
-        Request::ReadCapacity(_) => into,
-    }
 }
 
 fn transferred(request: Request) -> u32
@@ -112,17 +99,9 @@ pub struct Exchanged<'a> {
     pub into: &'a [u8],
 }
 
-/// What a record keeps of what went along with a command block.
-#[derive(Clone, Copy)]
-pub struct KeptParts<'a> {
-    /// The labels of the blocks that are done and of the one where the exchange ended.
-    pub labels: &'a [Label],
-    /// The frames of the blocks that are done, and of READ CAPACITY(16) all that was read.
-    pub moved: &'a [u8],
-}
-
 impl<'a> Exchanged<'a> {
-    fn labels(&self) -> &'a [Label]
+    /// The labels that the record keeps: of the blocks that are done and of the one where the exchange ended.
+    pub fn kept_labels(&self) -> &'a [Label]
         requires command { self.now.command ≡ decoded self.now.cdb.now }
         ensures value { result.now ≡ labels_of self.now.cdb.now self.now.outcome self.now.labels.now }
         ensures bound { length result.now ≤ blocks_of self.now.cdb.now }
@@ -131,36 +110,22 @@ impl<'a> Exchanged<'a> {
         front(self.labels, kept as usize)
     }
 
-    fn moved(&self) -> &'a [u8]
+    /// The bytes that the record keeps: the frames of the blocks that are done, and of READ CAPACITY(16) all that was
+    /// read.
+    pub fn moved(&self) -> &'a [u8]
         requires command { self.now.command ≡ decoded self.now.cdb.now }
         requires size { self.now.size ≤ LARGEST_BLOCK }
         ensures value { result.now ≡ moved_of self.now.size self.now.cdb.now self.now.outcome self.now.out.now self.now.into.now }
         ensures bound { length result.now ≤ (self.now.size + TUPLE) * blocks_of self.now.cdb.now + capacity_len self.now.cdb.now (length self.now.into.now) }
     {
-        match self.command {
-            Ok(cdb) => moved_by(
-                self.size,
-                request_of(cdb),
-                self.outcome.done,
-                self.out,
-                self.into,
-            ),
-            Err(_) => &[],
-        }
-    }
-
-    /// What the record of the exchange keeps.
-    pub fn kept(&self) -> KeptParts<'a>
-        requires command { self.now.command ≡ decoded self.now.cdb.now }
-        requires size { self.now.size ≤ LARGEST_BLOCK }
-        ensures labels { result.labels.now ≡ labels_of self.now.cdb.now self.now.outcome self.now.labels.now }
-        ensures few { length result.labels.now ≤ blocks_of self.now.cdb.now }
-        ensures moved { result.moved.now ≡ moved_of self.now.size self.now.cdb.now self.now.outcome self.now.out.now self.now.into.now }
-        ensures bound { length result.moved.now ≤ (self.now.size + TUPLE) * blocks_of self.now.cdb.now + capacity_len self.now.cdb.now (length self.now.into.now) }
-    {
-        KeptParts {
-            labels: self.labels(),
-            moved: self.moved(),
+        let Ok(cdb) = self.command else {
+            return &[];
+        };
+        match request_of(cdb) {
+            Request::Read(c) => frames_done(self.size, c, self.outcome.done, self.into),
+            Request::Write(c) => frames_done(self.size, c, self.outcome.done, self.out),
+            Request::Verify(_) => &[],
+            Request::ReadCapacity(_) => self.into,
         }
     }
 }

@@ -1,6 +1,6 @@
 -- From the refusal of a part to that of the call.
 use Rattle.std.proofs.Common.{ℕ, ◌≡◌, ◌⊎◌, inl, inr, ◌+◌, List, Option, Some, Result, Ok, Err, sym, ap, subst, arith}
-use Rattle.std.specs.Prelude.{IfErr, IfOk, MatchResult}
+use Rattle.std.specs.Prelude.{MatchResult}
 use Rattle.record_laws.proofs.Going.{answers_room}
 use Rattle.image_commands.specs.Causes.{CauseUntold}
 use Rattle.script_lines.specs.declared.kind.ScriptKind.{ScriptKind}
@@ -30,20 +30,12 @@ pub unread : (bad : ScriptFault) (want : Result Script ScriptFault) → (bad.kin
 unread bad want (inl k) = inl (ap (λ (v : ScriptKind). of_kind v bad) k)
 unread bad want (inr e) = unread_by bad (of_script bad) want e (of_either bad.kind bad)
 
-pub read_so : (r : Result Script Refusal) (text : List ℕ) (a b : Option (List ℕ)) → IsWhole text a b → IfOk r (λ s. script_in text ≡ Ok s) → IfOk r (λ s. HasRead s a b)
-read_so (Ok s) text a b w h = record { text = text; whole = w; reads = h }
-read_so (Err r) text a b w h = tt
-
 pub within : (text : List ℕ) (a b : Option (List ℕ)) → IsWhole text a b → TookAtMost (most_bytes + 1) a b
 within text a b w = let l = w.2 in (text, w.0, omega (arith, l))
 
-untaken_text : (r : Refusal) (text : List ℕ) (a b : Option (List ℕ)) (o n : ℕ) → IsWhole text a b → CauseUnread r (script_in text) → CauseUntaken r a b o n
+pub untaken_text : (r : Refusal) (text : List ℕ) (a b : Option (List ℕ)) (o n : ℕ) → IsWhole text a b → CauseUnread r (script_in text) → CauseUntaken r a b o n
 untaken_text r text a b o n w (inl m) = subst (λ x. CauseUntaken x a b o n) (sym m) (within text a b w)
 untaken_text r text a b o n w (inr s) = subst (λ x. CauseUntaken x a b o n) (sym s.1) (inl (text, w, s.2))
-
-pub untaken_so : (r : Result Script Refusal) (text : List ℕ) (a b : Option (List ℕ)) (o n : ℕ) → IsWhole text a b → IfErr r (λ x. CauseUnread x (script_in text)) → IfErr r (λ x. CauseUntaken x a b o n)
-untaken_so (Ok s) text a b o n w h = tt
-untaken_so (Err r) text a b o n w h = untaken_text r text a b o n w h
 
 -- the devices aren't known
 pub untold : (r : Refusal) (script : Script) (name : List ℕ) (old new : RigState) → CauseUntold r name old new → CauseStopped r script name old new

@@ -1,13 +1,12 @@
 //! The volume of a script over the devices of a rig.
 
-ghost use Rattle.std.specs.Prelude.{◌≡◌, IfErr, IfOk, None};
+ghost use Rattle.std.specs.Prelude.{IfErr, IfOk};
 ghost use Rattle.call_refusal.specs.Passed.{Ends};
-ghost use Rattle.script_text.specs.Bindings.{binding_fault};
 ghost use Rattle.run_command.specs.Verdict.{HasTable};
-ghost use Rattle.run_command.specs.Working.{CauseNoTable, CauseUnbound, IsSound};
+ghost use Rattle.run_command.specs.Working.{CauseNoTable, IsSound};
 
 use call_refusal::Refusal;
-use script_text::{Script, bind_script};
+use script_text::Script;
 use std::alloc::Global;
 use volume_table::{DeviceInfo, VolumeTable};
 
@@ -24,21 +23,4 @@ pub fn table_of(
     ensures cause { IfErr result (λ r. CauseNoTable r script.now devices.now) }
 {
     Ok(VolumeTable::new(alloc, &script.entries, devices, script.block)?)
-}
-
-/// The table of a script's volume over these devices, over which the script may run.
-pub(crate) fn bound_table(
-    alloc: Global,
-    script: &Script,
-    devices: &[DeviceInfo],
-) -> Result<VolumeTable, Refusal>
-    requires sound { IsSound script.now }
-    requires ends { Ends devices.now }
-    ensures table { IfOk result (λ t. HasTable script.now devices.now t) }
-    ensures bound { IfOk result (λ t. binding_fault script.now t devices.now ≡ None) }
-    ensures cause { IfErr result (λ r. CauseUnbound r script.now devices.now) }
-{
-    let table = table_of(alloc, script, devices)?;
-    bind_script(script, &table, devices)?;
-    Ok(table)
 }

@@ -5,7 +5,7 @@ ghost use Rattle.run_command.specs.Texts.{has_bad, is_bad};
 ghost use Rattle.run_command.specs.Verdict.{CauseRefused, CauseStopped, Facts, HasRun, HasRunSource, IsComplete, StopsFromOutside};
 ghost use Rattle.run_command.specs.Working.{IsBound, IsSound};
 
-use crate::binding::bound_table;
+use crate::binding::table_of;
 use crate::scripts::take_script;
 use arrayvec::ArrayVec;
 use call_refusal::Refusal;
@@ -18,7 +18,7 @@ use script_stack::{
     Run, a_script_run_is_backed, a_told_script_run_has_fallen, a_told_script_run_has_walked,
     ready_script, run_all,
 };
-use script_text::Script;
+use script_text::{Script, bind_script};
 use stack_core::{Stack, a_finished_stack_has_sent, a_finished_stack_names_the_medium_seldom};
 use stack_ops::Reply;
 use stack_walk_laws::{
@@ -52,7 +52,8 @@ fn bind<R: Rig>(alloc: Global, image: &str, script: &Script, rig: &mut R) -> Res
         MatchResult result (λ b. IsBound b script.now image.now old new) (λ r. CauseStopped r script.now image.now old new) }
 {
     let devices = told_devices(alloc, image, rig)?;
-    let table = bound_table(alloc, script, &devices)?;
+    let table = table_of(alloc, script, &devices)?;
+    bind_script(script, &table, &devices)?;
     Ok(Bound { devices, table })
 }
 

@@ -155,28 +155,6 @@ fn has_overwrite(ops: &[Op]) -> bool
     ops.iter().any(|op| op.is_overwrite())
 }
 
-/// Whether all lines are good; the bytes are room for a frame.
-fn are_good(
-    kind: GuardKind,
-    size: usize,
-    tamper: &Tamper,
-    lines: &[FaultLine],
-    ops: &[Op],
-    frame: &mut [u8],
-) -> bool
-    requires room { length frame.old ≡ size + TUPLE }
-    requires armed { tamper.now ≡ lines.now }
-    ensures { result ≡ list_all (is_good_line kind size lines.now ops.now) lines.now }
-{
-    for line in lines {
-        let shown = is_shown_line(kind, size, tamper, line, frame);
-        if !shown || may_mend(ops, line) || may_undo(ops, lines, line) {
-            return false;
-        }
-    }
-    true
-}
-
 /// How many lines stand before the first that isn't good; the bytes are room for a frame.
 fn good_lines(
     kind: GuardKind,
@@ -201,53 +179,6 @@ fn good_lines(
         rest = more;
     }
     good
-}
-
-/// Whether faults are shown by their form, where the host's guard is of this kind and a block has so many bytes of data:
-/// each line is a flip that the guard at its crossing shows together with all lines of the block there; none is of a
-/// block of a `writepi` on its way to the adapter; none alters a block on its way from the medium that another alters
-/// on its way there; and no op overwrites a stored block. Then, in type 1 with tuples passed all the way and protect
-/// field 001b, over a clean volume and with no escape, each fault can be shown. The time is the square of the number of
-/// lines, which is at most 256. Its one failure is want of memory.
-pub fn shows_by_form(
-    alloc: Global,
-    kind: GuardKind,
-    block: u32,
-    faults: &FaultList,
-    ops: &OpList,
-) -> Result<bool, AllocError>
-    ensures { IfOk result (λ shows. shows ≡ shows_by_form kind block faults.now ops.now) }
-{
-    let size = block as usize;
-    let tamper = Tamper::new(faults.copy(alloc)?);
-    let mut frame = vec![in alloc; 0u8; size + TUPLE]?;
-    let good = are_good(
-        kind,
-        size,
-        &tamper,
-        faults.as_slice(),
-        ops.as_slice(),
-        frame.as_mut_slice(),
-    );
-    Ok(good && !has_overwrite(ops.as_slice()))
-}
-
-fn supplies_none(op: &Op) -> bool
-    ensures { result ≡ supplies_none op.now }
-{
-    match op {
-        Op::Write { app, .. } => *app != 0xFFFF,
-        Op::WritePi { .. } => false,
-        _ => true,
-    }
-}
-
-/// Whether no op supplies an escape by its form: no `write` has the application tag FFFFh, and no application brings
-/// tuples.
-pub fn escapes_none(ops: &OpList) -> bool
-    ensures { result ≡ escapes_none ops.now }
-{
-    ops.as_slice().iter().all(|op| supplies_none(op))
 }
 
 /// How many fault lines stand before the first that lacks the form (`shows_by_form`), in the same time. Its one failure
@@ -286,4 +217,41 @@ pub fn first_overwrite(ops: &OpList) -> Option<usize>
     ensures { result ≡ position is_overwrite ops.now }
 {
     ops.as_slice().iter().position(|op| op.is_overwrite())
+}
+
+/// Whether faults are shown by their form, where the host's guard is of this kind and a block has so many bytes of data:
+/// each line is a flip that the guard at its crossing shows together with all lines of the block there; none is of a
+/// block of a `writepi` on its way to the adapter; none alters a block on its way from the medium that another alters
+/// on its way there; and no op overwrites a stored block. Then, in type 1 with tuples passed all the way and protect
+/// field 001b, over a clean volume and with no escape, each fault can be shown. The time is the square of the number of
+/// lines, which is at most 256. Its one failure is want of memory.
+pub fn shows_by_form(
+    alloc: Global,
+    kind: GuardKind,
+    block: u32,
+    faults: &FaultList,
+    ops: &OpList,
+) -> Result<bool, AllocError>
+    ensures { IfOk result (λ shows. shows ≡ shows_by_form kind block faults.now ops.now) }
+{
+    let good = formed_lines(alloc, kind, block, faults, ops)?;
+    Ok(good == faults.as_slice().len() && !has_overwrite(ops.as_slice()))
+}
+
+fn supplies_none(op: &Op) -> bool
+    ensures { result ≡ supplies_none op.now }
+{
+    match op {
+        Op::Write { app, .. } => *app != 0xFFFF,
+        Op::WritePi { .. } => false,
+        _ => true,
+    }
+}
+
+/// Whether no op supplies an escape by its form: no `write` has the application tag FFFFh, and no application brings
+/// tuples.
+pub fn escapes_none(ops: &OpList) -> bool
+    ensures { result ≡ escapes_none ops.now }
+{
+    ops.as_slice().iter().all(|op| supplies_none(op))
 }

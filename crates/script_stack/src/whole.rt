@@ -4,38 +4,19 @@ ghost use Rattle.std.specs.Prelude.{◌≡◌, IfOk, OnErr, OnOk, is_some, lengt
 ghost use Rattle.rig_api.specs.Telling.{specs_of};
 ghost use Rattle.script_run_laws.specs.Passed.{info_of};
 ghost use Rattle.stack_core.specs.Going.{StandsOver};
-ghost use Rattle.stack_core.specs.Stacks.{HasSpare, IsStack};
 ghost use Rattle.script_stack.specs.Followed.{Ran, SizesAre};
-ghost use Rattle.script_stack.specs.Beginning.{Begins, BlocksAreEnough, IsBoundTo};
+ghost use Rattle.script_stack.specs.Beginning.{Begins, IsBoundTo};
 
 use crate::laws::{
     a_script_run_is_backed, a_told_script_run_has_fallen, a_told_script_run_has_walked,
 };
 use crate::run::run_all;
 use crate::start::{Run, start_script};
-use fault_schedule::FaultList;
 use rig_api::Rig;
 use script_text::Script;
 use stack_core::{Stack, a_finished_stack_has_sent, a_finished_stack_names_the_medium_seldom};
 use std::alloc::{AllocError, Global};
 use volume_table::{DeviceInfo, VolumeTable};
-
-/// Takes room in the rig for all exchanges of the run's stack, and arms these faults. Where the room is wanting the armed
-/// faults are as before.
-fn armed<R: Rig>(alloc: Global, run: Run, faults: FaultList, rig: &mut R) -> Result<Run, AllocError>
-    requires stack { IsStack run.stack }
-    requires enough { BlocksAreEnough run.stack }
-    ensures ready { IfOk result (λ r. (r ≡ run) × HasSpare run.stack (R.state rig.new).standing (R.state rig.new).room) }
-    ensures standing { (R.state rig.new).standing ≡ (R.state rig.old).standing }
-    ensures image { (R.state rig.new).image ≡ (R.state rig.old).image }
-    ensures armed { OnOk result (R.state rig.new ≡ record (R.state rig.old) { room = (R.state rig.new).room; armed = faults }) }
-    ensures unarmed { OnErr result (R.state rig.new ≡ record (R.state rig.old) { room = (R.state rig.new).room }) }
-{
-    let blocks = run.stack.blocks();
-    rig.reserve(alloc, blocks, blocks)?;
-    rig.arm(faults);
-    Ok(run)
-}
 
 /// The stack of a script over a volume of a rig's devices, with the script's faults armed, and room in the rig for all
 /// of its exchanges. Takes all the memory of the run; where that is wanting the armed faults are as before.
@@ -56,7 +37,10 @@ pub fn ready_script<R: Rig>(
 {
     let faults = script.faults.copy(alloc)?;
     let run = start_script(alloc, script, table, devices)?;
-    armed(alloc, run, faults, rig)
+    let blocks = run.stack.blocks();
+    rig.reserve(alloc, blocks, blocks)?;
+    rig.arm(faults);
+    Ok(run)
 }
 
 /// Runs a script over an opened rig, to a volume of whose devices it is bound, and answers its stack, all of whose ops

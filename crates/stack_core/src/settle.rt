@@ -150,20 +150,7 @@ fn settle_read(pool: &mut PagePool, io: &Io, how: Settling, k: u32, lba: u64, fa
     settled
 }
 
-/// Settles a block that was written: its tag is mapped back.
-fn settle_write(pool: &mut PagePool, io: &Io, ty: PiType, k: u32, lba: u64)
-    requires whole { IsWhole pool.old io.now }
-    requires within { k < io.now.count }
-    requires ends { lba + 1 < 2 ^ 64 }
-    ensures pages { length pool.new ≡ length pool.old }
-    ensures mapped { MappedBack io.now.pi ty k lba pool.old pool.new }
-{
-    if let Some(pi) = &io.pi {
-        map_back(pool, pi, ty, k, 1, lba);
-    }
-}
-
-/// Settles block `k` of a request, which lies at this address.
+/// Settles block `k` of a request, which lies at this address. One that was written has its tag mapped back.
 fn settle_block(pool: &mut PagePool, io: &Io, how: Settling, k: u32, lba: u64, fate: Fate) -> Fate
     requires whole { IsWhole pool.old io.now }
     requires within { k < io.now.count }
@@ -174,7 +161,9 @@ fn settle_block(pool: &mut PagePool, io: &Io, how: Settling, k: u32, lba: u64, f
     match io.dir {
         Dir::Read => settle_read(pool, io, how, k, lba, fate),
         Dir::Write => {
-            settle_write(pool, io, how.ty, k, lba);
+            if let Some(pi) = &io.pi {
+                map_back(pool, pi, how.ty, k, 1, lba);
+            }
             fate
         }
     }

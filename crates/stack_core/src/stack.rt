@@ -294,19 +294,9 @@ fn make_tuples(pool: &mut PagePool, io: &Io, kind: GuardKind, ty: PiType)
     ensures made { WriteMade io.now.dir io.now.pi kind ty io.now.body pool.old pool.new }
 {
     if let (Dir::Write, Some(pi)) = (io.dir, &io.pi) {
-        make_own(pool, io, pi, kind, ty);
-    }
-}
-
-fn make_own(pool: &mut PagePool, io: &Io, pi: &Payload, kind: GuardKind, ty: PiType)
-    requires whole { IsWhole pool.old io.now }
-    requires tuples { HasTuples pool.old io.now pi.now }
-    requires some { 0 < io.now.count }
-    ensures pages { length pool.new ≡ length pool.old }
-    ensures made { MadeBy pi.now.owner pi.now kind ty io.now.body pool.old pool.new }
-{
-    if pi.owner == Owner::Block {
-        pi.generate(pool, &io.body, kind, ty);
+        if pi.owner == Owner::Block {
+            pi.generate(pool, &io.body, kind, ty);
+        }
     }
 }
 

@@ -6,7 +6,6 @@ mod choice;
 mod flight;
 mod live;
 mod machine;
-mod moves;
 mod piece;
 mod requests;
 mod rests;

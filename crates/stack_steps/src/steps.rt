@@ -11,7 +11,6 @@ ghost use Rattle.stack_steps.specs.Does.{Holds, Works, CanStep, Chooses, IsReady
 ghost use Rattle.stack_steps.specs.Fine.{Fine};
 
 use crate::choice::{count_choices, nth_choice};
-use crate::moves::{end_op, enter_op};
 use crate::piece::next_piece;
 use crate::rests::put_rests;
 use crate::state::settle;
@@ -89,7 +88,8 @@ impl Machine {
         ensures step { (plan : Plan) (cut : ℕ) → Fine plan → Does plan self.old (End q) cut self.new }
     {
         let op = self.live.at(q);
-        end_op(&mut self.gate, &mut self.live, q);
+        self.gate.end(op + 1);
+        self.live.remove(q);
         self.steps += 1;
         op
     }
@@ -101,7 +101,11 @@ impl Machine {
         ensures step { (cut : ℕ) → Does (P.plan plan.now) self.old (Admit q) cut self.new }
     {
         let op = self.live.at(q);
-        enter_op(plan, &mut self.gate, &mut self.live, q);
+        self.gate.admit(op + 1);
+        if plan.io(op).count == 0 {
+            self.gate.end(op + 1);
+            self.live.remove(q);
+        }
         self.steps += 1;
         op
     }

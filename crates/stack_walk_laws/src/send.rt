@@ -37,11 +37,13 @@ pub fn more_may_stand_on_record()
 /// A group of blocks is sent, over whatever is behind the adapter: each block that is carried, or at which the command
 /// ends, has its fate and stands on record, and the others stay cut.
 pub fn a_group_is_sent()
-    ensures out { (m : Setting) (n : ℕ) (ops : List AnyOp) (a : AnyAdapter) (ios : List AnyIo) (opening now : State) (status : ℕ → ℕ → Status) (es : List Sent) (bs : List Block) (spots : List BlockSpot)
+    ensures out { (m : Setting) (n : ℕ) (ops : List AnyOp) (a : AnyAdapter) (ios : List AnyIo) (opening now : State) (status : ℕ → ℕ → Status)
+        (es : List Sent) (bs : List Block) (spots : List BlockSpot)
         (cames : List (Result (List ℕ) AnyWhy))
         → AllGoing m n ops a ios (length opening.logs) status bs spots → AllGoOut m a ios now.bytes bs cames → Follows m n ops opening status now es
         → SentOut m n ops a ios opening now bs cames status es }
-    ensures inward { (m : Setting) (n : ℕ) (ops : List AnyOp) (a : AnyAdapter) (ios : List AnyIo) (opening now : State) (status : ℕ → ℕ → Status) (es : List Sent) (bs : List Block) (spots : List BlockSpot)
+    ensures inward { (m : Setting) (n : ℕ) (ops : List AnyOp) (a : AnyAdapter) (ios : List AnyIo) (opening now : State) (status : ℕ → ℕ → Status)
+        (es : List Sent) (bs : List Block) (spots : List BlockSpot)
         (cames : List (Result (List ℕ) AnyWhy))
         → m.site.faults ≡ a.tamper → AllGoing m n ops a ios (length opening.logs) status bs spots → AllComeIn m a ios now.blocks bs cames → Follows m n ops opening status now es
         → SentIn m n ops a ios opening now bs cames status es }

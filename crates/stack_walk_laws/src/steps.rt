@@ -70,7 +70,8 @@ pub fn a_block_is_carried()
 /// What may move over a target may move over the record, and moves alike but where it is carried.
 pub fn what_may_move_may_over_the_record()
     ensures may { (m : Setting) (es : List Sent) (n : ℕ) (status : ℕ → ℕ → Status) (s : BlockSpot) → MayMove m n status s → MayMove (told m es) n status s }
-    ensures moves { (m : Setting) (es : List Sent) (n : ℕ) (s : BlockSpot) → let p = parts_at (told m es) n s in let q = parts_at m n s in (p.made ≡ q.made) × ((p.cut ≡ q.cut) × (p.settled ≡ q.settled)) }
+    ensures moves { (m : Setting) (es : List Sent) (n : ℕ) (s : BlockSpot)
+        → let p = parts_at (told m es) n s in let q = parts_at m n s in (p.made ≡ q.made) × ((p.cut ≡ q.cut) × (p.settled ≡ q.settled)) }
     ensures acts { (m : Setting) (es : List Sent) (i : ℕ) (op : AnyOp) → IsAlone op → acts_of (told m es) i op ≡ acts_of m i op }
     ensures lets { (m : Setting) (es : List Sent) (status : ℕ → ℕ → Status) (i j : ℕ) (ops : List AnyOp) (op : AnyOp) → LetsIn m status i ops j op → LetsIn (told m es) status i ops j op }
     ensures going { (m : Setting) (es : List Sent) (n : ℕ) (ops : List AnyOp) (a : AnyAdapter) (ios : List AnyIo) (logs : ℕ) (status : ℕ → ℕ → Status) (bs : List AnyBlock) (spots : List BlockSpot)

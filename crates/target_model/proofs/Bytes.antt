@@ -167,9 +167,6 @@ refilled a b s e h = let l : length a ≡ s = e ∙ (simp length-take (omega ari
 pub size_most : (s : ℕ) → IsSize s → s ≤ 4096
 size_most s h = grind arith
 
-pub front_of : (n : ℕ) (a b : List ℕ) → n ≤ length a → take n (a ++ b) ≡ take n a
-front_of n a b h = same_lists _ _ (search (rules, places)) (λ i d l. grind (arith, places))
-
 pub lent : (a b : List ℕ) (s : ℕ) → length a ≡ length (take s b) → s ≤ length b → length a ≡ s
 lent a b s e h = e ∙ (simp length-take (omega arith))
 

@@ -226,8 +226,7 @@ impl Rig for AnswerRig {
             out,
             into,
         };
-        let kept = exchanged.kept();
-        self.note(dev, cdb, kept.labels, kept.moved);
+        self.note(dev, cdb, exchanged.kept_labels(), exchanged.moved());
         self.outcome
     }
 }

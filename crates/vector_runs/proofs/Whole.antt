@@ -132,13 +132,5 @@ rig_rose f (inl c) = absurd c.0
 rig_rose f (inr (inl c)) = c.2.0
 rig_rose f (inr (inr c)) = c.2.0.0
 
-reads_rose : (f : Facts) → CauseNotPlayed refusal.ReadFault f → Rose f.reads f.reads_after
-reads_rose f (inl c) = c.0.0
-reads_rose f (inr (inl c)) = absurd c.2
-reads_rose f (inr (inr c)) = absurd c.2.0
-
 pub rig_failed : (r : Refusal) (f : Facts) → r ≡ refusal.RigFault → CauseNotPlayed r f → Rose f.rig.faults f.rig_after.faults
 rig_failed r f e c = rig_rose f (subst (λ (x : Refusal). CauseNotPlayed x f) e c)
-
-pub source_failed : (r : Refusal) (f : Facts) → r ≡ refusal.ReadFault → CauseNotPlayed r f → Rose f.reads f.reads_after
-source_failed r f e c = reads_rose f (subst (λ (x : Refusal). CauseNotPlayed x f) e c)

@@ -8,14 +8,14 @@ use Rattle.image_text.proofs.diff_walk.diff_lines.Goals as goal
 pub diff_piece-requires-clause-places : goal.diff_piece-requires-clause-places
 diff_piece-requires-clause-places g c =
     let inv = c.loop-left.invariant in
-    pieces_compare (places (units_open c.args.image.now) c.args.place (units_open c.args.other_image.now) c.args.to) c.loop-left.left c.loop-left.other_left c.front_of-piece.result c.front_of-other_piece.result _ c.loop-left.differ _ _ _ _ _ _ _ _ c.requires.places
+    pieces_compare (places (units_open c.args.sides.image.now) c.args.sides.place (units_open c.args.sides.other_image.now) c.args.sides.to) c.loop-left.left c.loop-left.other_left c.front_of-piece.result c.front_of-other_piece.result _ c.loop-left.differ _ _ _ _ _ _ _ _ c.requires.places
     inv.first.length inv.second.length inv.there inv.other_there inv.lines c.front_of-piece.ensures.value c.front_of-other_piece.ensures.value
 
 pub returns-in-Err-clause-compared : goal.returns-in-Err-clause-compared
 returns-in-Err-clause-compared g c =
-    let us = units_open c.args.image.now in
-    let vs = units_open c.args.other_image.now in
-    let p = places us c.args.place vs c.args.to in
+    let us = units_open c.args.sides.image.now in
+    let vs = units_open c.args.sides.other_image.now in
+    let p = places us c.args.sides.place vs c.args.sides.to in
     let piece = c.front_of-piece.result in
     let other_piece = c.front_of-other_piece.result in
     let part = places us piece vs other_piece in
@@ -33,7 +33,7 @@ pub loop-left-init : goal.loop-left-init
 loop-left-init g c = record {
   there = c.requires.places.place;
   other_there = c.requires.places.other_place;
-  lines = at_first (places (units_open c.args.image.now) c.args.place (units_open c.args.other_image.now) c.args.to) (g.S.Store.state c.args.store.now).bytes (g.T.Store.state c.args.other.now).bytes (g.O.Sink.taken c.args.out.now);
+  lines = at_first (places (units_open c.args.sides.image.now) c.args.sides.place (units_open c.args.sides.other_image.now) c.args.sides.to) (g.S.Store.state c.args.store.now).bytes (g.T.Store.state c.args.other.now).bytes (g.O.Sink.taken c.args.out.now);
   first = not_read _;
   second = not_read _;
   sinks = omega arith;
@@ -41,15 +41,15 @@ loop-left-init g c = record {
 
 pub overflow_add-differ : goal.overflow_add-differ
 overflow_add-differ g c =
-    let p = places (units_open c.args.image.now) c.args.place (units_open c.args.other_image.now) c.args.to in
+    let p = places (units_open c.args.sides.image.now) c.args.sides.place (units_open c.args.sides.other_image.now) c.args.sides.to in
     let few = few_counted p c.loop-left.left c.loop-left.other_left c.front_of-piece.result c.front_of-other_piece.result _ c.loop-left.differ c.in-Ok.more _ _ _ _ _ _ _ c.loop-left.invariant.lines c.front_of-piece.ensures.value c.in-Ok.ensures.compared in
     omega (arith, few)
 
 pub loop-left-preserved : goal.loop-left-preserved
 loop-left-preserved g c =
-    let us = units_open c.args.image.now in
-    let vs = units_open c.args.other_image.now in
-    let p = places us c.args.place vs c.args.to in
+    let us = units_open c.args.sides.image.now in
+    let vs = units_open c.args.sides.other_image.now in
+    let p = places us c.args.sides.place vs c.args.sides.to in
     let piece = c.front_of-piece.result in
     let other_piece = c.front_of-other_piece.result in
     let part = places us piece vs other_piece in
@@ -70,16 +70,16 @@ loop-left-preserved g c =
 pub diff_piece-requires-clause-room : goal.diff_piece-requires-clause-room
 diff_piece-requires-clause-room g c =
     let inv = c.loop-left.invariant in
-    room_for (units_open c.args.image.now) c.args.place c.loop-left.left c.front_of-piece.result c.min-most.result c.block_bytes-len.result (length c.args.room.now) c.loop-left.room (g.S.Store.state c.args.store.now).bytes inv.lines.ones c.front_of-piece.ensures.value
+    room_for (units_open c.args.sides.image.now) c.args.sides.place c.loop-left.left c.front_of-piece.result c.min-most.result c.block_bytes-len.result (length c.args.room.now) c.loop-left.room (g.S.Store.state c.args.store.now).bytes inv.lines.ones c.front_of-piece.ensures.value
     (omega (arith, c.blocks_in-fit.ensures, c.blocks_in-other_fit.ensures, c.min-most.ensures)) c.loop-left.auto.room c.block_bytes-len.ensures.value inv.lines.front
 
 pub diff_piece-requires-clause-other_room : goal.diff_piece-requires-clause-other_room
 diff_piece-requires-clause-other_room g c =
     let inv = c.loop-left.invariant in
-    room_for (units_open c.args.other_image.now) c.args.to c.loop-left.other_left c.front_of-other_piece.result c.min-most.result c.block_bytes-other_len.result (length c.args.other_room.now) c.loop-left.other_room (g.T.Store.state c.args.other.now).bytes inv.lines.twos
+    room_for (units_open c.args.sides.other_image.now) c.args.sides.to c.loop-left.other_left c.front_of-other_piece.result c.min-most.result c.block_bytes-other_len.result (length c.args.other_room.now) c.loop-left.other_room (g.T.Store.state c.args.other.now).bytes inv.lines.twos
     c.front_of-other_piece.ensures.value (omega (arith, c.blocks_in-fit.ensures, c.blocks_in-other_fit.ensures, c.min-most.ensures)) c.loop-left.auto.other_room c.block_bytes-other_len.ensures.value inv.lines.other_front
 
 pub returns-clause-compared : goal.returns-clause-compared
 returns-clause-compared g c =
-    at_last (places (units_open c.args.image.now) c.args.place (units_open c.args.other_image.now) c.args.to) c.loop-left.left c.loop-left.other_left (g.S.Store.state c.args.store.now).bytes (g.T.Store.state c.args.other.now).bytes c.loop-left.differ (g.O.Sink.taken c.args.out.now)
+    at_last (places (units_open c.args.sides.image.now) c.args.sides.place (units_open c.args.sides.other_image.now) c.args.sides.to) c.loop-left.left c.loop-left.other_left (g.S.Store.state c.args.store.now).bytes (g.T.Store.state c.args.other.now).bytes c.loop-left.differ (g.O.Sink.taken c.args.out.now)
     (g.O.Sink.taken c.loop-left.out) c.requires.places.many c.loop-left.invariant.lines (omega (arith, c.loop-left-test.false))

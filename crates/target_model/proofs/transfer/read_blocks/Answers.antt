@@ -1,10 +1,11 @@
 use Rattle.std.proofs.Common.{◌≡◌, ◌+◌, ◌*◌, ◌<◌, ◌≤◌, ◌^◌, length, take, drop, arith, sym, ap, ◌∙◌, refl}
+use Rattle.std.proofs.lemmas.List.{take-append-le}
 use Rattle.target_answer.specs.declared.passage.Passage.{Passage}
 use Rattle.target_answer.specs.Frames.{sent_size, stored_size}
 use Rattle.target_answer.specs.Passing.{from_medium}
 use Rattle.target_answer.specs.Target.{passage}
 use Rattle.dix_base.proofs.Stores.{not_read, read_on}
-use Rattle.target_model.proofs.Bytes.{drop_both, front_of, inside, lent, refilled, size_most}
+use Rattle.target_model.proofs.Bytes.{drop_both, inside, lent, refilled, size_most}
 use Rattle.target_model.proofs.Reading.{sent_none, sent_next, sent_until, sent_whole}
 use Rattle.target_model.proofs.transfer.read_blocks.Goals as goal
 
@@ -39,7 +40,7 @@ loop-k-preserved g c =
           ∙ ap (λ n. from_medium c.args.tamper.now (passage c.args.blocks.unit c.args.blocks.fields c.args.blocks.lba c.args.labels.now c.loop-k.k) (take n (drop c.loop-k.at bytes))) (sym c.block_bytes-stored.ensures.value))
           (ap (λ (b : Passage). sent_size b.protect b.size) c.passage-block.ensures ∙ sym c.sent_size-sent.ensures.value)
           (sym (drop_both c.block_bytes-stored.result c.loop-k.at bytes))
-          (front_of c.sent_size-sent.result c.read_block.new.frame (drop c.block_bytes-stored.result c.loop-k.buffer) (omega (arith, long, sent)))
+          (take-append-le c.sent_size-sent.result c.read_block.new.frame (drop c.block_bytes-stored.result c.loop-k.buffer) (omega (arith, long, sent)))
           (c.in-None.ensures.told bytes (c.loop-k.invariant.store.same ∙ e))
           c.put_at.ensures;
       into = c.put_at.auto.into ∙ c.loop-k.invariant.into;

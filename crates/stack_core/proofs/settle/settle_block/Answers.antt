@@ -1,5 +1,5 @@
 use Rattle.std.proofs.Common.{arith}
-use Rattle.stack_core.proofs.settle.settle_write.Goals as goal
+use Rattle.stack_core.proofs.settle.settle_block.Goals as goal
 
 pub map_back-requires-clause-payload : goal.map_back-requires-clause-payload
 map_back-requires-clause-payload c = (c.requires.whole.tuples c.in-Some.pi c.in-Some.is).payload
