@@ -121,28 +121,30 @@ found script image image' text' run bytes o tx p clean =
 
 -- ---- after `format`
 
-clean_of : (script : Script) (units : List UnitSpec) → is_layout units ≡ true → is_zero (volume_over script (formatted units)).ty ≡ false → as_expected (setting_over script (formatted units)) 0 ≡ true → IsClean script (formatted units)
-clean_of script units h tuples app =
+clean_of : (script : Script) (units : List UnitSpec) → MadeFor (volume_over script (formatted units)) (devices_of (formatted units)) script.block → is_layout units ≡ true → is_zero (volume_over script (formatted units)).ty ≡ false → as_expected (setting_over script (formatted units)) 0 ≡ true → IsClean script (formatted units)
+clean_of script units made h tuples app =
     let few = (layout_parts units h).1 in
     let image = formatted units in
     let own : own_units image ≡ units_in units image = ap (λ us. units_in us image) (units_back units h) in
     let cell : cell_in (shapes_of (own_units image)) ≡ cell_in units = ap cell_in (ap shapes_of own ∙ shapes_are units few) in
     let ds : map info_of units ≡ devices_of image = ap (map info_of) (sym (units_back units h)) in
     let m : Setting = setting_over script image in
+    let all : DevicesAreClean m (devices_of image) (blocks_in image) =
     subst (λ (d : List DeviceInfo). DevicesAreClean m d (blocks_in image)) ds
-    (subst (λ (us : List Stored). DevicesAreClean m (map info_of units) (blocks_told us)) (sym own) (formatted_clean m units few tuples app cell))
+    (subst (λ (us : List Stored). DevicesAreClean m (map info_of units) (blocks_told us)) (sym own) (formatted_clean m units few tuples app cell)) in
+    λ v l z. all v (address_of m v) l (made.inside v l)
 
-is_clean : (script : Script) (image : List ℕ) (units : List UnitSpec) → IsFresh units image → is_zero (volume_over script image).ty ≡ false → as_expected (setting_over script image) 0 ≡ true → IsClean script image
-is_clean script image units fresh tuples app =
+is_clean : (script : Script) (image : List ℕ) (units : List UnitSpec) → MadeFor (volume_over script image) (devices_of image) script.block → IsFresh units image → is_zero (volume_over script image).ty ≡ false → as_expected (setting_over script image) 0 ≡ true → IsClean script image
+is_clean script image units made fresh tuples app =
     let e = fresh.image_is in
-    subst (IsClean script) (sym e) (clean_of script units fresh.layout (subst (λ (i : List ℕ). is_zero (volume_over script i).ty ≡ false) e tuples) (subst (λ (i : List ℕ). as_expected (setting_over script i) 0 ≡ true) e app))
+    subst (IsClean script) (sym e) (clean_of script units (subst (λ (i : List ℕ). MadeFor (volume_over script i) (devices_of i) script.block) e made) fresh.layout (subst (λ (i : List ℕ). is_zero (volume_over script i).ty ≡ false) e tuples) (subst (λ (i : List ℕ). as_expected (setting_over script i) 0 ≡ true) e app))
 
 -- a script without faults over it
 faultless : (script : Script) (image image' : List ℕ) (units : List UnitSpec) (run : Finished) → RanOver script image image' run → IsFresh units image → as_expected (setting_over script image) 0 ≡ true → IsStill script → IsFaultless script image
 faultless script image image' units run o fresh app p = record {
   faults = p.faults;
   overwrites = p.overwrites;
-  clean = λ v l tuples. is_clean script image units fresh tuples app v (address_of (setting_over script image) v) l (o.made.inside v l);
+  clean = λ v l tuples. is_clean script image units o.made fresh tuples app v l tuples;
   no_escape = none_supplied (setting_over script image) 1 script.ops (opening_over script image) p.escapes;
 }
 
@@ -213,7 +215,7 @@ fresh_legs script image image' units run o fresh app p =
     let made : MadeFor (volume_over script (formatted units)) (devices_of (formatted units)) script.block = subst (λ (i : List ℕ). MadeFor (volume_over script i) (devices_of i) script.block) e o.made in
     let ty : (volume_over script (formatted units)).ty ≡ One = subst (λ (i : List ℕ). (volume_over script i).ty ≡ One) e p.ty in
     subst (AreEqualLegs script) (sym e) (record {
-      clean = clean_of script units fresh.layout (ap is_zero ty) (subst (λ (i : List ℕ). as_expected (setting_over script i) 0 ≡ true) e app);
+      clean = clean_of script units made fresh.layout (ap is_zero ty) (subst (λ (i : List ℕ). as_expected (setting_over script i) 0 ≡ true) e app);
       equal = equal_legs script units fresh.layout made ty;
     })
 
@@ -241,7 +243,7 @@ headlined way image text image' text' f o n result called memory sink carries = 
       let over = over_at script is right fits c in
       record {
         plain = λ p. plain script image image' text' c.run right called.bytes over c.text_is (faultless script image image' units c.run over fresh app p);
-        found = λ p. found script image image' text' c.run called.bytes over c.text_is p (is_clean script image units fresh (ap is_zero p.ty) app);
+        found = λ p. found script image image' text' c.run called.bytes over c.text_is p (is_clean script image units over.made fresh (ap is_zero p.ty) app);
       };
   fresh_mirrored = λ script units is fresh fits app p.
       let right = fresh_head units fresh in

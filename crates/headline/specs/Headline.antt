@@ -15,7 +15,6 @@ use Rattle.walk_laws.specs.PlainMap.{Plain, as_expected, plain_map, plain_replie
 use Rattle.walk_laws.specs.Settings.{Setting}
 use Rattle.walk_laws.specs.Steps.{Step}
 use Rattle.walk_laws.specs.UnderMap.{AreClean, NoEscape, NoneEscapes, home, opened, under}
-use Rattle.run_laws.specs.ShownRun.{DevicesAreClean}
 use Rattle.run_premises.specs.Forms.{escapes_none, shows_by_form}
 use Rattle.stack_ops.specs.Ops.{is_overwrite}
 use Rattle.script_text.specs.Language.{script_in}
@@ -93,9 +92,9 @@ pub record HasGoodLegs (script : Script) (image : List ℕ) : Type 0 where
   pub shown : detectable (mirror_over script image) (asked_of_legs script image) (opening_over script image) ≡ true
   pub one_good : OneGood (mirror_over script image) (half_over script image) script.ops
 
--- Each block of the mirror's units is clean, and both legs have the same data and application tags.
+-- Each block of both legs is clean, and both legs have the same data and application tags.
 pub record AreEqualLegs (script : Script) (image : List ℕ) : Type 0 where
-  pub clean : DevicesAreClean (mirror_over script image) (devices_of image) (blocks_in image)
+  pub clean : AreClean (mirror_over script image) (blocks_in image)
   pub equal : (u : ℕ) → u < half_over script image
       → brought_by script.block (get_or (blocks_in image) (home (mirror_over script image) (half_over script image + u)) []) ≡ brought_by script.block (get_or (blocks_in image) (home (mirror_over script image) u) [])
 

@@ -9,7 +9,7 @@ use Rattle.volume_table.specs.Tables.{Table}
 use Rattle.block_path.specs.Acts.{State}
 use Rattle.walk_laws.specs.ScriptWalk.{script_replies, script_walk}
 use Rattle.walk_laws.specs.Settings.{Setting}
-use Rattle.run_laws.specs.ShownRun.{DevicesAreClean}
+use Rattle.walk_laws.specs.UnderMap.{AreClean}
 use Rattle.run_command.specs.Passed.{binding_fault, script_in, Script}
 use Rattle.run_command.specs.Verdict.{devices_of, opening_told, setting_told, table_over}
 
@@ -46,6 +46,6 @@ pub record FitsImage (script : Script) (image text : List ℕ) : Type 0 where
   pub volume : table_fault script.entries (devices_of image) script.block ≡ None
   pub lines : binding_fault script (volume_over script image) (devices_of image) ≡ None
 
--- Each block of each unit on which the volume lies is clean.
+-- Each block of the volume is clean.
 abbrev pub IsClean : Script → List ℕ → Type 0
-IsClean script image = DevicesAreClean (setting_over script image) (devices_of image) (blocks_in image)
+IsClean script image = AreClean (setting_over script image) (blocks_in image)

@@ -17,7 +17,7 @@ use Rattle.walk_laws.specs.Settings.{Setting}
 use Rattle.walk_laws.specs.UnderMap.{AreClean, IsClean}
 use Rattle.run_laws.specs.ShownRun.{DevicesAreClean}
 use Rattle.script_text.specs.declared.script.Script.{Script}
-use Rattle.image_laws.specs.Passed.{setting_told, HasTable}
+use Rattle.image_laws.specs.Passed.{devices_of, setting_told, HasTable}
 use Rattle.image_blocks.specs.Places.{whole_in}
 use Rattle.image_blocks.specs.declared.stretch.Stretch.{Stretch}
 use Rattle.image_text.specs.Dumps.{imported, imported_block}
@@ -77,4 +77,4 @@ RunsOnClean = (script : Script) (table : Table) (us : List Stored) → HasTable 
 -- Over the bytes of an image with a right head, whose units and volume the script fits.
 abbrev pub ClaimsOnClean : Type 0
 ClaimsOnClean = (script : Script) (image text : List ℕ) → head_fault (head_of image) ≡ None → FitsImage script image text → script.mode.mask ≡ 0 → AreMade script.entries (own_units image) →
-    AreClean (setting_over script image) (blocks_in image) × (is_zero (volume_over script image).ty ≡ false → over.IsClean script image)
+    over.IsClean script image × (is_zero (volume_over script image).ty ≡ false → DevicesAreClean (setting_over script image) (devices_of image) (blocks_in image))

@@ -202,6 +202,7 @@ finishes s devices begun old new repaired lost after runs served ran goes mended
       pool = pool;
       replies_are = replies;
       runs = runs;
+      ran = ran;
       mended = mended;
       stretches = stretches-more s devices old.runs runs old.used new.state.used begun.outside old.outside after served.stretches fell goes;
       lines = subst (λ (rs : List Reply). RoseBy (medium_lines rs) begun.outside.faults after.faults) (sym replies) (rose-later (medium_lines old.replies) begun.outside.faults old.outside.faults after.faults fell.faults served.lines);

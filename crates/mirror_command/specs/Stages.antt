@@ -109,7 +109,7 @@ pub record HasServedMirror (s : Script) (devices : List DeviceInfo) (us left : L
   pub repaired_is : repaired ≡ (repair_over s devices us).repaired
   pub lost_is : lost ≡ (repair_over s devices us).lost
 
--- All ops were done, and then the repair. Over any rig the lines of the replies that name the medium are at most as many as the count of faults rose.
+-- All ops were done, and then the repair, whose requests left what they may, whatever lines name the medium. Over any rig the lines of the replies that name the medium are at most as many as the count of faults rose.
 -- Over one that tells its blocks: where no line names the medium, of the report or of a request on a leg, it is the mirror's walk and its repair; and whatever lines name it, no block is listed as refused or short.
 pub record Finished (s : Script) (devices : List DeviceInfo) (begun : Stage) (r : Mirror) (repaired lost : ℕ) (after : RigState) : Type 0 where
   pub stage : Stage
@@ -117,6 +117,7 @@ pub record Finished (s : Script) (devices : List DeviceInfo) (begun : Stage) (r 
   pub pool : r.state.pool ≡ stage.sides.pool
   pub replies_are : r.replies.items ≡ stage.replies
   pub runs : List LegRun
+  pub ran : RanLegs (table_of s devices) devices runs stage.outside after
   pub mended : RepairBy s (half_of s devices) 0 (stretches_in (half_of s devices)) (record { marks = stage.sides.marks; repaired = 0; lost = 0 }) (record { marks = r.state.marks.items; repaired = repaired; lost = lost }) runs
   pub stretches : InStretches s devices (stage.runs ++ runs) r.state.used begun.outside after
   pub lines : RoseBy (medium_lines r.replies.items) begun.outside.faults after.faults

@@ -1,4 +1,5 @@
 -- Along all that a script asks of the legs, under faults that have the form: what stands in the pages and on the volume, and that each fault is shown.
+-- A line names a block of a mirror on either leg, and a step is asked of both: so blocks and steps are told otherwise here than in `run_premises/proofs/Runs`, whose `all_shown` it uses.
 use Rattle.std.proofs.Common.{◌≡◌, ◌<◌, ◌≤◌, ℕ, zero, suc, ◌+◌, ◌-◌, ◌%◌, ◌^◌, Bool, true, false, eqb, ◌&&◌, not, List, [], ◌∷◌, ◌++◌, length, get_or, refl, sym, ap, subst, ◌∙◌, arith}
 use Rattle.std.specs.Prelude.{All}
 use Rattle.std.specs.List.{list_all, list_any}

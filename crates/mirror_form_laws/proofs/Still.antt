@@ -191,7 +191,7 @@ module _ (m' : Setting) (p : ℕ) (devices : List DeviceInfo) (half : ℕ) (ops 
   all-pass v l =
       let frame = get_or opening.blocks (home m' v) [] in
       let t = tuple_of m'.size frame in
-      let c = is.clean v (address_of m' v) l (is.lies.inside v l) in
+      let c = is.clean v l refl in
       record {
         size = is.cells.size (place_in m'.entries v).0 (place_in m'.entries v).1 (is.lies.inside v l);
         none = passes_if m'.mode.app 0 (ref_tag (address_of m' v)) (crc (data_of m'.size frame)) t (from_both t (crc (data_of m'.size frame)) (ref_tag (address_of m' v)) (record { guard = c.guard; rtag = c.rtag refl })) (unmasked m'.mode.app t);
@@ -204,7 +204,7 @@ module _ (m' : Setting) (p : ℕ) (devices : List DeviceInfo) (half : ℕ) (ops 
     long = is.long;
     lies = record { inside = is.lies.inside; alone = is.lies.alone };
     cells = record { within = is.cells.within; apart = is.cells.apart; size = is.cells.size };
-    clean = λ v lba l h. (let c = is.clean v lba l h in record { no_escape = c.no_escape; guard = c.guard; app = c.app; rtag = c.rtag });
+    clean = λ v l z. (let c = is.clean v l refl in record { no_escape = c.no_escape; guard = c.guard; app = c.app; rtag = c.rtag });
     equal = is.equal;
     bind = bound;
     no_escape = none_supplied one half ops opening is.escapes;

@@ -13,7 +13,7 @@ use Rattle.walk_laws.specs.CalmRun.{LiesInImage}
 use Rattle.walk_laws.specs.Past.{brought_by}
 use Rattle.walk_laws.specs.Settings.{Setting}
 use Rattle.walk_laws.specs.UnderMap.{AreClean, NoneEscapes, home}
-use Rattle.run_laws.specs.ShownRun.{DevicesAreClean, HasCells, IsChecked, LiesOn}
+use Rattle.run_laws.specs.ShownRun.{HasCells, IsChecked, LiesOn}
 use Rattle.stack_ops.specs.Ops.{is_overwrite}
 use Rattle.run_premises.specs.Forms.{escapes_none}
 use Rattle.run_premises.specs.FormedRun.{IsOfBytes}
@@ -67,7 +67,7 @@ pub record HasStillLegs (m : Setting) (devices : List DeviceInfo) (half : ℕ) (
   pub long : volume_len m.entries ≡ half + half
   pub lies : LiesOn m devices
   pub cells : HasCells m devices opening.blocks
-  pub clean : DevicesAreClean m devices opening.blocks
+  pub clean : AreClean m opening.blocks
   pub equal : (u : ℕ) → u < half → brought_by m.size (get_or opening.blocks (home m (half + u)) []) ≡ brought_by m.size (get_or opening.blocks (home m u) [])
   pub bytes : AreBytes m half opening.blocks
   pub bind : AllBind m devices half (length opening.bytes) ops

@@ -15,8 +15,8 @@ use Rattle.volume_table.specs.Places.{place_in}
 use Rattle.block_path.specs.WayIn.{from_wire}
 use Rattle.block_path.specs.WayOut.{to_wire}
 use Rattle.walk_laws.specs.Past.{brought_by}
-use Rattle.walk_laws.specs.UnderMap.{IsClean, home}
-use Rattle.run_laws.specs.ShownRun.{DevicesAreClean, HasBlock, HasCells, LiesOn}
+use Rattle.walk_laws.specs.UnderMap.{AreClean, IsClean, home}
+use Rattle.run_laws.specs.ShownRun.{HasBlock, HasCells, LiesOn}
 use Rattle.run_laws.proofs.ShownRows.{one_list}
 use Rattle.mirror_laws.specs.OneGood.{AreBytes, HasGoodLeg, IsMirrorRun, IsUnnamed}
 use Rattle.mirror_laws.specs.LegByLeg.{HasLegs}
@@ -83,8 +83,11 @@ clean_at zero l = record { no_escape = refl; guard = refl; app = refl; rtag = λ
 clean_at (suc zero) l = record { no_escape = refl; guard = refl; app = refl; rtag = λ h. refl }
 clean_at (suc (suc dev)) l = absurd (omega (arith, l))
 
-clean : DevicesAreClean stale devices opening.blocks
-clean v lba l h = subst (λ a. IsClean stale a (get_or opening.blocks (place_in stale.entries v).0 [])) (sym (lba_zero (place_in stale.entries v).0 lba h)) (clean_at (place_in stale.entries v).0 h.known)
+clean : AreClean stale opening.blocks
+clean v l z =
+    let h = inside v l in
+    let dev = (place_in stale.entries v).0 in
+    subst (λ a. IsClean stale a (get_or opening.blocks dev [])) (sym (lba_zero dev (place_in stale.entries v).1 h)) (clean_at dev h.known)
 
 unnamed2 : IsUnnamed stale (record { op = 2; k = 1; virt = 1 })
 unnamed2 HostToAdapter = refl

@@ -29,8 +29,9 @@ use Rattle.mirror_laws.specs.declared.marks.Marks.{Marks}
 use Rattle.mirror_laws.specs.OneGood.{AllSpare, AreBytes, HoldsProper, IsMirrorRun, IsRepaired, last_of, on_leg}
 use Rattle.mirror_laws.specs.Repair.{WalkedRepair, mirror_repair, repair_block, repair_from, steady}
 use Rattle.run_laws.proofs.Along.{begins}
+use Rattle.run_laws.proofs.CleanWhereRead.{on_clean_volume}
 use Rattle.mirror_laws.proofs.Delivery.{AllFitIn, FitsIn, last_in, split_escapes, split_shown}
-use Rattle.mirror_laws.proofs.Holds.{refused_last}
+use Rattle.mirror_laws.proofs.Holds.{on_medium, refused_last}
 use Rattle.run_laws.proofs.Layers.{checked}
 use Rattle.run_laws.proofs.Reading.{checked_form}
 use Rattle.mirror_laws.proofs.Mending.{After, Before, Mended, SoundAs, SpoiltAt, at0, at1, block_mended}
@@ -118,11 +119,15 @@ module _ (m' : Setting) (opening : State) (half : ℕ) (count : ℕ → ℕ) (st
   abbrev SpoiltHere : (v : ℕ) → List ℕ → Type 0
   SpoiltHere v x = SpoiltAt m' opening half v x
 
+  -- a block of no op
+  abbrev at_rest : ℕ → Block
+  at_rest v = record { op = 0; k = 0; virt = v }
+
   not_hit : (v : ℕ) (e : Brought) (past : List Event) (blocks : List (List ℕ)) → v < half + half → HeldHere past blocks → last v past ≡ e → is_hit m (home m v) past ≡ false → SoundHere v e (get_or blocks (home m v) [])
   not_hit v e past blocks l held q h =
       let k : v < volume_len m'.entries = omega (arith, l, long) in
-      let s = held.sound (place_in m'.entries v).0 (place_in m'.entries v).1 (record { v = v; within = k; here = refl; on = lies.inside v k }) h in
-      record { sound = record { bare = s.bare; bears = s.bears; app = s.app }; brought = held.newest (record { op = 0; k = 0; virt = v }) k h ∙ q }
+      let s = held.sound (place_in m'.entries v).0 (place_in m'.entries v).1 (record { b = at_rest v; within = k; here = refl; met = sym (on_medium m' opening half count still (at_rest v)); on = lies.inside v k }) h in
+      record { sound = record { bare = s.bare; bears = s.bears; app = s.app }; brought = held.newest (at_rest v) k h ∙ q }
 
   either : (v : ℕ) (e : Brought) (past : List Event) (blocks : List (List ℕ)) → v < half + half → HeldHere past blocks → last v past ≡ e → SoundHere v e (get_or blocks (home m v) []) ⊎ SpoiltHere v (get_or blocks (home m v) [])
   either v e past blocks l held q = by (is_hit m (home m v) past) refl where
@@ -130,7 +135,7 @@ module _ (m' : Setting) (opening : State) (half : ℕ) (count : ℕ → ℕ) (st
     by false h = inl (not_hit v e past blocks l held q h)
     by true h =
         let k : v < volume_len m'.entries = omega (arith, l, long) in
-        let s = held.spoilt (place_in m'.entries v).0 (place_in m'.entries v).1 (record { v = v; within = k; here = refl; on = lies.inside v k }) h in
+        let s = held.spoilt (place_in m'.entries v).0 (place_in m'.entries v).1 (record { b = at_rest v; within = k; here = refl; met = sym (on_medium m' opening half count still (at_rest v)); on = lies.inside v k }) h in
         inr (record { escape = s.escape; foreign = s.foreign })
 
   before_repair : (u : ℕ) (leg : Bool) (s : Mirror) (mirror : List Event) → u < half → Ends u leg s mirror →
@@ -213,7 +218,7 @@ module _ (m' : Setting) (devices : List DeviceInfo) (half : ℕ) (ops : List Op)
   at_end u l =
       let good = run.one_good u l in
       ends m' opening half (count_of ops) run.unshifted devices run.lies run.cells run.long u good.leg (steps_from base 1 ops) (mirror_opened half opening) [] [] l good.spares (script_fits m' devices half ops opening run)
-      run.no_escape run.shown (length-replicate half fresh) (begins m' devices run.lies opening run.cells run.clean) (starts m' devices half ops opening run u good.leg l) (short u l)
+      run.no_escape run.shown (length-replicate half fresh) (begins m' devices run.lies opening run.cells (on_clean_volume (checked m') devices opening.blocks refl run.unshifted run.clean)) (starts m' devices half ops opening run u good.leg l) (short u l)
 
   begun : (u : ℕ) → u < half → Before m' opening half u (last_one u) (marks_of now.marks u) (get_or now.state.blocks (home base u) []) (get_or now.state.blocks (home base (half + u)) [])
   begun u l =

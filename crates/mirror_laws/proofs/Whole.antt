@@ -28,6 +28,7 @@ use Rattle.run_laws.proofs.Parts.{block_below, block_distinct, blocks_apart, lan
 use Rattle.mirror_laws.specs.Mirror.{Mirror, accepted, all_asked, answer, asked, asks, count_of, done, fresh, marks_of, mirror_opened, mirror_past, mirror_replies, replies_from, twin}
 use Rattle.mirror_laws.specs.OneGood.{AllBind, AllSpare, Binds, IsMirrorRun, ReadsLast, last_of, on_leg}
 use Rattle.run_laws.proofs.Along.{begins}
+use Rattle.run_laws.proofs.CleanWhereRead.{on_clean_volume}
 use Rattle.run_laws.proofs.Layers.{checked}
 use Rattle.run_laws.proofs.Reading.{checked_form}
 use Rattle.mirror_laws.proofs.Delivery.{AllFitIn, Gets, read_along}
@@ -190,7 +191,7 @@ module _ (m' : Setting) (devices : List DeviceInfo) (half : ℕ) (ops : List Op)
         (subst (λ steps. NoneEscapes m (all_asked m half (count_of ops) steps (mirror_opened half opening)) opening) e run.no_escape)
         (subst (λ steps. detectable m (all_asked m half (count_of ops) steps (mirror_opened half opening)) opening ≡ true) e run.shown)
         (length-replicate half fresh)
-        (begins m' devices run.lies opening run.cells run.clean)
+        (begins m' devices run.lies opening run.cells (on_clean_volume (checked m') devices opening.blocks refl run.unshifted run.clean))
         (starts (v + k) good.leg (within k l))
 
     -- each block so far, and the next

@@ -22,8 +22,8 @@ use Rattle.walk_laws.specs.FirstLayer.{has_flip, last_accepted}
 use Rattle.walk_laws.specs.Past.{Brought, brought_by, steps_from}
 use Rattle.walk_laws.specs.Settings.{Block, Setting}
 use Rattle.walk_laws.specs.Steps.{Alters, Reads, Seals, Sets, Shows, Step, Writes, WritesPi, body_of}
-use Rattle.walk_laws.specs.UnderMap.{NoneEscapes, address_of, home}
-use Rattle.run_laws.specs.ShownRun.{DevicesAreClean, HasBlock, HasCells, IsChecked, LiesOn}
+use Rattle.walk_laws.specs.UnderMap.{AreClean, NoneEscapes, address_of, home}
+use Rattle.run_laws.specs.ShownRun.{HasBlock, HasCells, IsChecked, LiesOn}
 use Rattle.mirror_laws.specs.Mirror.{all_asked, count_of, done, fresh, marks_of, mirror_opened, mirror_past, mirror_replies, mirror_walk, twin}
 use Rattle.mirror_laws.specs.Repair.{mirror_repair}
 use Rattle.pi_tuple.specs.declared.TheConstants.{TUPLE}
@@ -89,7 +89,7 @@ pub record IsMirrorRun (m : Setting) (devices : List DeviceInfo) (half : ℕ) (o
   pub long : volume_len m.entries ≡ half + half
   pub lies : LiesOn m devices
   pub cells : HasCells m devices opening.blocks
-  pub clean : DevicesAreClean m devices opening.blocks
+  pub clean : AreClean m opening.blocks
   pub equal : (u : ℕ) → u < half → brought_by m.size (get_or opening.blocks (home m (half + u)) []) ≡ brought_by m.size (get_or opening.blocks (home m u) [])
   pub bind : AllBind m devices half (length opening.bytes) ops
   pub no_escape : NoneEscapes m (script_asks m half ops opening) opening

@@ -19,8 +19,7 @@ use Rattle.script_stack.specs.Causes.{table_of}
 use Rattle.walk_laws.specs.CalmRun.{LiesInImage}
 use Rattle.walk_laws.specs.Detectable.{detectable}
 use Rattle.walk_laws.specs.Settings.{Setting}
-use Rattle.walk_laws.specs.UnderMap.{AreClean, NoneEscapes, address_of, home}
-use Rattle.run_laws.specs.ShownRun.{DevicesAreClean}
+use Rattle.walk_laws.specs.UnderMap.{NoneEscapes, home}
 use Rattle.stack_ops.specs.Ops.{is_overwrite}
 use Rattle.mirror_form_laws.specs.Passed.{supplies_none}
 use Rattle.mirror_laws.specs.OneGood.{AreBytes, OneGood, script_asks}
@@ -86,9 +85,6 @@ module _ (s : Script) (devices : List DeviceInfo) (us : List Stored) (is : IsMir
   pub leg-bytes : HoldsBytes us → AreBytes m (half_of s devices) (blocks_told us)
   leg-bytes bytes u l = let g = (fits s devices us is).long in (lies-in bytes).bytes u (omega (arith, g, l))
 
-  are-clean : DevicesAreClean m devices (blocks_told us) → AreClean m (blocks_told us)
-  are-clean clean v l z = clean v (address_of m v) l (is.bound.made.inside v l)
-
   formed-legs : EscapeLaw → HoldsBytes us → IsFormedMirror s devices us → HasFormedLegs m devices (half_of s devices) s.ops (opening_over s us)
   formed-legs none bytes p = record {
     checked = checked-over s devices us is p.ty p.protect;
@@ -97,7 +93,7 @@ module _ (s : Script) (devices : List DeviceInfo) (us : List Stored) (is : IsMir
     pages = All-replicate (λ x. x < 256) (4096 * s.pages) 0 (omega arith);
     long = (fits s devices us is).long;
     lies = lies-in bytes;
-    clean = are-clean p.clean;
+    clean = p.clean;
     bind = all-bound s devices us is;
     puts = puts-each s.mode.dix s.pages s.block s.ops is.bound.keeps.ops_are;
     no_escape = none m (half_of s devices) s.ops (opening_over s us) p.escapes;

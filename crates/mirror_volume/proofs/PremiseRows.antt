@@ -16,8 +16,7 @@ use Rattle.dix_adapter.specs.Ways.{blocks_told}
 use Rattle.volume_table.specs.Faults.{table_fault}
 use Rattle.walk_laws.specs.Past.{brought_by}
 use Rattle.walk_laws.specs.Settings.{Setting}
-use Rattle.walk_laws.specs.UnderMap.{IsClean, home}
-use Rattle.run_laws.specs.ShownRun.{DevicesAreClean}
+use Rattle.walk_laws.specs.UnderMap.{AreClean, IsClean, home}
 use Rattle.script_text.specs.declared.script.Script.{Script}
 use Rattle.script_stack.specs.Causes.{table_of}
 use Rattle.mirror_volume.specs.LegsPassed.{mirror_fault}
@@ -42,12 +41,10 @@ block_clean : IsClean m 0 (fresh One 512 0)
 unfolding crc
 block_clean = record { no_escape = refl; guard = refl; app = refl; rtag = λ h. refl }
 
-clean : DevicesAreClean m devices (blocks_told us)
-clean zero zero l h = block_clean
-clean (suc zero) zero l h = block_clean
-clean zero (suc lba) l h = absurd (let e = h.ends in omega arith)
-clean (suc zero) (suc lba) l h = absurd (let e = h.ends in omega arith)
-clean (suc (suc v)) lba l h = absurd (omega (arith, l))
+clean : AreClean m (blocks_told us)
+clean zero l z = block_clean
+clean (suc zero) l z = block_clean
+clean (suc (suc v)) l z = absurd (omega (arith, l))
 
 equal : (u : ℕ) → u < 1 → brought_by 512 (get_or (blocks_told us) (home m (1 + u)) []) ≡ brought_by 512 (get_or (blocks_told us) (home m u) [])
 equal zero l = refl
@@ -102,9 +99,9 @@ formed_row = record {
 pub still_bound : (mirror_fault (still_script 3) (table_of (still_script 3) devices) devices ≡ None) × (mirror_fault (still_script 4) (table_of (still_script 4) devices) devices ≡ None)
 still_bound = (refl, refl)
 
-still_clean : (protect : ℕ) → DevicesAreClean (mirror_setting (still_script protect) devices us) devices (blocks_told us)
-still_clean protect v lba l h =
-    let c = clean v lba l (record { known = h.known; begins = h.begins; ends = h.ends; type_is = h.type_is; size_is = h.size_is }) in
+still_clean : (protect : ℕ) → AreClean (mirror_setting (still_script protect) devices us) (blocks_told us)
+still_clean protect v l z =
+    let c = clean v l z in
     record { no_escape = c.no_escape; guard = c.guard; app = c.app; rtag = c.rtag }
 
 pub still_row : (protect : ℕ) → IsStillMirror (still_script protect) devices us

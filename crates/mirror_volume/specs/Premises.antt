@@ -7,8 +7,7 @@ use Rattle.target_answer.specs.Target.{Stored}
 use Rattle.volume_table.specs.declared.device.DeviceInfo.{DeviceInfo}
 use Rattle.walk_laws.specs.Detectable.{detectable}
 use Rattle.walk_laws.specs.Past.{brought_by}
-use Rattle.walk_laws.specs.UnderMap.{NoneEscapes, home}
-use Rattle.run_laws.specs.ShownRun.{DevicesAreClean}
+use Rattle.walk_laws.specs.UnderMap.{AreClean, NoneEscapes, home}
 use Rattle.stack_ops.specs.Ops.{is_overwrite}
 use Rattle.mirror_form_laws.specs.Passed.{escapes_none}
 use Rattle.script_text.specs.declared.script.Script.{Script}
@@ -27,12 +26,12 @@ abbrev pub AreEqualLegs : Script → List DeviceInfo → List Stored → Type 0
 AreEqualLegs s devices us = (u : ℕ) → u < half_of s devices
     → brought_by s.block (get_or (blocks_told us) (home (mirror_setting s devices us) (half_of s devices + u)) []) ≡ brought_by s.block (get_or (blocks_told us) (home (mirror_setting s devices us) u) [])
 
--- The volume is of type 1, and commands have protect field 001b. Each block of its devices is clean, and both legs have the same data and application tags.
+-- The volume is of type 1, and commands have protect field 001b. Each block of both legs is clean, and both legs have the same data and application tags.
 -- No write supplies an escape, each alteration can be shown, and each block has a leg on which no fault line alters it on its way, and no overwrite in its place.
 pub record IsOneGoodRun (s : Script) (devices : List DeviceInfo) (us : List Stored) : Type 0 where
   pub ty : (table_of s devices).ty ≡ One
   pub protect : s.mode.protect ≡ 1
-  pub clean : DevicesAreClean (mirror_setting s devices us) devices (blocks_told us)
+  pub clean : AreClean (mirror_setting s devices us) (blocks_told us)
   pub equal : AreEqualLegs s devices us
   pub no_escape : NoneEscapes (mirror_setting s devices us) (script_asks (mirror_setting s devices us) (half_of s devices) s.ops (opening_over s us)) (opening_over s us)
   pub shown : detectable (mirror_setting s devices us) (script_asks (mirror_setting s devices us) (half_of s devices) s.ops (opening_over s us)) (opening_over s us) ≡ true
@@ -46,14 +45,14 @@ pub record IsFormedMirror (s : Script) (devices : List DeviceInfo) (us : List St
   pub form : shows_on_legs s.mode.kind s.block (half_of s devices) s.faults s.ops ≡ true
   pub a_leg : leaves_a_leg (half_of s devices) s.faults s.ops ≡ true
   pub escapes : escapes_none s.ops ≡ true
-  pub clean : DevicesAreClean (mirror_setting s devices us) devices (blocks_told us)
+  pub clean : AreClean (mirror_setting s devices us) (blocks_told us)
   pub equal : AreEqualLegs s devices us
 
--- No line of a fault, no overwrite, and no `write` with the application tag FFFFh; under any protect field. The volume is of type 1, each block of its devices is clean, and both legs have the same data and application tags.
+-- No line of a fault, no overwrite, and no `write` with the application tag FFFFh; under any protect field. The volume is of type 1, each block of both legs is clean, and both legs have the same data and application tags.
 pub record IsStillMirror (s : Script) (devices : List DeviceInfo) (us : List Stored) : Type 0 where
   pub ty : (table_of s devices).ty ≡ One
   pub faults : s.faults ≡ []
   pub overwrites : list_any is_overwrite s.ops ≡ false
   pub escapes : escapes_none s.ops ≡ true
-  pub clean : DevicesAreClean (mirror_setting s devices us) devices (blocks_told us)
+  pub clean : AreClean (mirror_setting s devices us) (blocks_told us)
   pub equal : AreEqualLegs s devices us

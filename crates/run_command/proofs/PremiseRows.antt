@@ -25,7 +25,8 @@ use Rattle.volume_table.specs.Tables.{Table}
 use Rattle.volume_table.specs.declared.device.DeviceInfo.{DeviceInfo}
 use Rattle.volume_table.specs.declared.entry.Entry.TheVariants.{Linear}
 use Rattle.walk_laws.specs.UnderMap.{AreClean, IsClean}
-use Rattle.run_laws.specs.ShownRun.{DevicesAreClean}
+use Rattle.run_laws.proofs.CleanWhereRead.{on_clean_volume}
+use Rattle.script_form_laws.proofs.Passed.{no_shift}
 use Rattle.script_text.specs.Bindings.{binding_fault}
 use Rattle.script_text.specs.Language.{line_taken, script_in, taken}
 use Rattle.script_lines.specs.Forms.{app_form, fault_form, flip_form, limits_form, linear_form, mode_form, pages_form, place_form, read_form, write_form}
@@ -128,10 +129,9 @@ faulty_clean : IsClean (setting_told faulty table us) 0 (fresh One 512 0)
 unfolding crc
 faulty_clean = record { no_escape = refl; guard = refl; app = refl; rtag = λ h. refl }
 
-all_clean : DevicesAreClean (setting_told faulty table us) devices (blocks_told us)
-all_clean zero zero l h = faulty_clean
-all_clean zero (suc lba) l h = absurd (let e = h.ends in omega arith)
-all_clean (suc v) lba l h = absurd (omega arith)
+volume_clean : AreClean (setting_told faulty table us) (blocks_told us)
+volume_clean zero l t = faulty_clean
+volume_clean (suc v) l t = absurd (omega arith)
 
 detectable_row : IsDetectableRun faulty table devices us
 unfolding crc ip found_in to_medium from_medium to_wire from_wire run
@@ -140,11 +140,11 @@ detectable_row = record {
   dix = refl;
   dif = refl;
   protect = refl;
-  clean = all_clean;
+  clean = on_clean_volume (setting_told faulty table us) devices (blocks_told us) refl (no_shift faulty.mode.kind faulty.block faulty.faults faulty.ops faulty.faults refl) volume_clean;
   no_escape = ((λ h. refl, tt), ((tt, tt), tt));
   shown = refl;
 }
 
 formed_row : IsFormedRun faulty table devices us
 unfolding crc
-formed_row = record { ty = refl; dix = refl; dif = refl; protect = refl; form = refl; escapes = refl; clean = all_clean }
+formed_row = record { ty = refl; dix = refl; dif = refl; protect = refl; form = refl; escapes = refl; clean = volume_clean }

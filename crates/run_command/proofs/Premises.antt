@@ -7,7 +7,7 @@ use Rattle.stack_walk_laws.specs.Passed.{blocks_told, shapes_of}
 use Rattle.volume_table.specs.Tables.{Table}
 use Rattle.volume_table.specs.declared.device.DeviceInfo.{DeviceInfo}
 use Rattle.walk_laws.specs.CalmRun.{IsCalmRun}
-use Rattle.run_laws.specs.ShownRun.{DevicesAreClean, IsShownRun}
+use Rattle.run_laws.specs.ShownRun.{AreCleanWhereRead, IsShownRun}
 use Rattle.script_text.specs.declared.script.Script.{Script}
 use Rattle.script_stack.proofs.Passed.{calm-run, IsBoundOver, shown-run}
 use Rattle.run_command.specs.Premises.{IsDetectableRun, IsPlainRun, opening_told, setting_told}
@@ -18,4 +18,4 @@ plain_run s t us b bytes p = calm-run s t us b p.quiet.faults p.quiet.overwrites
 pub detectable_run : (s : Script) (t : Table) (devices : List DeviceInfo) (us : List Stored) → devices ≡ map info_of (shapes_of us) → IsBoundOver s t us → IsDetectableRun s t devices us → IsShownRun (setting_told s t us) devices s.ops (opening_told s us)
 detectable_run s t devices us e b p =
     subst (λ ds. IsShownRun (setting_told s t us) ds s.ops (opening_told s us)) (sym e)
-    (shown-run s t us b p.ty p.dix p.dif p.protect (subst (λ ds. DevicesAreClean (setting_told s t us) ds (opening_told s us).blocks) e p.clean) p.no_escape p.shown)
+    (shown-run s t us b p.ty p.dix p.dif p.protect (subst (λ (ds : List DeviceInfo). AreCleanWhereRead (setting_told s t us) ds (opening_told s us).blocks) e p.clean) p.no_escape p.shown)

@@ -41,9 +41,10 @@ use Rattle.run_command.proofs.Premises.{detectable_run, plain_run}
 use Rattle.page_pool.specs.declared.segs.Seg.{Seg}
 use Rattle.integrity_payload.specs.declared.payload.Owner.{Owner}
 use Rattle.walk_laws.specs.ReadsAs.{ReadsRightly, read_op}
-use Rattle.run_laws.specs.ShownRun.{DevicesAreClean, IsShownRun}
+use Rattle.run_laws.specs.ShownRun.{AreCleanWhereRead, IsShownRun}
 use Rattle.script_form_laws.specs.Passed.{escapes_none}
 use Rattle.script_form_laws.specs.FormedScript.{IsFormedOver, IsFormedScript}
+use Rattle.script_form_laws.proofs.Formed.{read-clean}
 use Rattle.walk_laws.specs.Detectable.{detectable}
 use Rattle.walk_laws.specs.Past.{steps_from}
 use Rattle.run_command.specs.Followed.{AllReadRightly, Followed, HasPlain, HasReadRightly, OnAnyRig, RunReadsRightly}
@@ -52,12 +53,13 @@ use Rattle.block_path.specs.Moves.{hidden}
 use Rattle.stack_ops.specs.declared.op.Op.{Op}
 use Rattle.stack_ops.specs.declared.op.Op.TheVariants.{Fetch, FetchPi, Fill, Overwrite, Put, Seal, Show, Wait, Write, WritePi}
 use Rattle.stack_walk_laws.specs.AtTheEnd.{EndsAsFalling}
-use Rattle.stack_walk_laws.specs.Flips.{Flips, flip_op, with_flips}
+use Rattle.stack_walk_laws.specs.Flips.{with_flips}
+use Rattle.stack_walk_laws.proofs.NoFlips.{no_flips_in}
 use Rattle.walk_laws.specs.CalmRun.{IsCalmRun}
 use Rattle.walk_laws.specs.PlainMap.{plain_map, plain_replies}
 use Rattle.walk_laws.specs.ScriptWalk.{script_replies, script_walk}
 use Rattle.walk_laws.specs.Settings.{Setting}
-use Rattle.walk_laws.specs.UnderMap.{IsUnder, NoEscape, address_of, opened}
+use Rattle.walk_laws.specs.UnderMap.{IsUnder, NoEscape, opened}
 
 -- as a stack's walk begins on it
 abbrev pub armed_for : Script → RigState → RigState
@@ -169,26 +171,6 @@ none_failed s t devices log replies none backed i =
     let m = setting_of s t (map unit_of devices) (failed_in replies) in
     ap (λ (rs : List Reply). is_medium (get_or rs i Silent)) (backed []).checked ∙ none-medium (told m (recorded m log)) 1 s.ops (opening_of s (map unit_of devices) []) none i
 
--- nor does one flip its block
-no_flips_in : (flips : Flips) (i : ℕ) (ops : List Op) → list_any is_overwrite ops ≡ false → with_flips flips i ops ≡ ops
-no_flips_in flips i [] h = refl
-no_flips_in flips i (op ∷ ops) h =
-    let p = or_parts (is_overwrite op) (list_any is_overwrite ops) h in
-    ap (λ (x : Op). x ∷ with_flips flips (suc i) ops) (as_it_is (flips i) op p.0) ∙ ap (λ (rest : List Op). op ∷ rest) (no_flips_in flips (suc i) ops p.1)
-  where
-    as_it_is : (o : Option (List ℕ)) (op : Op) → is_overwrite op ≡ false → flip_op o op ≡ op
-    as_it_is None op h = refl
-    as_it_is (Some mask) (Fill seg byte) h = refl
-    as_it_is (Some mask) (Put page off bytes) h = refl
-    as_it_is (Some mask) (Show seg) h = refl
-    as_it_is (Some mask) (Seal n body tuples app rtag) h = refl
-    as_it_is (Some mask) (Write v n body app) h = refl
-    as_it_is (Some mask) (Fetch v n body) h = refl
-    as_it_is (Some mask) (WritePi v n body tuples) h = refl
-    as_it_is (Some mask) (FetchPi v n body tuples) h = refl
-    as_it_is (Some mask) (Overwrite dev lba change) h = absurd (false≢true (sym h))
-    as_it_is (Some mask) Wait h = refl
-
 none_fails_in : (replies : List Reply) → NoneFailed replies → (i : ℕ) → failed_in replies i ≡ none_fails i
 none_fails_in replies none zero = refl
 none_fails_in replies none (suc i) = none i
@@ -210,25 +192,26 @@ EscapeLaw = (s : Script) (t : Table) (us : List Stored) → escapes_none s.ops �
 by_form : (s : Script) (t : Table) (devices : List DeviceInfo) (us : List Stored) → FormLaw → EscapeLaw → devices ≡ map info_of (shapes_of us) → IsBoundOver s t us → All (All (λ x. x < 256)) (blocks_told us) → IsFormedRun s t devices us → IsDetectableRun s t devices us
 by_form s t devices us form escape same b bytes p =
     let none = escape s t us p.escapes in
-    let own = subst (λ (ds : List DeviceInfo). DevicesAreClean (setting_told s t us) ds (blocks_told us)) same p.clean in
+    let over : IsFormedOver s t us = record { keeps = b.keeps; lines = b.lines; made = b.made; bound = b.bound; stored = b.stored } in
+    let script : IsFormedScript s t us =
     record {
       ty = p.ty;
       dix = p.dix;
       dif = p.dif;
       protect = p.protect;
+      form = p.form;
+      bytes = bytes;
       clean = p.clean;
       no_escape = none;
-      shown = form s t us (record { keeps = b.keeps; lines = b.lines; made = b.made; bound = b.bound; stored = b.stored })
-          (record {
-            ty = p.ty;
-            dix = p.dix;
-            dif = p.dif;
-            protect = p.protect;
-            form = p.form;
-            bytes = bytes;
-            clean = λ v l z. own v (address_of (setting_told s t us) v) l (b.made.inside v l);
-            no_escape = none;
-          });
+    } in
+    record {
+      ty = p.ty;
+      dix = p.dix;
+      dif = p.dif;
+      protect = p.protect;
+      clean = subst (λ (ds : List DeviceInfo). AreCleanWhereRead (setting_told s t us) ds (blocks_told us)) (sym same) (read-clean s t us script);
+      no_escape = none;
+      shown = form s t us over script;
     }
 
 formed_at : (s : Script) (t : Table) (devices : List DeviceInfo) (begun r : Stack) (old new : RigState) → ToldLaw → DetectionLaw → FormLaw → EscapeLaw → (o : IsDone s t devices begun r old new) → (known : KnownBlocks old new) →

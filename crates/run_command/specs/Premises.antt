@@ -12,7 +12,7 @@ use Rattle.walk_laws.specs.Detectable.{detectable}
 use Rattle.walk_laws.specs.Past.{steps_from}
 use Rattle.walk_laws.specs.Settings.{Setting}
 use Rattle.walk_laws.specs.UnderMap.{AreClean, NoEscape}
-use Rattle.run_laws.specs.ShownRun.{DevicesAreClean}
+use Rattle.run_laws.specs.ShownRun.{AreCleanWhereRead}
 use Rattle.script_form_laws.specs.Passed.{escapes_none, shows_by_form}
 use Rattle.stack_ops.specs.Ops.{is_overwrite}
 use Rattle.script_stack.specs.Followed.{none_fails, opening_of, setting_of}
@@ -36,17 +36,17 @@ pub record IsPlainRun (script : Script) (table : Table) (us : List Stored) : Typ
   pub quiet : IsQuietRun script table us
   pub no_escape : NoEscape (setting_told script table us) 1 script.ops (opening_told script us)
 
--- The volume is of type 1, tuples pass all the way, and commands have protect field 001b. Each block of the volume's devices is clean, no write supplies an escape, and each scheduled fault can be shown.
+-- The volume is of type 1, tuples pass all the way, and commands have protect field 001b. Each block is clean to which a read may come, also by a shift; no write supplies an escape, and each scheduled fault can be shown.
 pub record IsDetectableRun (script : Script) (table : Table) (devices : List DeviceInfo) (us : List Stored) : Type 0 where
   pub ty : table.ty ≡ One
   pub dix : script.mode.dix ≡ true
   pub dif : script.mode.dif ≡ true
   pub protect : script.mode.protect ≡ 1
-  pub clean : DevicesAreClean (setting_told script table us) devices (blocks_told us)
+  pub clean : AreCleanWhereRead (setting_told script table us) devices (blocks_told us)
   pub no_escape : NoEscape (setting_told script table us) 1 script.ops (opening_told script us)
   pub shown : detectable (setting_told script table us) (steps_from (setting_told script table us) 1 script.ops) (opening_told script us) ≡ true
 
--- The same by what a reader of the script sees, but that the blocks are clean: the faults have the form under which each is shown, no `write` has the application tag FFFFh, and there is no `writepi`.
+-- The same by what a reader of the script sees, but that the blocks of the volume are clean: the faults have the form under which each is shown, no `write` has the application tag FFFFh, and there is no `writepi`.
 pub record IsFormedRun (script : Script) (table : Table) (devices : List DeviceInfo) (us : List Stored) : Type 0 where
   pub ty : table.ty ≡ One
   pub dix : script.mode.dix ≡ true
@@ -54,4 +54,4 @@ pub record IsFormedRun (script : Script) (table : Table) (devices : List DeviceI
   pub protect : script.mode.protect ≡ 1
   pub form : shows_by_form script.mode.kind script.block script.faults script.ops ≡ true
   pub escapes : escapes_none script.ops ≡ true
-  pub clean : DevicesAreClean (setting_told script table us) devices (blocks_told us)
+  pub clean : AreClean (setting_told script table us) (blocks_told us)

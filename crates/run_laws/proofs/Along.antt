@@ -24,7 +24,7 @@ use Rattle.walk_laws.specs.Steps.{Alters, Reads, Seals, Sets, Shows, Step, Write
 use Rattle.walk_laws.specs.UnderMap.{IsClean, NoneEscapes, SuppliesNoEscape}
 use Rattle.walk_laws.proofs.TupleFrames.{Small, data_is, tuple_is}
 use Rattle.walk_laws.specs.ReadsAs.{said_by}
-use Rattle.run_laws.specs.ShownRun.{DevicesAreClean, HasBlock, HasCells, LiesOn, StaysNear}
+use Rattle.run_laws.specs.ShownRun.{AreCleanWhereRead, HasBlock, HasCells, LiesOn, StaysNear}
 use Rattle.run_laws.proofs.Layers.{After, Fetched, IsBare, Outcome, Reading, Sound, Spoilt, checked, goes_out, reads, same_brought, why_ended}
 
 -- a cell after one was set
@@ -79,11 +79,12 @@ module _ (m' : Setting) (devices : List DeviceInfo) (lies : LiesOn (checked m') 
   abbrev cell : ℕ → ℕ → ℕ
   cell dev lba = m'.site.cell dev lba
 
-  -- a block of a device on which the volume lies
+  -- a block of a device to which a read of the volume may come
   pub record Ours (dev lba : ℕ) : Type 0 where
-    pub v : ℕ
-    pub within : v < count
-    pub here : dev ≡ (place_in m'.entries v).0
+    pub b : Block
+    pub within : b.virt < count
+    pub here : dev ≡ (route m b).dev
+    pub met : lba ≡ medium_lba m'.site.faults (route m b)
     pub on : HasBlock m devices dev lba
 
   -- what is stored, by what is past
@@ -241,7 +242,7 @@ module _ (m' : Setting) (devices : List DeviceInfo) (lies : LiesOn (checked m') 
     hit = is_hit m (fetched_cell m.site (route m b)) past
 
     ours : Ours (route m b).dev (medium_lba m'.site.faults (route m b))
-    ours = record { v = b.virt; within = f.0; here = refl; on = f.1.1 }
+    ours = record { b = b; within = f.0; here = refl; met = refl; on = f.1.1 }
 
     known : Fetched m' b (is_hit m (fetched_cell m.site (route m b)) past) (get_or s.blocks (fetched_cell m.site (route m b)) [])
     known = record {
@@ -276,11 +277,13 @@ module _ (m' : Setting) (devices : List DeviceInfo) (lies : LiesOn (checked m') 
           lands = ap (λ w. scatter to (read_by (route m b) owner w (length to) logged).written.bytes s.bytes) r.way;
         }
 
-  pub begins : DevicesAreClean m devices opening.blocks → Marks [] opening.blocks
+  pub begins : AreCleanWhereRead m devices opening.blocks → Marks [] opening.blocks
   begins clean = record {
     size = refl;
     sound = λ dev lba o q.
-        let c = subst (λ d. IsClean m lba (get_or opening.blocks (cell d lba) [])) (sym o.here) (clean o.v lba o.within (subst (λ d. HasBlock m devices d lba) o.here o.on)) in
+        let c : IsClean m lba (get_or opening.blocks (cell dev lba) []) =
+        subst (λ (d : ℕ). IsClean m lba (get_or opening.blocks (cell d lba) [])) (sym o.here)
+        (subst (λ (a : ℕ). HasBlock m devices (route m o.b).dev a → IsClean m a (get_or opening.blocks (cell (route m o.b).dev a) [])) (sym o.met) (clean o.b o.within) (subst (λ (d : ℕ). HasBlock m devices d lba) o.here o.on)) in
         record { bare = record { size = cells.size dev lba o.on; escape = c.no_escape }; bears = record { guard = c.guard; rtag = c.rtag refl }; app = c.app };
     spoilt = λ dev lba o q. absurd (false≢true q);
     newest = λ a l q. refl;
@@ -300,7 +303,7 @@ module _ (m' : Setting) (devices : List DeviceInfo) (lies : LiesOn (checked m') 
       reads_along earlier later b owner to (events_of m step s ++ past) next f.1 e.1 q.1 (marks_after step past s f.0 e.0 q.0 h)
 
   pub reads_after : (earlier later : List Step) (b : Block) (owner : Owner) (to : List ℕ) → AllFit m devices (earlier ++ (Reads b owner to ∷ later)) →
-      NoneEscapes m (earlier ++ (Reads b owner to ∷ later)) opening → detectable m (earlier ++ (Reads b owner to ∷ later)) opening ≡ true → DevicesAreClean m devices opening.blocks →
+      NoneEscapes m (earlier ++ (Reads b owner to ∷ later)) opening → detectable m (earlier ++ (Reads b owner to ∷ later)) opening ≡ true → AreCleanWhereRead m devices opening.blocks →
       let now = plain (λ step s. act (act_of m step) s) earlier opening in
       EndsAs m b owner to (first_layer m (past_after m earlier opening []) b) (last_accepted m opening b (past_after m earlier opening [])) now
   reads_after earlier later b owner to f e d clean = reads_along earlier later b owner to [] opening f e d (begins clean)

@@ -4,6 +4,7 @@ pub mod Backs
 pub mod Behind
 pub mod Between
 pub mod BlocksApart
+pub mod CleanWhereRead
 mod Does
 mod Earlier
 mod FallRows

@@ -19,7 +19,7 @@ use Rattle.walk_laws.specs.ScriptWalk.{script_replies}
 use Rattle.walk_laws.specs.Settings.{Setting}
 use Rattle.walk_laws.specs.UnderMap.{IsClean}
 use Rattle.walk_laws.proofs.ScriptRows.{faulty, flip, opening, seg, shift}
-use Rattle.run_laws.specs.ShownRun.{AllAreFetched, AllStayNear, DevicesAreClean, HasBlock, HasCells, IsShownRun, LiesOn}
+use Rattle.run_laws.specs.ShownRun.{AllAreFetched, AllStayNear, AreCleanWhereRead, HasBlock, HasCells, IsShownRun, LiesOn}
 
 abbrev faults : List FaultLine
 faults = flip 1 0 TargetToMedium 5 0x80 ++ shift 3 MediumToTarget (pos 1)
@@ -95,8 +95,8 @@ cells = record {
   size = λ dev lba h. (each_cell lba (below_five dev lba h).1).0;
 }
 
-clean : DevicesAreClean m devices opening.blocks
-clean v lba l h = (each_cell lba (below_five (place_in m.entries v).0 lba h).1).1
+clean : AreCleanWhereRead m devices opening.blocks
+clean b l h = (each_cell (medium_lba m.site.faults (route m b)) (below_five (route m b).dev (medium_lba m.site.faults (route m b)) h).1).1
 
 -- cells one after another in the first page
 abbrev turn : (off n : ℕ) → List ℕ

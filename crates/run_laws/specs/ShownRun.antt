@@ -37,10 +37,15 @@ pub record HasCells (m : Setting) (devices : List DeviceInfo) (image : List (Lis
   pub apart : (dev lba other at : ℕ) → HasBlock m devices dev lba → HasBlock m devices other at → m.site.cell dev lba ≡ m.site.cell other at → (dev ≡ other) × (lba ≡ at)
   pub size : (dev lba : ℕ) → HasBlock m devices dev lba → length (get_or image (m.site.cell dev lba) []) ≡ stored_size m.ty m.size
 
--- Each block of each device on which the volume lies is clean, its neighbours' too: a shift may lead a read there.
+-- Each block of each device on which the volume lies is clean, its neighbours' too.
 abbrev pub DevicesAreClean : Setting → List DeviceInfo → List (List ℕ) → Type 0
 DevicesAreClean m devices image = (v lba : ℕ) → v < volume_len m.entries → HasBlock m devices (place_in m.entries v).0 lba →
     IsClean m lba (get_or image (m.site.cell (place_in m.entries v).0 lba) [])
+
+-- Each stored block is clean to which a read of the volume may come: without a shift the volume's own, and under one the neighbour to which it leads.
+abbrev pub AreCleanWhereRead : Setting → List DeviceInfo → List (List ℕ) → Type 0
+AreCleanWhereRead m devices image = (b : Block) → b.virt < volume_len m.entries → HasBlock m devices (route m b).dev (medium_lba m.site.faults (route m b)) →
+    IsClean m (medium_lba m.site.faults (route m b)) (get_or image (m.site.cell (route m b).dev (medium_lba m.site.faults (route m b))) [])
 
 -- The op is shifted at the target by at most 64 addresses, and none of its blocks below 0.
 pub record StaysNear (m : Setting) (b : Block) : Type 0 where
@@ -73,12 +78,12 @@ abbrev pub AllBind : Setting → List DeviceInfo → (bytes i : ℕ) → List Op
 AllBind m devices bytes i [] = Unit {0}
 AllBind m devices bytes i (op ∷ ops) = Binds m devices bytes i op × AllBind m devices bytes (suc i) ops
 
--- A run over clean devices, with no escape, each of whose faults can be shown.
+-- A run over blocks that are clean where it may read, with no escape, each of whose faults can be shown.
 pub record IsShownRun (m : Setting) (devices : List DeviceInfo) (ops : List Op) (opening : State) : Type 0 where
   pub checked : IsChecked m
   pub lies : LiesOn m devices
   pub cells : HasCells m devices opening.blocks
-  pub clean : DevicesAreClean m devices opening.blocks
+  pub clean : AreCleanWhereRead m devices opening.blocks
   pub bind : AllBind m devices (length opening.bytes) 1 ops
   pub no_escape : NoEscape m 1 ops opening
   pub shown : detectable m (steps_from m 1 ops) opening ≡ true

@@ -1,5 +1,5 @@
 -- A bound script whose faults have the form: all that the law of its run asks.
-use Rattle.std.proofs.Common.{◌≡◌, ◌<◌, ℕ, ◌*◌, true, not, List, [], ◌∷◌, refl, arith, map, false}
+use Rattle.std.proofs.Common.{◌≡◌, ◌<◌, ℕ, ◌*◌, true, not, List, [], ◌∷◌, refl, ap, arith, map, false}
 use Rattle.std.specs.Prelude.{All}
 use Rattle.std.specs.List.{list_all, list_any}
 use Rattle.std.proofs.lemmas.Bool.{and_parts, not-true}
@@ -12,9 +12,11 @@ use Rattle.volume_table.specs.Tables.{Table}
 use Rattle.script_stack.specs.Passed.{Each, IsFault, IsKind, Script, blocks_told, shapes_of, info_of}
 use Rattle.pi_tuple.specs.Finds.{is_zero}
 use Rattle.volume_table.specs.declared.device.DeviceInfo.{DeviceInfo}
-use Rattle.run_premises.specs.Passed.{DevicesAreClean, HasCells, IsShownRun, LiesOn, State, detectable, steps_from, Setting, IsCalmRun, script_walk, AreClean, NoEscape, address_of, Op, is_overwrite}
+use Rattle.run_premises.specs.Passed.{AreCleanWhereRead, DevicesAreClean, HasCells, IsShownRun, LiesOn, State, detectable, steps_from, Setting, IsCalmRun, script_walk, AreClean, NoEscape, address_of, Op, is_overwrite}
 use Rattle.script_stack.proofs.Passed.{all-fit, calm-run, lies-in, are-bytes, shown-run, lies-on, has-cells, IsBoundOver, at_first, over}
 use Rattle.run_premises.specs.Forms.{is_good_line, supplies_none}
+use Rattle.run_premises.proofs.Lines.{no_shift}
+use Rattle.run_premises.proofs.Passed.{on_clean_volume}
 use Rattle.run_premises.specs.FormedRun.{HasFormedFaults, IsOfBytes}
 use Rattle.script_form_laws.specs.FormedScript.{IsFormedOver, IsFormedScript, IsStillScript}
 use Rattle.small_laws.proofs.Numbers.{even_size as even}
@@ -60,13 +62,18 @@ formed s t us law b p = law (over s t (shapes_of us)) s.ops (at_first s us) (for
 pub escapes : (s : Script) (t : Table) (us : List Stored) → EscapeLaw → list_all supplies_none s.ops ≡ true → NoEscape (over s t (shapes_of us)) 1 s.ops (at_first s us)
 escapes s t us none h = none (over s t (shapes_of us)) s.ops (at_first s us) h
 
--- ---- over clean devices
+-- ---- the form admits no shift, so reads come to the volume's own blocks
 
-pub shown : (s : Script) (t : Table) (us : List Stored) → FormLaw → IsFormedOver s t us → IsFormedScript s t us → DevicesAreClean (over s t (shapes_of us)) (map info_of (shapes_of us)) (blocks_told us)
-    → IsShownRun (over s t (shapes_of us)) (map info_of (shapes_of us)) s.ops (at_first s us)
-shown s t us law b p clean = shown-run s t us (bound-over s t us b) p.ty p.dix p.dif p.protect clean p.no_escape (formed s t us law b p)
+pub read-clean : (s : Script) (t : Table) (us : List Stored) → IsFormedScript s t us → AreCleanWhereRead (over s t (shapes_of us)) (map info_of (shapes_of us)) (blocks_told us)
+read-clean s t us p =
+    let form = and_parts (list_all (is_good_line s.mode.kind s.block s.faults s.ops) s.faults) (not (list_any is_overwrite s.ops)) p.form in
+    on_clean_volume (over s t (shapes_of us)) (map info_of (shapes_of us)) (blocks_told us) (ap is_zero p.ty) (no_shift s.mode.kind s.block s.faults s.ops s.faults form.0) p.clean
 
--- a run without faults leaves them clean
+pub shown : (s : Script) (t : Table) (us : List Stored) → FormLaw → IsFormedOver s t us → IsFormedScript s t us → IsShownRun (over s t (shapes_of us)) (map info_of (shapes_of us)) s.ops (at_first s us)
+shown s t us law b p = shown-run s t us (bound-over s t us b) p.ty p.dix p.dif p.protect (read-clean s t us p) p.no_escape (formed s t us law b p)
+
+-- ---- a run without faults leaves clean devices clean
+
 abbrev pub LeavesLaw : Type 0
 LeavesLaw = (m : Setting) (devices : List DeviceInfo) (ops : List Op) (opening : State) → is_zero m.ty ≡ false → IsCalmRun m ops opening → LiesOn m devices → HasCells m devices opening.blocks → DevicesAreClean m devices opening.blocks
     → DevicesAreClean m devices (script_walk m ops opening).blocks

@@ -29,11 +29,11 @@ pub fn a_script_is_shown_by_its_form()
     faults_are_shown_by_their_form();
 }
 
-/// A law: so over clean devices it has all that the law of reads under faults asks: each block of a read is the last
-/// accepted write's, or is listed with the first layer that checks after a fault.
+/// A law: so it has all that the law of reads under faults asks: each block of a read is the last accepted write's, or
+/// is listed with the first layer that checks after a fault. The form admits no shift, so the blocks of the volume are
+/// the only ones that must be clean.
 pub fn a_formed_script_is_a_shown_run()
     ensures { (s : AnyScript) (t : Table) (us : List Stored) → IsFormedOver s t us → IsFormedScript s t us
-        → DevicesAreClean (setting_of s t (shapes_of us) none_fails) (map info_of (shapes_of us)) (blocks_told us)
         → IsShownRun (setting_of s t (shapes_of us) none_fails) (map info_of (shapes_of us)) s.ops (opening_of s (shapes_of us) (blocks_told us)) }
 {
     // By laws.

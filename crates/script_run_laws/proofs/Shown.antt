@@ -16,7 +16,7 @@ use Rattle.volume_table.specs.declared.device.DeviceInfo.{DeviceInfo}
 use Rattle.volume_table.specs.Places.{place_in, volume_len}
 use Rattle.volume_table.specs.Tables.{Table}
 use Rattle.run_laws.specs.Passed.{Setting, NoEscape, detectable, steps_from, Op, Fetch, FetchPi, Fill, Overwrite, Put, Seal, Show, Wait, Write, WritePi}
-use Rattle.run_laws.specs.ShownRun.{AllAreFetched, AllBind, AllStayNear, Binds, DevicesAreClean, HasCells, IsShownRun, LiesOn}
+use Rattle.run_laws.specs.ShownRun.{AllAreFetched, AllBind, AllStayNear, AreCleanWhereRead, Binds, HasCells, IsShownRun, LiesOn}
 use Rattle.stack_walk_laws.specs.Spots.{op_in as op_at}
 use Rattle.script_laws.specs.Passed.{op_fault, request_of, both_fault, data_fault, Script}
 use Rattle.script_laws.specs.Keeping.{Each, IsFault, IsKind, IsOp as KeepsRules, IsShift}
@@ -116,7 +116,7 @@ has-cells s t us b =
       size = λ dev lba h. told-long us t.ty s.block dev lba b.stored h;
     }
 
-pub shown-run : (s : Script) (t : Table) (us : List Stored) → IsBoundOver s t us → t.ty ≡ One → s.mode.dix ≡ true → s.mode.dif ≡ true → s.mode.protect ≡ 1 → DevicesAreClean (over s t (shapes_of us)) (map info_of (shapes_of us)) (blocks_told us)
+pub shown-run : (s : Script) (t : Table) (us : List Stored) → IsBoundOver s t us → t.ty ≡ One → s.mode.dix ≡ true → s.mode.dif ≡ true → s.mode.protect ≡ 1 → AreCleanWhereRead (over s t (shapes_of us)) (map info_of (shapes_of us)) (blocks_told us)
     → NoEscape (over s t (shapes_of us)) 1 s.ops (at_first s us) → detectable (over s t (shapes_of us)) (steps_from (over s t (shapes_of us)) 1 s.ops) (at_first s us) ≡ true → IsShownRun (over s t (shapes_of us)) (map info_of (shapes_of us)) s.ops (at_first s us)
 shown-run s t us b ty dix dif protect clean no_escape shown = record {
   checked = record { ty = ty; dix = dix; dif = dif; protect = protect; device = refl };

@@ -31,6 +31,7 @@ pub mod Letting
 pub mod Moving
 pub mod NoneFell
 mod Outward
+pub mod NoFlips
 pub mod OverDevice
 pub mod Overwriting
 pub mod OwnCells
