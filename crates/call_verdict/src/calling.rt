@@ -10,3 +10,12 @@ pub fn words_of(rt: &HostRuntime) -> io::Result<Vec<String>> {
     }
     Ok(words)
 }
+
+/// The refusal of a call whose words can't be had: those that are no text aren't in the grammar, and all else is want of
+/// memory.
+pub fn unworded<R: Drop>(error: &io::Error, words: R, memory: R) -> R {
+    match error.kind() {
+        io::ErrorKind::InvalidData => words,
+        _ => memory,
+    }
+}

@@ -7,7 +7,7 @@ mod ending;
 mod reason;
 mod status;
 
-pub use calling::words_of;
+pub use calling::{unworded, words_of};
 pub use ending::{finish, refuse, status_for};
 pub use reason::Reason;
 pub use status::Status;

@@ -1,6 +1,6 @@
 //! A source in memory that never fails.
 
-ghost use Rattle.std.specs.Prelude.{◌≡◌, ◌≤◌, ◌<◌, ◌++◌, [], drop, length, min, take, Some, IfOk, IsOk};
+ghost use Rattle.std.specs.Prelude.{◌≡◌, ◌≤◌, ◌<◌, ◌++◌, [], drop, length, min, take, Some, IfOk, IfSome, IsOk, IsSome};
 
 use crate::{Failed, Source};
 use std::marker::Model;
@@ -52,5 +52,14 @@ impl Source for CalmSource {
         buf[..n].copy_from_slice(&left[..n]);
         self.at += n;
         Ok(n)
+    }
+
+    /// All that is left is known.
+    fn len(&self) -> Option<u64>
+        ensures known { IfSome result (λ n. n ≡ length self.now) }
+
+        ensures calm { IsSome result }
+    {
+        Some((self.held.len() - self.at) as u64)
     }
 }

@@ -1,7 +1,7 @@
 //! Where bytes come from.
 
-ghost use Rattle.std.specs.Prelude.{◌≡◌, ◌≤◌, ◌<◌, ℕ, List, drop, length, take, Option, IfOk, OnErr, OnOk};
-ghost use Rattle.dix_base.specs.Told.{IsAtEnd, Rose, Took};
+ghost use Rattle.std.specs.Prelude.{◌≡◌, ◌≤◌, ◌<◌, ℕ, List, drop, length, take, Option, IfOk, IfSome, OnErr, OnOk};
+ghost use Rattle.dix_base.specs.Told.{HasLength, IsAtEnd, Rose, Took};
 
 use crate::Failed;
 
@@ -25,4 +25,11 @@ pub trait Source {
         ensures calm { OnOk result (faults self.new ≡ faults self.old) }
         ensures cause { OnErr result (Rose (faults self.old) (faults self.new)) }
         ensures count { faults self.old ≤ faults self.new };
+
+    /// How many bytes are left, where that is known before they are read, as of a file.
+    fn len(&self) -> Option<u64>
+        ensures known { IfSome result (λ n. HasLength n (left self.now)) }
+    {
+        None
+    }
 }

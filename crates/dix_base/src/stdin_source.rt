@@ -6,12 +6,14 @@ ghost use Rattle.dix_base.specs.Told.{Rose};
 
 use crate::fault_plan::raise;
 use crate::{Failed, Source};
+use std::fs;
 use std::io::{ErrorKind, Read, Stdin};
 use std::marker::Model;
 
 /// Standard input. It doesn't tell what is left.
 #[derive(Drop)]
 pub struct StdinSource {
+    rt: HostRuntime,
     input: Stdin,
     faults: u64,
 }
@@ -39,13 +41,36 @@ fn read_once(input: &mut Stdin, into: &mut [u8]) -> Option<usize>
     None
 }
 
+/// The number behind `pos:` in the first line of what the system tells of an open file.
+fn position_in(told: &str) -> Option<u64> {
+    let line = told.strip_prefix("pos:")?;
+    let (digits, _) = line.split_once('\n')?;
+    digits.trim().parse::<u64>().ok()
+}
+
+/// How far standard input has been read, of a file.
+fn position(rt: &HostRuntime) -> Option<u64> {
+    position_in(fs::read_to_string(rt, "/proc/self/fdinfo/0").ok()?.as_str())
+}
+
+/// How many bytes are left of standard input, if it is a plain file and the system tells.
+fn left_of(rt: &HostRuntime) -> Option<u64> {
+    let found = fs::metadata(rt, "/proc/self/fd/0").ok()?;
+    if !found.is_file() {
+        return None;
+    }
+    found.len().checked_sub(position(rt)?)
+}
+
 impl StdinSource {
     /// The standard input of this process. A contract sees its count of faults.
     pub fn new(rt: HostRuntime) -> StdinSource
         ensures { result ≡ 0 }
     {
+        let input = rt.stdin();
         StdinSource {
-            input: rt.stdin(),
+            rt,
+            input,
             faults: 0,
         }
     }
@@ -75,5 +100,10 @@ impl Source for StdinSource {
         }
         raise(&mut self.faults);
         Err(Failed)
+    }
+
+    /// What is left of a plain file, by its length and how far it has been read.
+    fn len(&self) -> Option<u64> {
+        left_of(&self.rt)
     }
 }

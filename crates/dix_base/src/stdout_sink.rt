@@ -61,7 +61,7 @@ fn copied(room: &mut [u8], at: usize, bytes: &[u8]) -> usize
 
 /// Makes one write of a piece, and says how many bytes went, if some did. A write that a signal interrupts is made
 /// again.
-fn written(output: &mut Stdout, piece: &[u8]) -> Option<usize>
+pub(crate) fn written<W: Write>(output: &mut W, piece: &[u8]) -> Option<usize>
     ensures bound { IfSome result (λ n. n ≤ length piece.now) }
     ensures some { IfSome result (λ n. 0 < n) }
 {

@@ -2,7 +2,7 @@
 //! report.
 #![tactic(auto)]
 
-use call_verdict::words_of;
+use call_verdict::{unworded, words_of};
 use dix_base::{FileStore, HeldStreams, StdinSource, StdoutSink};
 use dix_run::{Refusal, refuse, run};
 use image_rig::ImageRig;
@@ -19,15 +19,7 @@ fn main(rt: HostRuntime) -> io::Result<ExitCode> {
     };
     let status = match words_of(&rt) {
         Ok(words) => run(rt.alloc(), &words, &mut script, &mut rig, &mut out),
-        Err(error) => refuse(&mut out, refusal_of(&error)),
+        Err(error) => refuse(&mut out, unworded(&error, Refusal::Words, Refusal::MEMORY)),
     };
     Ok(ExitCode::from(status.number()))
-}
-
-/// Words that are no text are not in the grammar; all else is want of memory.
-fn refusal_of(error: &io::Error) -> Refusal {
-    match error.kind() {
-        io::ErrorKind::InvalidData => Refusal::Words,
-        _ => Refusal::MEMORY,
-    }
 }

@@ -33,7 +33,9 @@ fn is_at_medium(at: Crossing) -> bool
 fn is_shifted(lines: &[FaultLine], op: u32) -> bool
     ensures { result ≡ list_any (shifts op) lines.now }
 {
-    lines.iter().any(|line| op == line.op && is_shift(&line.kind))
+    lines
+        .iter()
+        .any(|line| op == line.op && is_shift(&line.kind))
 }
 
 /// A line behind these whose request has the block.
@@ -53,11 +55,7 @@ fn shift_closer(earlier: &[FaultLine], line: &FaultLine) -> Closer
 }
 
 /// A line behind these, whose op is this request, if any.
-fn request_closer(
-    earlier: &[FaultLine],
-    line: &FaultLine,
-    request: Option<(u64, u32)>,
-) -> Closer
+fn request_closer(earlier: &[FaultLine], line: &FaultLine, request: Option<(u64, u32)>) -> Closer
     ensures { result ≡ request_closer earlier.now line.now request }
 {
     match request {

@@ -5,6 +5,7 @@
 mod bound;
 mod closer;
 mod detail;
+mod laws;
 mod lines;
 mod listed;
 mod marks;
@@ -16,5 +17,6 @@ mod sentences;
 mod texts;
 mod words;
 
+pub use laws::the_cause_that_is_said_is_so;
 pub use marks::marked_text;
 pub use right::right_text;

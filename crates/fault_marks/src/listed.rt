@@ -129,13 +129,7 @@ fn tuples_closer(tuples: &[Seg], n: u32, pages: u32, word: usize) -> Closer
 }
 
 /// What is wrong with data and tuples.
-pub(crate) fn both_closer(
-    body: &[Seg],
-    tuples: &[Seg],
-    n: u32,
-    sizes: Sizes,
-    word: usize,
-) -> Closer
+pub(crate) fn both_closer(body: &[Seg], tuples: &[Seg], n: u32, sizes: Sizes, word: usize) -> Closer
     requires { word < 8 }
     ensures { result ≡ both_closer sizes.pages sizes.block n body.now tuples.now word }
 {

@@ -48,15 +48,24 @@ fn segments_closer(op: &OpLine, sizes: Sizes) -> Closer
         OpLine::Fill { seg, .. } => at_word(seg_detail(*seg, sizes.pages), 1),
         OpLine::Show { seg } => at_word(show_detail(*seg, sizes.pages), 1),
         OpLine::Seal {
-            n, body, tuples, ..
+            n,
+            body,
+            tuples,
+            ..
         } => both_closer(body.as_slice(), tuples.as_slice(), *n, sizes, 2),
         OpLine::Write { n, body, .. } => data_closer(body.as_slice(), *n, sizes, 3),
         OpLine::Read { n, body, .. } => data_closer(body.as_slice(), *n, sizes, 3),
         OpLine::WritePi {
-            n, body, tuples, ..
+            n,
+            body,
+            tuples,
+            ..
         } => both_closer(body.as_slice(), tuples.as_slice(), *n, sizes, 3),
         OpLine::ReadPi {
-            n, body, tuples, ..
+            n,
+            body,
+            tuples,
+            ..
         } => both_closer(body.as_slice(), tuples.as_slice(), *n, sizes, 3),
         OpLine::Put { page, off, bytes } => {
             let len = bytes.as_slice().len().min(MOST_PUT) as u32;

@@ -2,8 +2,8 @@
 //! judges scripts.
 #![tactic(auto)]
 
-use call_verdict::words_of;
-use dix_base::{FileStore, HeldStreams, StdinSource, StdoutSink};
+use call_verdict::{unworded, words_of};
+use dix_base::{FileStore, HeldStreams, StderrSink, StdinSource, StdoutSink};
 use image_rig::ImageRig;
 use lab_run::{Refusal, refuse, run};
 use std::io;
@@ -16,8 +16,9 @@ fn main(rt: HostRuntime) -> io::Result<ExitCode> {
     let mut first = FileStore::new(rt.clone()?);
     let mut second = FileStore::new(rt.clone()?);
     let mut out = StdoutSink::new(rt.clone()?);
+    let mut says = StderrSink::new(rt.clone()?);
     let Ok(_held) = HeldStreams::hold(&rt) else {
-        return Ok(ExitCode::from(refuse(&mut out, Refusal::RIG_FAULT).number()));
+        return Ok(ExitCode::from(refuse(&mut says, Refusal::RIG_FAULT).number()));
     };
     let status = match words_of(&rt) {
         Ok(words) => run(
@@ -28,16 +29,9 @@ fn main(rt: HostRuntime) -> io::Result<ExitCode> {
             &mut first,
             &mut second,
             &mut out,
+            &mut says,
         ),
-        Err(error) => refuse(&mut out, refusal_of(&error)),
+        Err(error) => refuse(&mut says, unworded(&error, Refusal::Words, Refusal::MEMORY)),
     };
     Ok(ExitCode::from(status.number()))
-}
-
-/// Words that are no text are not in the grammar; all else is want of memory.
-fn refusal_of(error: &io::Error) -> Refusal {
-    match error.kind() {
-        io::ErrorKind::InvalidData => Refusal::Words,
-        _ => Refusal::MEMORY,
-    }
 }

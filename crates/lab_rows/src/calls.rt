@@ -2,12 +2,12 @@
 
 use crate::images::{Images, image_after, images_in};
 use crate::lines::source;
-use dix_base::{MemSink, MemSource, MemStore, Sink, Source, Store};
+use dix_base::{CalmSource, MemSink, MemSource, MemStore, Sink, Source, Store};
 use image_rig::ImageRig;
 use lab_run::run;
 use rig_api::Rig;
 use std::alloc::{AllocError, Global};
-use test_table::{behind, numbers, word_of};
+use test_table::{behind, has, numbers, word_of};
 
 /// The most bytes of a text, where a row says nothing else.
 const ROOM: u32 = 1_000_000;
@@ -17,6 +17,8 @@ const ROOM: u32 = 1_000_000;
 pub(crate) struct Came {
     pub(crate) status: u8,
     pub(crate) text: Vec<u8>,
+    /// The line of a refusal.
+    pub(crate) said: Vec<u8>,
     /// Whether each byte of the images is as the row says.
     pub(crate) is_left: bool,
 }
@@ -35,7 +37,7 @@ fn words_in(alloc: Global, lines: &[String]) -> Result<Vec<String>, AllocError> 
 }
 
 /// The exit status of a call.
-fn exit<S: Source, R: Rig, A: Store, B: Store, O: Sink>(
+fn exit<S: Source, R: Rig, A: Store, B: Store, O: Sink, E: Sink>(
     alloc: Global,
     words: &[String],
     input: &mut S,
@@ -43,8 +45,9 @@ fn exit<S: Source, R: Rig, A: Store, B: Store, O: Sink>(
     first: &mut A,
     second: &mut B,
     out: &mut O,
+    says: &mut E,
 ) -> u8 {
-    run(alloc, words, input, rig, first, second, out).number()
+    run(alloc, words, input, rig, first, second, out, says).number()
 }
 
 /// The rig and the stores of a call, each of which fails where a row says so.
@@ -55,12 +58,15 @@ struct Stores {
     second: MemStore,
 }
 
-/// The source, the stores and the sink of a call. Source and sink fail too where a row says so.
+/// The source, the stores and the sinks of a call. Source and sinks fail too where a row says so; a file is a source that
+/// knows how many bytes it has, and is in place of the other.
 #[derive(Drop)]
 struct Outside {
     input: MemSource,
+    file: Option<CalmSource>,
     stores: Stores,
     sink: MemSink,
+    says: MemSink,
 }
 
 /// A source with the text that a row says, which fails as it says.
@@ -69,6 +75,14 @@ fn input_in(alloc: Global, lines: &[String]) -> Result<MemSource, AllocError> {
         source(alloc, lines)?,
         numbers(alloc, lines, "source-fails")?,
     ))
+}
+
+/// A file with the text that a row says, where it asks for one.
+fn file_in(alloc: Global, lines: &[String]) -> Result<Option<CalmSource>, AllocError> {
+    if has(lines, "file") {
+        return Ok(Some(CalmSource::new(source(alloc, lines)?)));
+    }
+    Ok(None)
 }
 
 /// A store with these bytes, which fails as the line with this mark says.
@@ -81,10 +95,10 @@ fn store_of(
     Ok(MemStore::new(image.clone()?, numbers(alloc, lines, mark)?))
 }
 
-/// A sink with the room that a row says, which fails as it says.
-fn sink_in(alloc: Global, lines: &[String]) -> Result<MemSink, AllocError> {
-    let room = behind(lines, "room").parse::<u32>().unwrap_or(ROOM);
-    MemSink::new(alloc, room, numbers(alloc, lines, "sink-fails")?)
+/// A sink with the room that the line with this mark says, which fails as that with the other mark says.
+fn sink_in(alloc: Global, lines: &[String], room: &str, mark: &str) -> Result<MemSink, AllocError> {
+    let room = behind(lines, room).parse::<u32>().unwrap_or(ROOM);
+    MemSink::new(alloc, room, numbers(alloc, lines, mark)?)
 }
 
 /// The rig and the stores over these images.
@@ -102,18 +116,34 @@ fn stores_of(alloc: Global, lines: &[String], images: &Images) -> Result<Stores,
 /// What a row's call is made over.
 fn outside_of(alloc: Global, lines: &[String], images: &Images) -> Result<Outside, AllocError> {
     let input = input_in(alloc, lines)?;
-    let sink = sink_in(alloc, lines)?;
+    let file = file_in(alloc, lines)?;
+    let sink = sink_in(alloc, lines, "room", "sink-fails")?;
+    let says = sink_in(alloc, lines, "says-room", "says-fails")?;
     let stores = stores_of(alloc, lines, images)?;
     Ok(Outside {
         input,
+        file,
         stores,
         sink,
+        says,
     })
 }
 
 impl Outside {
     /// The exit status of a call with these words.
     fn status(&mut self, alloc: Global, words: &[String]) -> u8 {
+        if let Some(file) = &mut self.file {
+            return exit(
+                alloc,
+                words,
+                file,
+                &mut self.stores.rig,
+                &mut self.stores.first,
+                &mut self.stores.second,
+                &mut self.sink,
+                &mut self.says,
+            );
+        }
         exit(
             alloc,
             words,
@@ -122,6 +152,7 @@ impl Outside {
             &mut self.stores.first,
             &mut self.stores.second,
             &mut self.sink,
+            &mut self.says,
         )
     }
 
@@ -152,9 +183,11 @@ impl Outside {
         let status = self.status(alloc, words);
         let is_left = self.is_left(alloc, lines, images)?;
         let text = Vec::from_slice(alloc, self.sink.bytes())?;
+        let said = Vec::from_slice(alloc, self.says.bytes())?;
         Ok(Came {
             status,
             text,
+            said,
             is_left,
         })
     }

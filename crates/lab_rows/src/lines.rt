@@ -8,7 +8,7 @@ const IMAGE_MARKS: &str = "put cut more second-put second-cut second-more then r
 
 /// The marks of other lines.
 const CALL_MARKS: &str =
-    "$ in < <* source-fails store-fails second-fails rig-fails sink-fails room each status > >* >/ out";
+    "$ in < <* file source-fails store-fails second-fails rig-fails sink-fails room says-fails says-room each status > >* >/ out ! !/";
 
 /// Whether a line may have this mark.
 pub(crate) fn is_mark(word: &str) -> bool {
@@ -42,6 +42,20 @@ pub(crate) fn source(alloc: Global, lines: &[String]) -> Result<Vec<u8>, AllocEr
             add_long_line(alloc, &mut text, rest)?;
         } else if word == "in" {
             text.extend_from_slice(&bytes_of(alloc, rest)?)?;
+        }
+    }
+    Ok(text)
+}
+
+/// The line of a refusal that a row wants in the second sink.
+pub(crate) fn said(alloc: Global, lines: &[String]) -> Result<Vec<u8>, AllocError> {
+    let mut text = Vec::new(alloc);
+    for line in lines {
+        let (word, rest) = cut(line.as_str());
+        if word == "!" {
+            add_line(&mut text, rest)?;
+        } else if word == "!/" {
+            text.extend_from_slice(rest.as_bytes())?;
         }
     }
     Ok(text)

@@ -28,17 +28,22 @@ fn is_beginning(came: &Came, whole: &[u8]) -> bool {
     came.text.len() < whole.len() && whole.starts_with(&came.text)
 }
 
+/// Whether the call wrote this line of a refusal, and no text.
+fn is_refused(came: &Came, line: &[u8]) -> bool {
+    came.text.is_empty() && came.said.as_slice() == line
+}
+
 /// Whether the call came to what it comes to where this fails: a beginning of the text, of `at` bytes where room is
 /// counted, or the line that says that the source failed, or the store as the image was opened or written.
 fn is_cut(came: &Came, whole: &[u8], mark: &str, at: usize) -> bool {
+    let is_begun = came.said.is_empty() && is_beginning(came, whole);
     if mark == "store-fails" || mark == "second-fails" {
-        return came.status == 5
-            && (came.text.as_slice() == b"rig fault\n".as_slice() || is_beginning(came, whole));
+        return came.status == 5 && (is_refused(came, b"rig fault\n") || is_begun);
     }
     if mark == "source-fails" {
-        return came.status == 7 && came.text.as_slice() == b"read fault\n".as_slice();
+        return came.status == 7 && is_refused(came, b"read fault\n");
     }
-    came.status == 8 && is_beginning(came, whole) && (mark != "room" || came.text.len() == at)
+    came.status == 8 && is_begun && (mark != "room" || came.text.len() == at)
 }
 
 /// Makes a row's calls until nothing fails. Adds what came otherwise than the row says in the last.

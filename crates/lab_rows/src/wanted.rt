@@ -1,9 +1,25 @@
 //! What a row wants, against what came.
 
 use crate::calls::Came;
-use crate::lines::text;
+use crate::lines::{said, text};
 use std::alloc::{AllocError, Global};
 use test_table::{add_line, status_wanted};
+
+/// Adds what one sink took, where it isn't what the row wants: the bytes, or what is said of none.
+fn add_other(
+    others: &mut Vec<u8>,
+    came: &[u8],
+    wanted: &[u8],
+    none: &str,
+) -> Result<(), AllocError> {
+    if came == wanted {
+        return Ok(());
+    }
+    if came.is_empty() {
+        add_line(others, none)?;
+    }
+    others.extend_from_slice(came)
+}
 
 /// What came otherwise than a row says.
 pub(crate) fn add_call(
@@ -20,11 +36,6 @@ pub(crate) fn add_call(
     if !came.is_left {
         add_line(others, "another image")?;
     }
-    if came.text.as_slice() != text(alloc, lines)?.as_slice() {
-        if came.text.is_empty() {
-            add_line(others, "no text")?;
-        }
-        others.extend_from_slice(&came.text)?;
-    }
-    Ok(())
+    add_other(others, &came.text, &text(alloc, lines)?, "no text")?;
+    add_other(others, &came.said, &said(alloc, lines)?, "no refusal")
 }

@@ -7,7 +7,7 @@ use Rattle.call_refusal.specs.declared.refusal.Refusal.TheVariants as stop
 use Rattle.call_verdict.specs.Verdicts.{Cause, Done, IsRun, Refused, RunsOrWants, Verdict, Written, verdict_status}
 use Rattle.call_verdict.specs.declared.status.Status.{Status}
 use Rattle.call_verdict.specs.declared.status.Status.TheVariants as status
-use Rattle.dix_base.specs.Told.{Becomes, IsAtEnd, Rose}
+use Rattle.dix_base.specs.Told.{Becomes, HasLength, IsAtEnd, Rose}
 use Rattle.dix_base.specs.Stores.{StoreState, WasRead, WasWritten}
 use Rattle.dix_base.proofs.Counts.{never_rose}
 use Rattle.image_blocks.specs.Blocks.{HasStretch, blocks_at}
@@ -36,7 +36,7 @@ use Rattle.target_model.proofs.Bytes.{rise as rose_since}
 use Rattle.unit_words.specs.Words.{image_in}
 use Rattle.lab_run.specs.Calls.{Facts, on_first, on_input, stretch_in}
 use Rattle.lab_run.specs.Commands.{Came}
-use Rattle.lab_run.specs.Dumping.{AreOthersKept, CauseNotExported, CauseNotImported, DumpTaken, HasBrokenOff, HasFound, HasNoTuples, Imported, IsFitPlace, IsNoDump, IsNoTuples, IsOtherLength, IsReady, IsRightDump, IsUntouched, IsWrongDump, KeepsAround, KeepsHead, WritesPlace, dump_len, dumped_status, export_work, import_work}
+use Rattle.lab_run.specs.Dumping.{AreOthersKept, CauseNotExported, CauseNotImported, DumpTaken, HasBrokenOff, HasFound, HasNoTuples, Imported, IsFitPlace, IsNoDump, IsNoTuples, IsOtherLength, IsOtherSize, IsReady, IsRightDump, IsUntouched, IsWrongDump, KeepsAround, KeepsHead, WritesPlace, dump_len, dumped_status, export_work, import_work}
 use Rattle.lab_run.specs.Images.{CauseNotOpened, CauseUnfound, CauseUnopened, HasFirst, HasPlace, IsBadHead, IsFound, IsRightHead}
 use Rattle.lab_run.specs.Keeping.{ReadsOnce}
 use Rattle.lab_run.specs.Showing.{Blocks}
@@ -114,6 +114,14 @@ pub unfit_import : (words : List (List ℕ)) (place : PlaceWord) (layout : Layou
 unfit_import words place layout old new left reads rig second x b taken o h k q z =
     unimported words place layout old new left reads rig second refusal.NoTuples taken o
     (no_tuples x place layout (on_first words old new left reads rig second) b h.has q z, untouched words old new left reads rig second k.same) k
+
+-- a source that is known to have other bytes
+pub unsized : (words : List (List ℕ)) (place : PlaceWord) (layout : Layout) (old new : StoreState) (left : Option (List ℕ)) (reads : ℕ) (rig : RigState) (second : StoreState) (x : Found) (r : Refusal) (taken : Option (List ℕ)) (o : ℕ) → IsFound x place (image_in words) old new → ReadsOnce (image_in words) old new →
+    fits layout (spec_of (units_open x.image) x.at.dev).ty ≡ true → IsOtherSize r left (dump_len (units_open x.image) x.at layout) → Came (Some (Import place layout)) (Err r) (on_first words old new left reads rig second) taken taken o o
+unsized words place layout old new left reads rig second x (refusal.Size has wanted) taken o h k z c =
+    unimported words place layout old new left reads rig second (refusal.Size has wanted) taken o
+    (record { units = units_open x.image; at = x.at; found = record { first = h.has; fits = z }; told = c.0; asked = c.1; other = c.2; untouched = untouched words old new left reads rig second k.same }) k
+unsized words place layout old new left reads rig second x _ taken o h k z c = absurd c
 
 -- ---- blocks that are exported
 
@@ -364,6 +372,11 @@ right_length f image us at place layout b r l h o =
     let same : length r.dump ≡ dump_len us at layout = l ∙ ap (λ (s : Stretch). dump_len (units_of (head_of image)) s layout) (sym here) ∙ ap (λ (u : List UnitSpec). dump_len u at layout) (sym units) in
     subst (λ (x : Option (List ℕ)). IsOtherLength us at layout x) r.told o same
 
+-- a source that is known to have other bytes tells no dump of the place
+size_other : (us : List UnitSpec) (at : Stretch) (layout : Layout) (left : Option (List ℕ)) (has wanted : ℕ) → HasLength has left → wanted ≡ dump_len us at layout → (has ≡ wanted → ⊥) → IsOtherLength us at layout left
+size_other us at layout None has wanted h a n = tt
+size_other us at layout (Some dump) has wanted h a n = λ e. n (h ∙ e ∙ sym a)
+
 -- a dump that was taken whole has the right length
 not_whole : (f : Facts) (image : List ℕ) (x : Imported) (place : PlaceWord) (layout : Layout) → f.first.bytes ≡ Some image → DumpTaken (Ok x.count) x.units x.at place layout f → IsWrongDump place layout f image → ⊥
 not_whole f image x place layout b c w =
@@ -398,6 +411,7 @@ imports_right place layout f (Refused (refusal.Short x)) c image b h k =
     absurd (right_length f image c.units c.at place layout b h.0 h.1 c.taken.found (short_other layout c.units c.at x f.first.bytes f.first_after.bytes f.left f.left_after c.taken.ends))
 imports_right place layout f (Refused refusal.Long) c image b h k =
     absurd (right_length f image c.units c.at place layout b h.0 h.1 c.taken.found (long_other layout c.units c.at c.taken.ends.0 f.first.bytes f.first_after.bytes f.left f.left_after c.taken.ends.1))
+imports_right place layout f (Refused (refusal.Size has wanted)) c image b h k = absurd (right_length f image c.units c.at place layout b h.0 h.1 c.found (size_other c.units c.at layout f.left has wanted c.told c.asked c.other))
 imports_right place layout f (Refused _) c image b h k = absurd c
 imports_right place layout f (Done x) c image b h k = inl (inl refl)
 
@@ -411,6 +425,7 @@ imports_wrong place layout f (Refused (refusal.Place x)) c image b w k = inl ref
 imports_wrong place layout f (Refused refusal.NoTuples) c image b w k = inl refl
 imports_wrong place layout f (Refused (refusal.Short x)) c image b w k = absurd (no_taking place layout (halt.Short x) f image b w c)
 imports_wrong place layout f (Refused refusal.Long) c image b w k = absurd (no_taking place layout halt.Long f image b w c)
+imports_wrong place layout f (Refused (refusal.Size has wanted)) c image b w k = absurd (no_fault f image c.units c.at place layout b c.found w)
 imports_wrong place layout f (Refused _) c image b w k = absurd c
 imports_wrong place layout f (Done x) c image b w k = absurd (no_fault f image x.units x.at place layout b c.found w)
 
@@ -420,6 +435,7 @@ dump_wrong place layout f (Refused (refusal.Place x)) c image b w k = absurd (no
 dump_wrong place layout f (Refused refusal.NoTuples) c image b w k = absurd (two_fits f image place layout w.0.at b w.0.there w.0.fits c.0)
 dump_wrong place layout f (Refused (refusal.Short x)) c image b w k = inl refl
 dump_wrong place layout f (Refused refusal.Long) c image b w k = inl refl
+dump_wrong place layout f (Refused (refusal.Size has wanted)) c image b w k = inl refl
 dump_wrong place layout f (Refused _) c image b w k = absurd c
 dump_wrong place layout f (Done x) c image b w k = absurd (not_whole f image x place layout b c w)
 

@@ -3,7 +3,7 @@ use Rattle.std.proofs.Common.{◌≡◌, ℕ, ◌≤◌, Bool, true, false, eqb,
 use Rattle.std.specs.Prelude.{codes, if◌then◌else◌}
 use Rattle.std.specs.Str.{bytes_eq}
 use Rattle.unit_words.specs.Words.{laid_out, units_in}
-use Rattle.lab_run.specs.Grammar.{PlaceAhead, alone, alone_behind, behind_image, command_by, command_in, diff_ahead, diff_of, diff_with, explain_of, export_of, exported, flip_in, image_and_place, import_of, imported, laid_in, show_of, shown, shown_at, shown_behind, sweep_of, sweep_with, unless_zero, vectors_of}
+use Rattle.lab_run.specs.Grammar.{PlaceAhead, alone, alone_behind, behind_image, command_by, command_in, diff_ahead, diff_of, diff_with, explain_of, export_of, exported, flip_in, image_and_place, import_of, imported, laid_in, show_of, shown, shown_at, shown_behind, shown_place, sweep_of, sweep_with, unless_zero, vectors_of}
 use Rattle.lab_run.specs.Places.{place_in}
 use Rattle.lab_run.specs.declared.command.Command.{Command}
 use Rattle.lab_run.specs.declared.command.Command.TheVariants.{Help, Version, ShowUnits, ShowBlocks, Diff, Export, Import, Vectors, Judge, Explain, Sweep}
@@ -19,7 +19,7 @@ IsGood None = Unit {0}
 IsGood (Some Help) = Unit {0}
 IsGood (Some Version) = Unit {0}
 IsGood (Some ShowUnits) = Unit {0}
-IsGood (Some (ShowBlocks place)) = Unit {0}
+IsGood (Some (ShowBlocks only_bad place)) = Unit {0}
 IsGood (Some (Diff one other)) = Unit {0}
 IsGood (Some (Export place layout)) = Unit {0}
 IsGood (Some (Import place layout)) = Unit {0}
@@ -65,9 +65,17 @@ good_behind : (c : Command) (o : Option (List (List ℕ))) → IsGood (Some c) �
 good_behind c None p = tt
 good_behind c (Some words) p = good_alone c words p
 
+good_flag : (b : Bool) (place : PlaceWord) (words : List (List ℕ)) → IsGood (if b then alone (ShowBlocks true place) words else None)
+good_flag true place words = good_alone (ShowBlocks true place) words tt
+good_flag false place words = tt
+
+good_place : (place : PlaceWord) (words : List (List ℕ)) → IsGood (shown_place place words)
+good_place place [] = tt
+good_place place (flag ∷ words) = good_flag (bytes_eq flag (codes "--bad")) place words
+
 good_shown_at : (o : Option PlaceWord) (words : List (List ℕ)) → IsGood (shown_at o words)
 good_shown_at None words = tt
-good_shown_at (Some place) words = good_alone (ShowBlocks place) words tt
+good_shown_at (Some place) words = good_place place words
 
 good_shown : (words : List (List ℕ)) → IsGood (shown words)
 good_shown [] = tt

@@ -1,5 +1,5 @@
 -- What `show` comes to.
-use Rattle.std.proofs.Common.{ℕ, ◌≡◌, ◌⊎◌, inl, inr, ltb, List, Option, Some, None, Result, Ok, Err, refl, sym, ap, subst, ◌∙◌}
+use Rattle.std.proofs.Common.{ℕ, ◌≡◌, ◌⊎◌, inl, inr, Bool, ltb, List, Option, Some, None, Result, Ok, Err, refl, sym, ap, subst, ◌∙◌}
 use Rattle.image_text.specs.UnitText.{units_text}
 use Rattle.call_verdict.specs.Verdicts.{Cause, Done, IsRun, Refused, RunsOrWants, Verdict, Written, done_status, verdict_status}
 use Rattle.call_verdict.specs.declared.status.Status.{Status}
@@ -12,6 +12,7 @@ use Rattle.image_blocks.specs.Blocks.{HasStretch}
 use Rattle.image_blocks.specs.Images.{units_open}
 use Rattle.image_blocks.specs.declared.image.Image.{Image}
 use Rattle.image_text.specs.Shown.{ShowEnds, bad_of, text_of}
+use Rattle.image_text.specs.declared.show.Tally.{Tally}
 use Rattle.image_blocks.specs.declared.fault.WalkFault.{WalkFault}
 use Rattle.image_blocks.specs.declared.fault.WalkFault.TheVariants as walk
 use Rattle.lab_run.specs.declared.command.Command.TheVariants.{ShowBlocks, ShowUnits}
@@ -72,30 +73,30 @@ cause_unfound : (place : PlaceWord) (u : Unfound) (f : Facts) → CauseUnfound p
 cause_unfound place (unfound.Stopped s) f c = c
 cause_unfound place (unfound.Place x) f c = c
 
-pub unshown : (words : List (List ℕ)) (place : PlaceWord) (old new : StoreState) (left : Option (List ℕ)) (reads : ℕ) (rig : RigState) (second : StoreState) (u : Unfound) (r : Refusal) (taken : Option (List ℕ)) (o : ℕ) → r ≡ of_place u → CauseUnfound place u (image_in words) old new → ReadsOnce (image_in words) old new →
-    Came (Some (ShowBlocks place)) (Err r) (on_first words old new left reads rig second) taken taken o o
-unshown words place old new left reads rig second u r taken o e c k =
+pub unshown : (words : List (List ℕ)) (only_bad : Bool) (place : PlaceWord) (old new : StoreState) (left : Option (List ℕ)) (reads : ℕ) (rig : RigState) (second : StoreState) (u : Unfound) (r : Refusal) (taken : Option (List ℕ)) (o : ℕ) → r ≡ of_place u → CauseUnfound place u (image_in words) old new → ReadsOnce (image_in words) old new →
+    Came (Some (ShowBlocks only_bad place)) (Err r) (on_first words old new left reads rig second) taken taken o o
+unshown words only_bad place old new left reads rig second u r taken o e c k =
     let f = on_first words old new left reads rig second in
     record { comes = (subst (λ (y : Refusal). CauseNotShown place y f) (sym e) (cause_unfound place u f c), refl, refl); kept = reads_first words old new left reads rig second k }
 
 -- want of memory for the blocks
-pub spared : (words : List (List ℕ)) (place : PlaceWord) (h : StoreState) (left : Option (List ℕ)) (reads : ℕ) (rig : RigState) (second : StoreState) (r : Refusal) (taken : Option (List ℕ)) (o : ℕ) → r ≡ no_memory → Came (Some (ShowBlocks place)) (Err r) (on_first words h h left reads rig second) taken taken o o
-spared words place h left reads rig second r taken o e =
+pub spared : (words : List (List ℕ)) (only_bad : Bool) (place : PlaceWord) (h : StoreState) (left : Option (List ℕ)) (reads : ℕ) (rig : RigState) (second : StoreState) (r : Refusal) (taken : Option (List ℕ)) (o : ℕ) → r ≡ no_memory → Came (Some (ShowBlocks only_bad place)) (Err r) (on_first words h h left reads rig second) taken taken o o
+spared words only_bad place h left reads rig second r taken o e =
     let f = on_first words h h left reads rig second in
     record { comes = (subst (λ (y : Refusal). CauseNotShown place y f) (sym e) tt, refl, refl); kept = reads_first words h h left reads rig second (reads_none (image_in words) h) }
 
-pub shown : (words : List (List ℕ)) (place : PlaceWord) (old mid new : StoreState) (left : Option (List ℕ)) (reads : ℕ) (rig : RigState) (second : StoreState) (x : Found) (r : Result ℕ WalkFault) (taken taken' : Option (List ℕ)) (o n : ℕ) (s : Status) →
-    IsFound x place (image_in words) old mid → ReadsOnce (image_in words) old mid → WasRead mid new → ShowEnds r (text_of (units_open x.image) x.at) (units_open x.image) x.at mid.bytes mid.faults new.faults o n taken taken' → s ≡ shown_status r →
-    Came (Some (ShowBlocks place)) (Ok s) (on_first words old new left reads rig second) taken taken' o n
-shown words place old mid new left reads rig second x (Ok bad) taken taken' o n s h k g e w = record {
+pub shown : (words : List (List ℕ)) (only_bad : Bool) (place : PlaceWord) (old mid new : StoreState) (left : Option (List ℕ)) (reads : ℕ) (rig : RigState) (second : StoreState) (x : Found) (r : Result Tally WalkFault) (taken taken' : Option (List ℕ)) (o n : ℕ) (s : Status) →
+    IsFound x place (image_in words) old mid → ReadsOnce (image_in words) old mid → WasRead mid new → ShowEnds r (text_of only_bad (units_open x.image) x.at) (units_open x.image) x.at mid.bytes mid.faults new.faults o n taken taken' → s ≡ shown_status r →
+    Came (Some (ShowBlocks only_bad place)) (Ok s) (on_first words old new left reads rig second) taken taken' o n
+shown words only_bad place old mid new left reads rig second x (Ok tally) taken taken' o n s h k g e w = record {
   comes = (
     record { units = units_open x.image; at = x.at; blocks = e.blocks; broken = None },
     record { first = has_since (units_open x.image) x.at place (image_in words) old mid new g.named g.opened h.has; has = subst (λ (b : Option (List ℕ)). HasStretch (units_open x.image) x.at e.blocks b) k.same e.has; ends = tt },
-    inl (w ∙ ap (λ (m : ℕ). done_status (ltb 0 m)) e.counted, e.written),
+    inl (w ∙ ap (λ (m : ℕ). done_status (ltb 0 m)) e.bad, e.written),
   );
   kept = reads_first words old new left reads rig second (reads_on (image_in words) old mid new k g);
 }
-shown words place old mid new left reads rig second x (Err walk.Store) taken taken' o n s h k g e w = record {
+shown words only_bad place old mid new left reads rig second x (Err walk.Store) taken taken' o n s h k g e w = record {
   comes = (
     record { units = units_open x.image; at = x.at; blocks = e.1.blocks; broken = Some e.1.written.0 },
     record {
@@ -107,7 +108,7 @@ shown words place old mid new left reads rig second x (Err walk.Store) taken tak
   );
   kept = reads_first words old new left reads rig second (reads_on (image_in words) old mid new k g);
 }
-shown words place old mid new left reads rig second x (Err walk.Sink) taken taken' o n s h k g e w = record {
+shown words only_bad place old mid new left reads rig second x (Err walk.Sink) taken taken' o n s h k g e w = record {
   comes = (
     record { units = units_open x.image; at = x.at; blocks = e.1.blocks; broken = None },
     record { first = has_since (units_open x.image) x.at place (image_in words) old mid new g.named g.opened h.has; has = subst (λ (b : Option (List ℕ)). HasStretch (units_open x.image) x.at e.1.blocks b) k.same e.1.has; ends = tt },
@@ -116,20 +117,20 @@ shown words place old mid new left reads rig second x (Err walk.Sink) taken take
   kept = reads_first words old new left reads rig second (reads_on (image_in words) old mid new k g);
 }
 
-shows_right : (place : PlaceWord) (f : Facts) (v : Verdict Refusal Blocks) → Cause lab (show_work place) v f → (image : List ℕ) → f.first.bytes ≡ Some image → IsRightHead image × IsPlace place image → IsCalmFirst f → RunsOrWants (verdict_status lab (show_work place) v)
-shows_right place f (Refused (refusal.Stopped s)) c image b h k = inr (unopened_right s (image_in f.words) f.first f.first_after image b h.0 k c)
-shows_right place f (Refused (refusal.Place x)) c image b h k = absurd (no_place (image_in f.words) f.first f.first_after image place x h.1.0 b h.1.1 c)
-shows_right place f (Refused _) c image b h k = absurd c
-shows_right place f (Done x) c image b h k =
+shows_right : (only_bad : Bool) (place : PlaceWord) (f : Facts) (v : Verdict Refusal Blocks) → Cause lab (show_work only_bad place) v f → (image : List ℕ) → f.first.bytes ≡ Some image → IsRightHead image × IsPlace place image → IsCalmFirst f → RunsOrWants (verdict_status lab (show_work only_bad place) v)
+shows_right only_bad place f (Refused (refusal.Stopped s)) c image b h k = inr (unopened_right s (image_in f.words) f.first f.first_after image b h.0 k c)
+shows_right only_bad place f (Refused (refusal.Place x)) c image b h k = absurd (no_place (image_in f.words) f.first f.first_after image place x h.1.0 b h.1.1 c)
+shows_right only_bad place f (Refused _) c image b h k = absurd c
+shows_right only_bad place f (Done x) c image b h k =
     let whole : Status = done_status (ltb 0 (bad_of x.units x.at x.blocks)) in
     inl (subst IsRun (sym (unbroken (Rose f.first.faults f.first_after.faults) x.broken status.RigFault whole c.ends (never_rose f.first.faults f.first_after.faults k))) (done_is (ltb 0 (bad_of x.units x.at x.blocks))))
 
-shows_wrong : (place : PlaceWord) (f : Facts) (v : Verdict Refusal Blocks) → Cause lab (show_work place) v f → (image : List ℕ) → f.first.bytes ≡ Some image → IsBadHead image ⊎ IsNoPlace place image → IsCalmFirst f → RefusesImage (verdict_status lab (show_work place) v)
-shows_wrong place f (Refused (refusal.Stopped s)) c image b h k = unopened_wrong s (image_in f.words) f.first f.first_after k c
-shows_wrong place f (Refused (refusal.Place x)) c image b h k = inl refl
-shows_wrong place f (Refused _) c image b h k = absurd c
-shows_wrong place f (Done x) c image b (inl h) k = absurd (wrong_head (image_in f.words) f.first f.first_after image x.units b c.first.opened h)
-shows_wrong place f (Done x) c image b (inr h) k = absurd (wrong_place (image_in f.words) f.first f.first_after image x.units x.at place b c.first h)
+shows_wrong : (only_bad : Bool) (place : PlaceWord) (f : Facts) (v : Verdict Refusal Blocks) → Cause lab (show_work only_bad place) v f → (image : List ℕ) → f.first.bytes ≡ Some image → IsBadHead image ⊎ IsNoPlace place image → IsCalmFirst f → RefusesImage (verdict_status lab (show_work only_bad place) v)
+shows_wrong only_bad place f (Refused (refusal.Stopped s)) c image b h k = unopened_wrong s (image_in f.words) f.first f.first_after k c
+shows_wrong only_bad place f (Refused (refusal.Place x)) c image b h k = inl refl
+shows_wrong only_bad place f (Refused _) c image b h k = absurd c
+shows_wrong only_bad place f (Done x) c image b (inl h) k = absurd (wrong_head (image_in f.words) f.first f.first_after image x.units b c.first.opened h)
+shows_wrong only_bad place f (Done x) c image b (inr h) k = absurd (wrong_place (image_in f.words) f.first f.first_after image x.units x.at place b c.first h)
 
-pub shows : (place : PlaceWord) (f : Facts) (v : Verdict Refusal Blocks) → Cause lab (show_work place) v f → (show_work place).Answers f (verdict_status lab (show_work place) v)
-shows place f v c = record { right = shows_right place f v c; wrong = shows_wrong place f v c }
+pub shows : (only_bad : Bool) (place : PlaceWord) (f : Facts) (v : Verdict Refusal Blocks) → Cause lab (show_work only_bad place) v f → (show_work only_bad place).Answers f (verdict_status lab (show_work only_bad place) v)
+shows only_bad place f v c = record { right = shows_right only_bad place f v c; wrong = shows_wrong only_bad place f v c }

@@ -1,5 +1,5 @@
 use Rattle.std.specs.Prelude.{ℕ, ◌≡◌, ◌≤◌, ◌*◌, ◌⊎◌, false, true, List, length, take, Option, Some, None, Result, Ok, Err}
-use Rattle.dix_base.specs.Told.{Becomes, Calm, Rose}
+use Rattle.dix_base.specs.Told.{Becomes, Calm, HasLength, Rose}
 use Rattle.call_refusal.specs.declared.refusal.Refusal.TheVariants as stop
 use Rattle.call_verdict.specs.Verdicts.{Work}
 use Rattle.call_verdict.specs.declared.status.Status.{Status}
@@ -115,6 +115,25 @@ pub record HasBrokenOff (fault : ImportFault) (place : PlaceWord) (layout : Layo
   pub at : Stretch
   pub taken : DumpTaken (Err fault) units at place layout f
 
+-- the bytes of a dump of a place
+abbrev pub dump_len : List UnitSpec → Stretch → Layout → ℕ
+dump_len us at layout = at.count * piece_len layout (spec_of us at.dev).ty (spec_of us at.dev).size
+
+-- A refusal says how many bytes a source has, as far as it tells, which aren't those that are wanted.
+abbrev pub IsOtherSize : Refusal → (left : Option (List ℕ)) → (bytes : ℕ) → Type 0
+IsOtherSize (refusal.Size has wanted) left bytes = HasLength has left × (wanted ≡ bytes) × (has ≡ wanted → ⊥)
+IsOtherSize _ left bytes = ⊥
+
+-- The image has the place, and the source, as far as it tells, has so many bytes, which aren't those of a dump of it. All is as before.
+pub record HasOtherSize (has wanted : ℕ) (place : PlaceWord) (layout : Layout) (f : Facts) : Type 0 where
+  pub units : List UnitSpec
+  pub at : Stretch
+  pub found : HasFound units at place layout f
+  pub told : HasLength has f.left
+  pub asked : wanted ≡ dump_len units at layout
+  pub other : has ≡ wanted → ⊥
+  pub untouched : IsUntouched f
+
 -- Why a dump isn't imported whole, and what is left then.
 abbrev pub CauseNotImported : PlaceWord → Layout → Refusal → Facts → Type 0
 CauseNotImported place layout (refusal.Stopped stop.RigFault) f = (Rose f.first.faults f.first_after.faults × IsUntouched f) ⊎ HasBrokenOff halt.Store place layout f
@@ -122,13 +141,10 @@ CauseNotImported place layout (refusal.Stopped stop.ReadFault) f = HasBrokenOff 
 CauseNotImported place layout (refusal.Stopped s) f = CauseNotOpened s f × IsUntouched f
 CauseNotImported place layout (refusal.Place fault) f = HasNoFirst place fault f × IsUntouched f
 CauseNotImported place layout refusal.NoTuples f = HasNoTuples place layout f × IsUntouched f
+CauseNotImported place layout (refusal.Size has wanted) f = HasOtherSize has wanted place layout f
 CauseNotImported place layout (refusal.Short pieces) f = HasBrokenOff (halt.Short pieces) place layout f
 CauseNotImported place layout refusal.Long f = HasBrokenOff halt.Long place layout f
 CauseNotImported place layout _ f = ⊥
-
--- the bytes of a dump of a place
-abbrev pub dump_len : List UnitSpec → Stretch → Layout → ℕ
-dump_len us at layout = at.count * piece_len layout (spec_of us at.dev).ty (spec_of us at.dev).size
 
 -- What is told of the source hasn't the length of a dump of the place.
 abbrev pub IsOtherLength : List UnitSpec → Stretch → Layout → Option (List ℕ) → Type 0

@@ -1,4 +1,4 @@
-use Rattle.std.specs.Prelude.{ℕ, eqb, if◌then◌else◌, List, [], ◌∷◌, codes, Option, Some, None}
+use Rattle.std.specs.Prelude.{ℕ, true, false, eqb, if◌then◌else◌, List, [], ◌∷◌, codes, Option, Some, None}
 use Rattle.std.specs.Str.{bytes_eq}
 use Rattle.target_answer.specs.declared.units.UnitSpec.{UnitSpec}
 use Rattle.unit_words.specs.Words.{is_name, laid_out, units_in}
@@ -65,11 +65,16 @@ laid_ahead (Some a) = laid_by a.place (layout_alone a.rest)
 abbrev pub laid_in : List (List ℕ) → Option (PlaceWord × Layout)
 laid_in words = laid_ahead (image_and_place words)
 
+-- [--bad]
+abbrev pub shown_place : PlaceWord → List (List ℕ) → Option Command
+shown_place place [] = Some (ShowBlocks false place)
+shown_place place (flag ∷ words) = if bytes_eq flag (codes "--bad") then alone (ShowBlocks true place) words else None
+
 abbrev pub shown_at : Option PlaceWord → List (List ℕ) → Option Command
 shown_at None words = None
-shown_at (Some place) words = alone (ShowBlocks place) words
+shown_at (Some place) words = shown_place place words
 
--- [PLACE]
+-- [PLACE [--bad]]
 abbrev pub shown : List (List ℕ) → Option Command
 shown [] = Some ShowUnits
 shown (word ∷ words) = shown_at (place_in word) words
@@ -78,7 +83,7 @@ abbrev pub shown_behind : Option (List (List ℕ)) → Option Command
 shown_behind None = None
 shown_behind (Some words) = shown words
 
--- IMAGE [PLACE]
+-- IMAGE [PLACE [--bad]]
 abbrev pub show_of : List (List ℕ) → Option Command
 show_of words = shown_behind (behind_image words)
 

@@ -12,6 +12,7 @@ pub mod Vectors
 pub mod Explained
 pub mod Swept
 pub mod Commands
+pub mod Sinks
 pub mod Headline
 pub mod Places
 pub mod Layouts

@@ -1,4 +1,4 @@
-use Rattle.std.specs.Prelude.{ℕ, ◌⊎◌, ltb, List, Option, Result, Ok, Err}
+use Rattle.std.specs.Prelude.{ℕ, ◌⊎◌, Bool, ltb, List, Option, Result, Ok, Err}
 use Rattle.dix_base.specs.Told.{Rose}
 use Rattle.image_text.specs.UnitText.{units_text}
 use Rattle.call_verdict.specs.Verdicts.{Work, done_status}
@@ -7,6 +7,7 @@ use Rattle.call_verdict.specs.declared.status.Status.TheVariants as status
 use Rattle.image_blocks.specs.Blocks.{HasStretch}
 use Rattle.image_blocks.specs.declared.stretch.Stretch.{Stretch}
 use Rattle.image_text.specs.Shown.{bad_of, text_of}
+use Rattle.image_text.specs.declared.show.Tally.{Tally}
 use Rattle.image_blocks.specs.declared.fault.WalkFault.{WalkFault}
 use Rattle.image_blocks.specs.declared.fault.WalkFault.TheVariants as walk
 use Rattle.lab_run.specs.declared.place.PlaceWord.{PlaceWord}
@@ -37,7 +38,7 @@ list_work = record {
   Answers = AnswersImage (λ f image. IsRightHead image) (λ f image. IsBadHead image) IsCalmFirst;
 }
 
--- ---- show IMAGE PLACE: each block of the place was told
+-- ---- show IMAGE PLACE: each block of the place was told, or each at fault alone
 
 -- blocks of a place in an image, and where their text ends
 pub record Blocks : Type 0 where
@@ -53,8 +54,8 @@ pub record HasShown (place : PlaceWord) (x : Blocks) (f : Facts) : Type 0 where
   pub ends : EndsBy (Rose f.first.faults f.first_after.faults) x.broken
 
 -- the status of blocks that were shown, or weren't
-abbrev pub shown_status : Result ℕ WalkFault → Status
-shown_status (Ok bad) = done_status (ltb 0 bad)
+abbrev pub shown_status : Result Tally WalkFault → Status
+shown_status (Ok tally) = done_status (ltb 0 tally.bad)
 shown_status (Err walk.Store) = status.RigFault
 shown_status (Err walk.Sink) = status.WriteFault
 
@@ -65,12 +66,12 @@ CauseNotShown place (refusal.Place fault) f = HasNoFirst place fault f
 CauseNotShown place _ f = ⊥
 
 -- its record
-abbrev pub show_work : PlaceWord → Work lab
-show_work place = record {
+abbrev pub show_work : (only_bad : Bool) → PlaceWord → Work lab
+show_work only_bad place = record {
   Yield = Blocks;
   WasDone = HasShown place;
   status = λ x. cut_status x.broken status.RigFault (done_status (ltb 0 (bad_of x.units x.at x.blocks)));
-  text = λ x. cut_text x.broken (text_of x.units x.at x.blocks);
+  text = λ x. cut_text x.broken (text_of only_bad x.units x.at x.blocks);
   WasRefused = CauseNotShown place;
   Answers = AnswersImage (λ f image. IsRightHead image × IsPlace place image) (λ f image. IsBadHead image ⊎ IsNoPlace place image) IsCalmFirst;
 }

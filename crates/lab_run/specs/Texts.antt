@@ -68,6 +68,7 @@ status_of (refusal.SecondImage fault) = status.Image
 status_of (refusal.SecondPlace fault) = status.Image
 status_of refusal.OtherSize = status.Image
 status_of refusal.OtherCount = status.Image
+status_of (refusal.Size has wanted) = status.Input
 status_of (refusal.Short pieces) = status.Input
 status_of refusal.Long = status.Input
 
@@ -81,8 +82,9 @@ refusal_text (refusal.SecondImage fault) = codes "second image " ++ (fault_name 
 refusal_text (refusal.SecondPlace fault) = codes "second place " ++ (place_fault_name fault ++ codes "\n")
 refusal_text refusal.OtherSize = codes "places OtherSize\n"
 refusal_text refusal.OtherCount = codes "places OtherCount\n"
-refusal_text (refusal.Short pieces) = codes "dump short " ++ (decimal pieces ++ codes "\n")
-refusal_text refusal.Long = codes "dump long\n"
+refusal_text (refusal.Size has wanted) = codes "dump of " ++ (decimal has ++ (codes " bytes in place of " ++ (decimal wanted ++ codes ", imported 0\n")))
+refusal_text (refusal.Short pieces) = codes "dump short, imported " ++ (decimal pieces ++ codes "\n")
+refusal_text refusal.Long = codes "dump long, imported all\n"
 
 -- the program: what its calls speak of, and why it refuses one
 abbrev pub lab : Program

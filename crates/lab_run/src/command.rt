@@ -3,7 +3,7 @@
 ghost use Rattle.std.specs.Prelude.{◌≡◌, IfNone, IfSome, None, Some, string_bytes};
 ghost use Rattle.std.specs.Str.{bytes_eq};
 ghost use Rattle.unit_words.specs.Words.{word_bytes};
-ghost use Rattle.lab_run.specs.Grammar.{alone, behind_image, command_by, command_in, diff_of, explain_of, export_of, flip_in, image_and_place, import_of, laid_in, layout_alone, show_of, shown, sweep_of, vectors_of};
+ghost use Rattle.lab_run.specs.Grammar.{alone, behind_image, command_by, command_in, diff_of, explain_of, export_of, flip_in, image_and_place, import_of, laid_in, layout_alone, show_of, shown, shown_place, sweep_of, vectors_of};
 
 use crate::layout::layout_of;
 use crate::place::{PlaceWord, place_of};
@@ -21,8 +21,9 @@ pub enum Command {
     Version,
     /// `show IMAGE`: writes the image's units.
     ShowUnits,
-    /// `show IMAGE PLACE`: writes the tuple that each stored block has and the one that it should have.
-    ShowBlocks(PlaceWord),
+    /// `show IMAGE PLACE [--bad]`: writes the tuple that each stored block has and the one that it should have, or does so
+    /// of the blocks at fault alone.
+    ShowBlocks { only_bad: bool, place: PlaceWord },
     /// `diff IMAGE PLACE IMAGE PLACE`: compares two places block by block.
     Diff { one: PlaceWord, other: PlaceWord },
     /// `export IMAGE PLACE LAYOUT`: writes the blocks there to standard output.
@@ -95,17 +96,41 @@ fn laid(words: &[String]) -> Option<(PlaceWord, Layout)>
     Some((place, layout))
 }
 
+/// The words behind the place of `show`.
+fn shown_place(place: PlaceWord, words: &[String]) -> Option<Command>
+    ensures { result ≡ shown_place place (word_bytes words.now) }
+{
+    match words.split_first() {
+        None => Some(Command::ShowBlocks {
+            only_bad: false,
+            place,
+        }),
+        Some((flag, rest)) => {
+            if !is_word(flag, b"--bad") {
+                return None;
+            }
+            alone(
+                Command::ShowBlocks {
+                    only_bad: true,
+                    place,
+                },
+                rest,
+            )
+        }
+    }
+}
+
 /// The words behind the image of `show`.
 fn shown(words: &[String]) -> Option<Command>
     ensures { result ≡ shown (word_bytes words.now) }
 {
     match words.split_first() {
         None => Some(Command::ShowUnits),
-        Some((place, rest)) => alone(Command::ShowBlocks(place_of(place.as_bytes())?), rest),
+        Some((place, rest)) => shown_place(place_of(place.as_bytes())?, rest),
     }
 }
 
-/// `IMAGE [PLACE]` behind `show`.
+/// `IMAGE [PLACE [--bad]]` behind `show`.
 fn show_of(words: &[String]) -> Option<Command>
     ensures { result ≡ show_of (word_bytes words.now) }
 {

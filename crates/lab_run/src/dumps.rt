@@ -1,15 +1,17 @@
 //! Layouts of dumps, and how dumps end.
 
-ghost use Rattle.std.specs.Prelude.{◌≡◌};
+ghost use Rattle.std.specs.Prelude.{◌≡◌, IfErr};
 ghost use Rattle.image_blocks.specs.Images.{units_open};
 ghost use Rattle.image_blocks.specs.Places.{IsStretch, spec_of};
 ghost use Rattle.image_text.specs.Dumps.{fits};
-ghost use Rattle.lab_run.specs.Dumping.{dumped_status};
+ghost use Rattle.lab_run.specs.Dumping.{IsOtherSize, dump_len, dumped_status};
 ghost use Rattle.lab_run.specs.Texts.{imported_text};
 
+use crate::refusal::Refusal;
 use call_verdict::Status;
+use dix_base::Source;
 use image_blocks::{Image, Stretch, WalkFault};
-use image_text::{Layout, fits};
+use image_text::{Layout, fits, piece_len};
 use report_text::{Line, add, add_number};
 
 /// Whether the blocks of a place have what the layout holds.
@@ -19,6 +21,32 @@ pub(crate) fn fits_there(image: &Image, at: Stretch, layout: Layout) -> bool
 {
     let unit = image.units()[at.dev as usize];
     fits(layout, unit.ty)
+}
+
+/// How many bytes a dump of a place has.
+fn dump_len(image: &Image, at: Stretch, layout: Layout) -> u64
+    requires { IsStretch (units_open image.now) at }
+    ensures { result ≡ dump_len (units_open image.now) at layout }
+{
+    let unit = image.units()[at.dev as usize];
+    u64::from(at.count) * piece_len(layout, unit) as u64
+}
+
+/// Refuses a source that is known to have other bytes than a dump of the place.
+pub(crate) fn sized<S: Source>(
+    input: &S,
+    image: &Image,
+    at: Stretch,
+    layout: Layout,
+) -> Result<(), Refusal>
+    requires { IsStretch (units_open image.now) at }
+    ensures { IfErr result (λ refusal. IsOtherSize refusal (S.left input.now) (dump_len (units_open image.now) at layout)) }
+{
+    let wanted = dump_len(image, at, layout);
+    match input.len() {
+        Some(has) if has != wanted => Err(Refusal::Size { has, wanted }),
+        _ => Ok(()),
+    }
 }
 
 /// The status of a dump that was written, or wasn't.

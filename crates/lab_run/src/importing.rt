@@ -9,7 +9,7 @@ ghost use Rattle.unit_words.specs.Words.{word_bytes};
 ghost use Rattle.lab_run.specs.Calls.{on_input};
 ghost use Rattle.lab_run.specs.Commands.{Came};
 
-use crate::dumps::{fits_there, imported_line};
+use crate::dumps::{fits_there, imported_line, sized};
 use crate::finding::find;
 use crate::place::PlaceWord;
 use crate::refusal::Refusal;
@@ -39,6 +39,7 @@ pub(crate) fn import<S: Source, A: Store, O: Sink>(
     if !fits_there(&found.image, found.at, layout) {
         return Err(Refusal::NoTuples);
     }
+    sized(input, &found.image, found.at, layout)?;
     let count = import_blocks(store, &found.image, found.at, layout, input, &mut room)?;
     Ok(finish(out, imported_line(count).as_slice(), Status::Whole))
 }

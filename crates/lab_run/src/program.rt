@@ -7,6 +7,7 @@ ghost use Rattle.unit_words.specs.Words.{word_bytes};
 ghost use Rattle.lab_run.specs.Calls.{Facts};
 ghost use Rattle.lab_run.specs.Commands.{Came};
 ghost use Rattle.lab_run.specs.Headline.{Carries};
+ghost use Rattle.lab_run.specs.Sinks.{sunk};
 
 use crate::command::{Command, command_of};
 use crate::comparing::diff;
@@ -57,7 +58,9 @@ fn answer<S: Source, R: Rig, A: Store, B: Store, O: Sink>(
         Command::Help => Ok(finish(out, HELP, Status::Whole)),
         Command::Version => Ok(finish(out, b"dixlab 1\n", Status::Whole)),
         Command::ShowUnits => show_units(alloc, words, first, out),
-        Command::ShowBlocks(place) => show_blocks(alloc, words, place, first, out),
+        Command::ShowBlocks { only_bad, place } => {
+            show_blocks(alloc, words, only_bad, place, first, out)
+        }
         Command::Diff { one, other } => diff(alloc, words, one, other, first, second, out),
         Command::Export { place, layout } => export(alloc, words, place, layout, first, out),
         Command::Import { place, layout } => {
@@ -71,10 +74,10 @@ fn answer<S: Source, R: Rig, A: Store, B: Store, O: Sink>(
 }
 
 /// Runs the program on its words, without its own name: does the command that they are, and writes its
-/// text. `show` and `export` work on the first store, `diff` on both, `import` on the source and the first
-/// store, `vectors` on the source and the rig, `explain` on the source and, where it has an image, on the rig,
-/// `sweep` on the source.
-pub fn run<S: Source, R: Rig, A: Store, B: Store, O: Sink>(
+/// text to `out`, or the line of its refusal to `says`. `show` and `export` work on the first store, `diff` on both,
+/// `import` on the source and the first store, `vectors` on the source and the rig, `explain` on the source and, where
+/// it has an image, on the rig, `sweep` on the source.
+pub fn run<S: Source, R: Rig, A: Store, B: Store, O: Sink, E: Sink>(
     alloc: Global,
     words: &[String],
     input: &mut S,
@@ -82,6 +85,7 @@ pub fn run<S: Source, R: Rig, A: Store, B: Store, O: Sink>(
     first: &mut A,
     second: &mut B,
     out: &mut O,
+    says: &mut E,
 ) -> Status
     ensures carries { let f : Facts = record {
       words = word_bytes words.now;
@@ -96,11 +100,11 @@ pub fn run<S: Source, R: Rig, A: Store, B: Store, O: Sink>(
       second = B.state second.old;
       second_after = B.state second.new;
     } in
-        Carries f (O.taken out.old) (O.taken out.new) (O.faults out.old) (O.faults out.new) result }
-    ensures handed { IsPassedOn result (O.passed out.new) (O.taken out.new) }
+        Carries f (sunk (O.taken out.old) (O.taken out.new) (O.passed out.new) (O.faults out.old) (O.faults out.new))
+        (sunk (E.taken says.old) (E.taken says.new) (E.passed says.new) (E.faults says.old) (E.faults says.new)) result }
 {
     match answer(alloc, words, input, rig, first, second, out) {
         Ok(status) => status,
-        Err(refusal) => refuse(out, refusal),
+        Err(refusal) => refuse(says, refusal),
     }
 }

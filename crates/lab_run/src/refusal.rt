@@ -29,6 +29,8 @@ pub enum Refusal {
     OtherSize,
     /// The two places have other numbers of blocks.
     OtherCount,
+    /// The source has other bytes than a dump of the place: how many it has, and how many are wanted. Nothing was taken.
+    Size { has: u64, wanted: u64 },
     /// The dump ends behind so many whole pieces, before the place is full.
     Short(u32),
     /// The dump goes on behind its last piece.
@@ -57,7 +59,7 @@ impl Reason for Refusal {
             Refusal::Place(_) | Refusal::NoTuples => Status::Image,
             Refusal::SecondImage(_) | Refusal::SecondPlace(_) => Status::Image,
             Refusal::OtherSize | Refusal::OtherCount => Status::Image,
-            Refusal::Short(_) | Refusal::Long => Status::Input,
+            Refusal::Size { .. } | Refusal::Short(_) | Refusal::Long => Status::Input,
         }
     }
 
@@ -73,8 +75,9 @@ impl Reason for Refusal {
             Refusal::SecondPlace(fault) => named_line(b"second place ", fault.name().as_bytes()),
             Refusal::OtherSize => plain_line(b"places OtherSize\n"),
             Refusal::OtherCount => plain_line(b"places OtherCount\n"),
+            Refusal::Size { has, wanted } => size_line(has, wanted),
             Refusal::Short(pieces) => short_line(pieces),
-            Refusal::Long => plain_line(b"dump long\n"),
+            Refusal::Long => plain_line(b"dump long, imported all\n"),
         }
     }
 }
@@ -101,11 +104,23 @@ fn named_line(what: &[u8], name: &[u8]) -> Line
     line
 }
 
+fn size_line(has: u64, wanted: u64) -> Line
+    ensures { result.items ≡ refusal_text (Refusal.Size has wanted) }
+{
+    let mut line = Line::new();
+    add(&mut line, b"dump of ");
+    add_number(&mut line, has);
+    add(&mut line, b" bytes in place of ");
+    add_number(&mut line, wanted);
+    add(&mut line, b", imported 0\n");
+    line
+}
+
 fn short_line(pieces: u32) -> Line
     ensures { result.items ≡ refusal_text (Refusal.Short pieces) }
 {
     let mut line = Line::new();
-    add(&mut line, b"dump short ");
+    add(&mut line, b"dump short, imported ");
     add_number(&mut line, u64::from(pieces));
     add(&mut line, b"\n");
     line

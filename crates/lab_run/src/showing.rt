@@ -18,6 +18,7 @@ use crate::refusal::Refusal;
 use call_verdict::{Status, status_for};
 use dix_base::{Failed, Sink, Store};
 use image_blocks::{Image, WalkFault, open_image};
+use image_text::Tally;
 use std::alloc::Global;
 use unit_words::image_of;
 
@@ -33,11 +34,11 @@ fn list_units<O: Sink>(image: &Image, out: &mut O) -> Status
 }
 
 /// The status of blocks that were shown.
-fn status_of(ended: Result<u32, WalkFault>) -> Status
+fn status_of(ended: Result<Tally, WalkFault>) -> Status
     ensures { result ≡ shown_status ended }
 {
     match ended {
-        Ok(bad) => status_for(bad > 0),
+        Ok(tally) => status_for(tally.bad > 0),
         Err(WalkFault::Store) => Status::RigFault,
         Err(WalkFault::Sink) => Status::WriteFault,
     }
@@ -58,21 +59,22 @@ pub(crate) fn show_units<A: Store, O: Sink>(
     Ok(list_units(&image, out))
 }
 
-/// `show IMAGE PLACE`: writes the blocks of the place.
+/// `show IMAGE PLACE [--bad]`: writes the blocks of the place, or those at fault alone.
 pub(crate) fn show_blocks<A: Store, O: Sink>(
     alloc: Global,
     words: &[String],
+    only_bad: bool,
     place: PlaceWord,
     store: &mut A,
     out: &mut O,
 ) -> Result<Status, Refusal>
-    ensures came { (left : Option (List ℕ)) (reads : ℕ) (rig : RigState) (second : StoreState) → Came (Some (Command.ShowBlocks place)) result
+    ensures came { (left : Option (List ℕ)) (reads : ℕ) (rig : RigState) (second : StoreState) → Came (Some (Command.ShowBlocks only_bad place)) result
         (on_first (word_bytes words.now) (A.state store.old) (A.state store.new) left reads rig second) (O.taken out.old) (O.taken out.new) (O.faults out.old) (O.faults out.new) }
     ensures handed { IfOk result (λ status. IsPassedOn status (O.passed out.new) (O.taken out.new)) }
 {
     let mut room = vec![in alloc; 0u8; ROOM]?;
     let found = find(alloc, store, image_of(words), place)?;
-    let ended = image_text::show_blocks(store, &found.image, found.at, &mut room, out);
+    let ended = image_text::show_blocks(store, &found.image, found.at, &mut room, only_bad, out);
     Ok(status_of(ended))
 }
 

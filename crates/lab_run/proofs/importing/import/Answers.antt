@@ -2,7 +2,7 @@ use Rattle.std.proofs.Common.{refl, sym, ◌∙◌}
 use Rattle.std.proofs.lemmas.Result.{err_from_is_err_and}
 use Rattle.dix_base.specs.Stores.{StoreState}
 use Rattle.lab_run.specs.Texts.{no_memory}
-use Rattle.lab_run.proofs.Dumping.{halts, imports, spared_import, unfit_import, unfound_import}
+use Rattle.lab_run.proofs.Dumping.{halts, imports, spared_import, unfit_import, unfound_import, unsized}
 use Rattle.lab_run.proofs.Openings.{finds_named}
 use Rattle.lab_run.proofs.importing.import.Goals as goal
 
@@ -31,6 +31,15 @@ pub returns-then-not-fits_there-clause-came : goal.returns-then-not-fits_there-c
 returns-then-not-fits_there-clause-came g c = λ rig second.
     let h = finds_named _ c.args.place _ _ _ _ c.image_of.ensures c.in_ok-found.ensures in
     unfit_import _ c.args.place c.args.layout _ _ _ _ rig second c.in_ok-found.found c.fits_there.result _ _ h.came h.kept c.fits_there.ensures c.if-not-fits_there.true
+
+pub sized-requires : goal.sized-requires
+sized-requires g c = c.in_ok-found.ensures.came.inside
+
+pub returns-in_err-sized-clause-came : goal.returns-in_err-sized-clause-came
+returns-in_err-sized-clause-came g c = λ rig second.
+    let p = err_from_is_err_and c.from_residual-in_err-sized.result c.from_residual-in_err-sized.ensures.1 in
+    let h = finds_named _ c.args.place _ _ _ _ c.image_of.ensures c.in_ok-found.ensures in
+    rw (p.1, p.2) (unsized _ c.args.place c.args.layout _ _ _ _ rig second c.in_ok-found.found c.in_err-sized.field-0.0 _ _ h.came h.kept (sym c.fits_there.ensures ∙ c.if-not-fits_there.false) c.in_err-sized.ensures)
 
 pub returns-in_err-count-clause-came : goal.returns-in_err-count-clause-came
 returns-in_err-count-clause-came g c = λ rig second.

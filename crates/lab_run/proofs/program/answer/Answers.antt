@@ -21,7 +21,7 @@ pub returns-in-ShowUnits-clause-came : goal.returns-in-ShowUnits-clause-came
 returns-in-ShowUnits-clause-came g c = came_by (Some ShowUnits) c.show_units.result _ _ _ _ _ (sym c.command_of.ensures ∙ c.in-Some.is ∙ ap (λ (x : Command). Some x) c.in-ShowUnits.is) (c.show_units.ensures.came _ _ _ _)
 
 pub returns-in-ShowBlocks-clause-came : goal.returns-in-ShowBlocks-clause-came
-returns-in-ShowBlocks-clause-came g c = came_by (Some (ShowBlocks c.in-ShowBlocks.place)) c.show_blocks.result _ _ _ _ _ (sym c.command_of.ensures ∙ c.in-Some.is ∙ ap (λ (x : Command). Some x) c.in-ShowBlocks.is) (c.show_blocks.ensures.came _ _ _ _)
+returns-in-ShowBlocks-clause-came g c = came_by (Some (ShowBlocks c.in-ShowBlocks.only_bad c.in-ShowBlocks.place)) c.show_blocks.result _ _ _ _ _ (sym c.command_of.ensures ∙ c.in-Some.is ∙ ap (λ (x : Command). Some x) c.in-ShowBlocks.is) (c.show_blocks.ensures.came _ _ _ _)
 
 pub returns-in-Diff-clause-came : goal.returns-in-Diff-clause-came
 returns-in-Diff-clause-came g c = came_by (Some (Diff c.in-Diff.one c.in-Diff.other)) c.diff.result _ _ _ _ _ (sym c.command_of.ensures ∙ c.in-Some.is ∙ ap (λ (x : Command). Some x) c.in-Diff.is) (c.diff.ensures.came _ _ _)

@@ -10,13 +10,13 @@ use Rattle.lab_run.proofs.showing.show_blocks.Goals as goal
 pub returns-in_err-room-clause-came : goal.returns-in_err-room-clause-came
 returns-in_err-room-clause-came g c = λ left reads rig second.
     let p = err_from_is_err_and c.from_residual.result c.from_residual.ensures.1 in
-    rw (p.1, p.2) (spared _ c.args.place _ left reads rig second no_memory _ _ refl)
+    rw (p.1, p.2) (spared _ c.args.only_bad c.args.place _ left reads rig second no_memory _ _ refl)
 
 pub returns-in_err-found-clause-came : goal.returns-in_err-found-clause-came
 returns-in_err-found-clause-came g c = λ left reads rig second.
     let p = err_from_is_err_and c.from_residual-in_err-found.result c.from_residual-in_err-found.ensures.1 in
     let h = finds_named _ c.args.place _ _ _ _ c.image_of.ensures c.in_err-found.ensures in
-    rw (p.1, p.2) (unshown _ c.args.place _ _ left reads rig second c.in_err-found.field-0.0 _ _ _ refl h.came h.kept)
+    rw (p.1, p.2) (unshown _ c.args.only_bad c.args.place _ _ left reads rig second c.in_err-found.field-0.0 _ _ _ refl h.came h.kept)
 
 pub show_blocks-ended-requires-clause-place : goal.show_blocks-ended-requires-clause-place
 show_blocks-ended-requires-clause-place g c = c.in_ok-found.ensures.came.inside
@@ -31,7 +31,7 @@ returns-clause-came g c = λ left reads rig second.
     let is : StoreState = g.A.Store.state c.show_blocks-ended.new.store in
     let h = finds_named _ c.args.place _ _ was mid c.image_of.ensures c.in_ok-found.ensures in
     let s = c.show_blocks-ended.ensures in
-    shown _ c.args.place was mid is left reads rig second c.in_ok-found.found c.show_blocks-ended.result _ _ _ _ c.status_of.result h.came h.kept s.store s.shown c.status_of.ensures
+    shown _ c.args.only_bad c.args.place was mid is left reads rig second c.in_ok-found.found c.show_blocks-ended.result _ _ _ _ c.status_of.result h.came h.kept s.store s.shown c.status_of.ensures
 
 pub returns-clause-handed : goal.returns-clause-handed
 returns-clause-handed g c = λ h. c.show_blocks-ended.ensures.handed (λ e. h (c.status_of.ensures ∙ ap shown_status e))
