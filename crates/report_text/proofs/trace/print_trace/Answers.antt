@@ -5,4 +5,4 @@ pub returns-in_err-write_trace-clause-wrote : goal.returns-in_err-write_trace-cl
 returns-in_err-write_trace-clause-wrote g c = stops c.from_residual.result c.from_residual.ensures.0 c.in_err-write_trace.ensures
 
 pub returns-clause-wrote : goal.returns-clause-wrote
-returns-clause-wrote g c = flushed c.flush.result c.in_ok-write_trace.ensures c.flush.ensures.same c.flush.ensures.cause c.flush.ensures.count
+returns-clause-wrote g c = flushed c.flush.result c.in_ok-write_trace.ensures c.flush.ensures.same c.flush.ensures.calm c.flush.ensures.cause c.flush.ensures.count

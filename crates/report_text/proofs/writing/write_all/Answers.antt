@@ -11,7 +11,7 @@ returns-in-Err g c = breaks c.loop-rest.rest.now (Err _) refl c.loop-rest.invari
 
 pub loop-rest-preserved : goal.loop-rest-preserved
 loop-rest-preserved g c = as_left (sym c.split_at.ensures.back) (writes (as_left (sym (take-append-drop c.in-Ok.n c.loop-rest.rest.now)) c.loop-rest.invariant)
-    (took c.in-Ok.n c.in-Ok.ensures.taken c.put.ensures.count))
+    (took c.in-Ok.n c.in-Ok.ensures.taken c.in-Ok.ensures.calm c.put.ensures.count))
 
 pub returns : goal.returns
 returns g c = ends c.loop-rest.invariant (nil_from_length c.loop-rest.rest.now (omega (arith, c.loop-rest-test.false)))

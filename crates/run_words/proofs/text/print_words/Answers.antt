@@ -25,4 +25,4 @@ pub returns-clause-wrote : goal.returns-clause-wrote
 returns-clause-wrote g c =
     let log = drop c.args.from (g.R.Rig.state c.args.rig.now).log in
     let text = ap (λ s. words_text s c.as_slice-entries.result.now log c.args.replies.now) c.as_slice-sites.ensures.value ∙ ap (λ e. words_text c.args.guide.now.sites.items e log c.args.replies.now) c.as_slice-entries.ensures in
-    as_text text (flushed c.flush.result c.in_ok-print_parts.ensures c.flush.ensures.same c.flush.ensures.cause c.flush.ensures.count)
+    as_text text (flushed c.flush.result c.in_ok-print_parts.ensures c.flush.ensures.same c.flush.ensures.calm c.flush.ensures.cause c.flush.ensures.count)

@@ -12,4 +12,4 @@ returns-in_err-write_lines-clause-wrote g c =
     wrote_both r c.in_ok-write_first.ensures (stops r c.from_residual-in_err-write_lines.ensures.0 c.in_err-write_lines.ensures)
 
 pub returns-clause-wrote : goal.returns-clause-wrote
-returns-clause-wrote g c = flushed c.flush.result (wrote_both (Ok _) c.in_ok-write_first.ensures c.in_ok-write_lines.ensures) c.flush.ensures.same c.flush.ensures.cause c.flush.ensures.count
+returns-clause-wrote g c = flushed c.flush.result (wrote_both (Ok _) c.in_ok-write_first.ensures c.in_ok-write_lines.ensures) c.flush.ensures.same c.flush.ensures.calm c.flush.ensures.cause c.flush.ensures.count
