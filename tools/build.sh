@@ -222,7 +222,7 @@ build_alone() {
     cut -d ' ' -f 1 "$work/crates" >"$work/names"
     begun=$(date +%s) processors=$(nproc) slots=$(($(free_memory) / 4000))
     slots=$((slots < 1 ? 1 : slots > processors ? processors : slots))
-    say "proves and builds $called, $slots crates at a time, which can take an hour; the log is $log"
+    say "proves and builds $called, $slots crates at a time, which can take an hour ($call --unproved doesn't); the log is $log"
     say_shared
     if build_crates && build_program; then
         touch -r "$work/begun" "$program"

@@ -126,7 +126,7 @@ hold_image() {
     [ $? != 1 ] || refuse 64 "another call writes $image: try again once it has ended"
 }
 
-held='' work='' log='' is_unproved=''
+held='' work='' log='' is_unproved=${DIX_UNPROVED:+1}
 trap 'end 129' HUP
 trap 'end 130' INT
 trap 'end 143' TERM

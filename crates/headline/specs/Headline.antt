@@ -111,7 +111,7 @@ pub record IsWalked (script : Script) (image : List ℕ) (status : Status) (text
   pub report_is : text ≡ report (replied script image)
   pub image_is : image' ≡ image_with image (left_by script image).blocks
 
--- The report is that of the script's ops done one after another on a plain map of virtual blocks, which knows no adapter, no target and no address.
+-- The report is that of the script's ops done one after another on a plain map of virtual blocks, whose writes nothing but the host's check refuses.
 -- The image has its old header, and behind it the blocks of that map, under their tuples and at their physical addresses.
 pub record IsPlain (script : Script) (image text image' : List ℕ) : Type 0 where
   pub report_is : text ≡ report (plain_replies (setting_over script image) script.ops (map_over script image))

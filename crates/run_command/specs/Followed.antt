@@ -42,7 +42,7 @@ use Rattle.rig_api.specs.Log.{LogEntry}
 abbrev pub HoldsBlocks : (old new : RigState) → Type 0
 HoldsBlocks old new = (image : List ℕ) → old.image ≡ Some image → (left : List Stored) × (new.units ≡ Some left) × (new.image ≡ Some (take 512 image ++ joined (blocks_told left)))
 
--- Replies and pages are those of the script's ops on a plain map of virtual blocks, which knows no adapter, no target and no address.
+-- Replies and pages are those of the script's ops on a plain map of virtual blocks, whose writes nothing but the host's check refuses.
 -- The stored blocks are the image under that map.
 pub record HasPlain (script : Script) (table : Table) (us left : List Stored) (pool : List (List ℕ)) (replies : List Reply) : Type 0 where
   pub replies_are : replies ≡ plain_replies (setting_told script table us) script.ops (opened (setting_told script table us) (opening_told script us))

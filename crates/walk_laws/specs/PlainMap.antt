@@ -63,7 +63,7 @@ abbrev pub finds_plainly : Setting → ℕ → Option Check
 finds_plainly m app = if as_expected m app then None else Some AppTag
 
 -- A block with the application's tuple is accepted where its guard is that of its data, its application tag is the expected one,
--- and in host types 1 and 2 its reference tag is the virtual block's or that of its address; else it is listed with the first of these that differs. This is the one test that asks where the block lies.
+-- and in host types 1 and 2 its reference tag is the virtual block's or that of its address; else it is listed with the first of these that differs. Beside what is handed on of a tuple this alone asks where the block lies.
 abbrev pub finds_of_app : Setting → Block → List ℕ → Tuple → Option Check
 finds_of_app m b body t = first_of
     (record { check = Guard; differs = not (eqb t.guard (guard_of m.mode.kind body)) }
