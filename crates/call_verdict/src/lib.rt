@@ -1,13 +1,10 @@
-//! How a program is called, and what a call comes to: its verdict, by the command, with its status, and the text that
-//! it writes.
+//! What a call comes to: its verdict, by the command, with its status, and the text that it writes.
 #![tactic(auto)]
 
-mod calling;
 mod ending;
 mod reason;
 mod status;
 
-pub use calling::{unworded, words_of};
 pub use ending::{finish, refuse, status_for};
 pub use reason::Reason;
 pub use status::Status;

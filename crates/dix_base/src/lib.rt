@@ -4,6 +4,7 @@
 #![tactic(auto)]
 
 mod byte_list;
+mod calling;
 mod calm_sink;
 mod calm_source;
 mod calm_store;
@@ -23,6 +24,7 @@ mod stdout_sink;
 mod store;
 
 pub use byte_list::ByteList;
+pub use calling::{unworded, words_of};
 pub use calm_sink::CalmSink;
 pub use calm_source::CalmSource;
 pub use calm_store::CalmStore;

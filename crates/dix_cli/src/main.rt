@@ -2,8 +2,7 @@
 //! report.
 #![tactic(auto)]
 
-use call_verdict::{unworded, words_of};
-use dix_base::{FileStore, HeldStreams, StdinSource, StdoutSink};
+use dix_base::{FileStore, HeldStreams, StdinSource, StdoutSink, unworded, words_of};
 use dix_run::{Refusal, refuse, run};
 use image_rig::ImageRig;
 use std::io;

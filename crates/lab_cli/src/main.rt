@@ -2,8 +2,7 @@
 //! judges scripts.
 #![tactic(auto)]
 
-use call_verdict::{unworded, words_of};
-use dix_base::{FileStore, HeldStreams, StderrSink, StdinSource, StdoutSink};
+use dix_base::{FileStore, HeldStreams, StderrSink, StdinSource, StdoutSink, unworded, words_of};
 use image_rig::ImageRig;
 use lab_run::{Refusal, refuse, run};
 use std::io;

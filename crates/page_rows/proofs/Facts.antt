@@ -1,17 +1,10 @@
 -- What the checks of rows tell.
 use Rattle.std.proofs.Common.{◌≡◌, ◌≤◌, ℕ, zero, suc, List, [], ◌∷◌, length, get_or, refl, true, false, arith}
-use Rattle.page_pool.specs.declared.segs.Seg.{Seg}
-use Rattle.page_pool.specs.Places.{NoneTwice, places_in, range_of}
-use Rattle.page_pool.proofs.Spreads.{once-range}
 use Rattle.merge_queue.specs.Groups.{Group}
 use Rattle.merge_queue.specs.Index.{bios_in}
 use Rattle.range_gate.specs.Gates.{has_ended, is_waiting}
 use Rattle.range_gate.specs.declared.phase.Phase.{Phase}
 use Rattle.range_gate.specs.declared.phase.Phase.TheVariants.{Waiting, Admitted, Ended}
-
--- a range of a list that has no byte twice has none twice
-pub once_in : (ss : List Seg) (at len : ℕ) → NoneTwice (places_in ss) → NoneTwice (range_of ss at len)
-once_in ss at len h = once-range ss at len h
 
 -- no group has more bios than all of them
 pub one_group : (gs : List Group) (i : ℕ) → length (get_or gs i []) ≤ bios_in gs

@@ -6,7 +6,7 @@ ghost use Rattle.page_pool.specs.Places.{NoneTwice, range_of, total};
 
 use crate::kinds::seg_of;
 use crate::scene::Scene;
-use page_pool::{PagePool, Seg, SgList};
+use page_pool::{PagePool, Seg, SgList, a_range_is_of_its_list};
 use std::alloc::{AllocError, Global};
 use test_pages::{all_lie, lies, none_twice};
 use test_table::{Words, hex_of};
@@ -20,12 +20,13 @@ fn is_range(pool: &PagePool, list: &SgList, at: u32, len: u32) -> bool
 }
 
 /// The same of a range that may be written.
-#[tactic(auto, using(crate::proofs::Facts::once_in))]
 fn is_open(pool: &PagePool, list: &SgList, at: u32, len: u32) -> bool
     ensures lie { result ≡ true → AllLieIn pool.now list.now }
     ensures once { result ≡ true → NoneTwice (range_of list.now at len) }
     ensures range { result ≡ true → at + len ≤ total list.now }
 {
+    // By a law.
+    a_range_is_of_its_list();
     none_twice(list.as_slice()) && is_range(pool, list, at, len)
 }
 

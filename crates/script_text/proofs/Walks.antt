@@ -1,34 +1,10 @@
 -- One more block of a walk over segments, in few of them.
-use Rattle.std.proofs.Common.{ℕ, zero, suc, ◌≡◌, ◌+◌, ◌-◌, ◌*◌, ◌<◌, ◌≤◌, ◌&&◌, ◌⊎◌, inl, inr, Bool, true, false, min, ltb, leb, cond, List, [], ◌∷◌, length, refl, sym, ap, ◌∙◌, arith}
+use Rattle.std.proofs.Common.{ℕ, suc, ◌≡◌, ◌+◌, ◌-◌, ◌*◌, ◌<◌, ◌≤◌, ◌&&◌, Bool, true, leb, List, length, sym, ap, ◌∙◌, arith}
 use Rattle.std.proofs.lemmas.Bool.Decides.{nat_tests}
 use Rattle.page_pool.specs.declared.segs.Seg.{Seg}
-use Rattle.page_pool.specs.Cuts.{front, past, upto}
-use Rattle.page_pool.proofs.Cutting.{past-over, past-past}
+use Rattle.page_pool.specs.Cuts.{past, upto}
+use Rattle.page_pool.proofs.Cutting.{past-past}
 use Rattle.script_text.specs.Segments.{few_from}
-
-zero_or : (a b : ℕ) → ltb 0 (min a b) ≡ false → (b ≡ 0) ⊎ (a ≡ 0)
-zero_or a zero h = inl refl
-zero_or zero (suc b) h = inr refl
-zero_or (suc a) (suc b) h = absurd (grind (arith, nat_tests))
-
-none_left : (left : ℕ) (s : Seg) (segs : List Seg) → (left ≡ 0) ⊎ (s.len ≡ 0) → past (left - s.len) segs ≡ past 0 segs → past left (s ∷ segs) ≡ past 0 (s ∷ segs)
-none_left left s segs (inl z) r = ap (λ n. past n (s ∷ segs)) z
-none_left left s segs (inr z) r =
-    let none : 0 - s.len ≡ 0 = omega arith in
-    past-over left s segs (omega (arith, z)) ∙ r ∙ sym (past-over 0 s segs (omega (arith, z)) ∙ ap (λ n. past n segs) none)
-
-none_by : (b : Bool) (left : ℕ) (s : Seg) (segs : List Seg) → ltb 0 (min s.len left) ≡ b → upto left (s ∷ segs) ≡ [] → (upto (left - s.len) segs ≡ [] → past (left - s.len) segs ≡ past 0 segs) → past left (s ∷ segs) ≡ past 0 (s ∷ segs)
-none_by true left s segs e h r =
-    let full : upto left (s ∷ segs) ≡ front left s ∷ upto (left - s.len) segs = ap (λ t. cond t (front left s ∷ upto (left - s.len) segs) (upto (left - s.len) segs)) e in
-    absurd (cc)
-none_by false left s segs e h r =
-    let none : upto left (s ∷ segs) ≡ upto (left - s.len) segs = ap (λ t. cond t (front left s ∷ upto (left - s.len) segs) (upto (left - s.len) segs)) e in
-    none_left left s segs (zero_or s.len left e) (r (sym none ∙ h))
-
--- nothing is among the next bytes: none are asked for, or none are ahead
-pub none_ahead : (left : ℕ) (segs : List Seg) → upto left segs ≡ [] → past left segs ≡ past 0 segs
-none_ahead left [] h = refl
-none_ahead left (s ∷ segs) h = none_by (ltb 0 (min s.len left)) left s segs refl h (none_ahead (left - s.len) segs)
 
 -- a part of the next bytes was taken
 pub part_taken : (left : ℕ) (old new : List Seg) (s : Seg) → s.len ≤ left → new ≡ past s.len old → past (left - s.len) new ≡ past left old

@@ -75,27 +75,8 @@ fn take_header(draft: &mut Draft, first: &[u8], words: &mut Words) -> Result<(),
     }
 }
 
-/// A line of this verb, in its section.
-#[tactic(auto, unfolding(crate::specs::Language::line_taken))]
-fn take_verb(
-    alloc: Global,
-    draft: &mut Draft,
-    number: u32,
-    verb: Verb,
-    words: &mut Words,
-) -> Result<(), ScriptKind>
-    ensures { Takes (line_taken number verb words.old (drafted draft.old)) result (drafted draft.new) }
-{
-    let line = line_of(alloc, verb, words, draft.block)?;
-    if let Some(kind) = broken_rule(draft, &line) {
-        return Err(kind);
-    }
-    draft.take(alloc, number, line)?;
-    draft.section = Some(verb.section());
-    Ok(())
-}
-
 /// A line behind the header, whose first word this is.
+#[tactic(auto, unfolding(crate::specs::Language::line_taken))]
 fn take_line(
     alloc: Global,
     draft: &mut Draft,
@@ -105,15 +86,19 @@ fn take_line(
 ) -> Result<(), ScriptKind>
     ensures { Takes (verb_taken number (verb_of first.now) words.old (drafted draft.old)) result (drafted draft.new) }
 {
-    match verb_of(first) {
-        Some(verb) => {
-            if !is_in_order(draft, verb) {
-                return Err(ScriptKind::OutOfPlace);
-            }
-            take_verb(alloc, draft, number, verb, words)
-        }
-        None => Err(ScriptKind::UnknownWord),
+    let Some(verb) = verb_of(first) else {
+        return Err(ScriptKind::UnknownWord);
+    };
+    if !is_in_order(draft, verb) {
+        return Err(ScriptKind::OutOfPlace);
     }
+    let line = line_of(alloc, verb, words, draft.block)?;
+    if let Some(kind) = broken_rule(draft, &line) {
+        return Err(kind);
+    }
+    draft.take(alloc, number, line)?;
+    draft.section = Some(verb.section());
+    Ok(())
 }
 
 /// Whether a line with this first word is skipped.
@@ -126,29 +111,6 @@ fn is_comment(first: &[u8]) -> bool
     }
 }
 
-/// The words of a line.
-fn take_words(
-    alloc: Global,
-    draft: &mut Draft,
-    number: u32,
-    words: &mut Words,
-) -> Result<(), ScriptKind>
-    ensures { Takes (words_taken number words.old (drafted draft.old)) result (drafted draft.new) }
-{
-    match words.next() {
-        None => Ok(()),
-        Some(first) => {
-            if is_comment(first) {
-                return Ok(());
-            }
-            match draft.section {
-                None => take_header(draft, first, words),
-                Some(_) => take_line(alloc, draft, number, first, words),
-            }
-        }
-    }
-}
-
 fn take_text(alloc: Global, draft: &mut Draft, number: u32, line: &[u8]) -> Result<(), ScriptKind>
     ensures { Takes (text_taken number line.now (drafted draft.old)) result (drafted draft.new) }
 {
@@ -158,7 +120,17 @@ fn take_text(alloc: Global, draft: &mut Draft, number: u32, line: &[u8]) -> Resu
     if line.len() > LONGEST_LINE {
         return Err(ScriptKind::LongLine);
     }
-    take_words(alloc, draft, number, &mut Words::of(line))
+    let mut words = Words::of(line);
+    let Some(first) = words.next() else {
+        return Ok(());
+    };
+    if is_comment(first) {
+        return Ok(());
+    }
+    match draft.section {
+        None => take_header(draft, first, &mut words),
+        Some(_) => take_line(alloc, draft, number, first, &mut words),
+    }
 }
 
 /// What is wrong with the end of the text, if anything.

@@ -1,5 +1,6 @@
 use Rattle.std.proofs.Common.{length, ap, sym, ◌∙◌, arith}
-use Rattle.script_text.proofs.Walks.{none_ahead, part_taken}
+use Rattle.page_pool.proofs.Cutting.{past-none}
+use Rattle.script_text.proofs.Walks.{part_taken}
 use Rattle.script_text.proofs.segments.count_parts.Goals as goal
 
 pub loop-part-preserved : goal.loop-part-preserved
@@ -15,4 +16,4 @@ loop-part-preserved c =
     }
 
 pub returns-clause-ahead : goal.returns-clause-ahead
-returns-clause-ahead c = c.in_default.ensures.1 ∙ sym (none_ahead c.loop-part.left c.loop-part.walk c.in_default.ensures.0) ∙ c.loop-part.invariant.ahead
+returns-clause-ahead c = c.in_default.ensures.1 ∙ sym (past-none c.loop-part.left c.loop-part.walk c.in_default.ensures.0) ∙ c.loop-part.invariant.ahead
