@@ -30,9 +30,9 @@ pub unread : (bad : ScriptFault) (want : Result Script ScriptFault) → (bad.kin
 unread bad want (inl k) = inl (ap (λ (v : ScriptKind). of_kind v bad) k)
 unread bad want (inr e) = unread_by bad (of_script bad) want e (of_either bad.kind bad)
 
-pub read_so : (r : Result Script Refusal) (text : List ℕ) (a b : Option (List ℕ)) → IsWhole text a b → IfOk r (λ s. script_in text ≡ Ok s) → IfOk r (λ s. HasRead s a b)
-read_so (Ok s) text a b w h = record { text = text; whole = w; reads = h }
-read_so (Err r) text a b w h = tt
+pub read_so : (r : Result Script Refusal) (text : List ℕ) (a b : Option (List ℕ)) (o n : ℕ) → IsWhole text a b → n ≡ o → IfOk r (λ s. script_in text ≡ Ok s) → IfOk r (λ s. HasRead s a b o n)
+read_so (Ok s) text a b o n w calm h = record { text = text; whole = w; reads = h; calm = calm }
+read_so (Err r) text a b o n w calm h = tt
 
 pub within : (text : List ℕ) (a b : Option (List ℕ)) → IsWhole text a b → TookAtMost (most_bytes + 1) a b
 within text a b w = let l = w.2 in (text, w.0, omega (arith, l))
@@ -73,7 +73,7 @@ unbound refusal.Memory script name devices old new asked c = inr (devices, asked
 unbound _ script name devices old new asked c = absurd c
 
 -- the script of a source was run, or comes to no run
-pub source_run : (r : Result Finished Refusal) (f : Facts) (script : Script) → HasRead script f.left f.left_after → MatchResult r (λ x. HasRun x script f.name f.rig f.rig_after) (λ x. CauseStopped x script f.name f.rig f.rig_after) →
+pub source_run : (r : Result Finished Refusal) (f : Facts) (script : Script) → HasRead script f.left f.left_after f.reads f.reads_after → MatchResult r (λ x. HasRun x script f.name f.rig f.rig_after) (λ x. CauseStopped x script f.name f.rig f.rig_after) →
     MatchResult r (λ x. HasRunSource x f) (λ x. CauseRefused x f)
 source_run (Ok run) f script read h = record { script = script; read = read; ran = h }
 source_run (Err r) f script read h = inr (script, read, h)
