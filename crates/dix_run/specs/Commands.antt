@@ -110,7 +110,7 @@ format_work us = record {
   WasDone = λ x f. WasFormatted (image_in f.words) us f.rig f.rig_after × LeavesSource f;
   status = λ x. status.Whole;
   text = λ x. codes "formatted " ++ (decimal (length us) ++ codes "\n");
-  WasRefused = ByCause CauseUnformatted;
+  WasRefused = ByCause (CauseUnformatted us);
   Answers = λ f s. Calm f.rig.faults f.rig_after.faults → WholeOrWants s;
 }
 

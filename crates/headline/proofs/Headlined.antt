@@ -39,7 +39,7 @@ use Rattle.headline.specs.declared.way.Way.{Way}
 use Rattle.headline.specs.declared.way.Way.TheVariants.{Mirror, Run}
 use Rattle.headline.proofs.Coming.{CameToMirror, CameToRun, IsCalled, came_to_mirror, came_to_run}
 use Rattle.headline.proofs.Refused.{refused_mirror, refused_run}
-use Rattle.image_laws.proofs.FreshHead.{right_head, units_back}
+use Rattle.image_rig.proofs.FreshHead.{right_head, units_back}
 use Rattle.headline.proofs.FreshLegs.{equal_legs}
 use Rattle.image_laws.proofs.Got.{got_formed, got_plain, got_shown, got_walked}
 use Rattle.headline.proofs.GotMirrored.{got_intact, got_served}
