@@ -9,6 +9,7 @@ use Rattle.image_commands.proofs.Opened.{right_head, told_is_good}
 use Rattle.nvme_command.specs.Causes.{CauseNotDone}
 use Rattle.nvme_command.proofs.Completes.{spared_alone}
 use Rattle.unit_words.specs.Words.{image_in}
+use Rattle.target_answer.specs.declared.units.UnitSpec.{UnitSpec}
 use Rattle.dix_run.specs.Grammar.{command_in}
 use Rattle.dix_run.specs.declared.command.Command.{Command}
 use Rattle.dix_run.specs.declared.command.Command.TheVariants.{Run, Trace, Format, Migrate, Mirror, Scrub, Nvme, Modes, Big}
@@ -51,10 +52,10 @@ mirror_from_outside f (refusal.Stopped s) c alone = stopped_from_outside s (alon
 
 -- ---- the commands on images
 
-unformatted_for_memory : (s : Stop) (name : List ℕ) (old new : RigState) → Calm old.faults new.faults → CauseUnformatted s name old new → s ≡ stop.Memory
-unformatted_for_memory stop.RigFault name old new calm c = absurd (never_rose old.faults new.faults calm c.0)
-unformatted_for_memory stop.Memory name old new calm c = refl
-unformatted_for_memory _ name old new calm c = absurd c
+unformatted_for_memory : (us : List UnitSpec) (s : Stop) (name : List ℕ) (old new : RigState) → Calm old.faults new.faults → CauseUnformatted us s name old new → s ≡ stop.Memory
+unformatted_for_memory us stop.RigFault name old new calm c = absurd (never_rose old.faults new.faults calm c.0)
+unformatted_for_memory us stop.Memory name old new calm c = refl
+unformatted_for_memory us _ name old new calm c = absurd c
 
 unmigrated_for_memory : (s : Stop) (image name : List ℕ) (old new : RigState) → old.image ≡ Some image → head_fault (head_of image) ≡ None → Calm old.faults new.faults → CauseUnmigrated s name old new → s ≡ stop.Memory
 unmigrated_for_memory (stop.Image x) image name old new i h calm c = absurd (right_head image x name old new i c.1.image h c.0)
@@ -91,7 +92,7 @@ completes (Some Run) f (Refused r) c = λ h. not_run f r c h
 completes (Some Run) f (Done run) c = λ h. inl (done_is (has_bad run.stack.replies.items))
 completes (Some Trace) f (Refused r) c = λ h. not_run f r c h
 completes (Some Trace) f (Done x) c = λ h. inl (done_is (has_bad x.0.stack.replies.items))
-completes (Some (Format us)) f (Refused r) c = λ h. inr (by_memory CauseUnformatted r f (λ s d. unformatted_for_memory s (image_in f.words) f.rig f.rig_after h d) c)
+completes (Some (Format us)) f (Refused r) c = λ h. inr (by_memory (CauseUnformatted us) r f (λ s d. unformatted_for_memory us s (image_in f.words) f.rig f.rig_after h d) c)
 completes (Some (Format us)) f (Done x) c = λ h. inl refl
 completes (Some Migrate) f (Refused r) c = λ h. inr (by_memory CauseUnmigrated r f (λ s d. unmigrated_for_memory s h.image (image_in f.words) f.rig f.rig_after h.image_is h.head h.calm d) c)
 completes (Some Migrate) f (Done n) c = λ h. inl refl

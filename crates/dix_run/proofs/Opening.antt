@@ -5,6 +5,7 @@ use Rattle.image_commands.specs.Views.{OpenedOnce}
 use Rattle.nvme_command.proofs.Completes.{done_opens, not_done_opens}
 use Rattle.rig_api.specs.Telling.{Standing, Stayed}
 use Rattle.rig_api.specs.State.{RigState}
+use Rattle.target_answer.specs.declared.units.UnitSpec.{UnitSpec}
 use Rattle.unit_words.specs.Words.{image_in}
 use Rattle.dix_run.specs.declared.command.Command.{Command}
 use Rattle.dix_run.specs.declared.command.Command.TheVariants.{Run, Trace, Format, Migrate, Mirror, Scrub, Nvme, Modes, Big}
@@ -80,10 +81,10 @@ not_mirrored_opens f (refusal.Stopped s) (inr c) = unmirrored_opens s c.0 (image
 mirror_opens : (f : Facts) (run : Mirrored) → HasMirroredSource run (call_of f) → OpensOnce f
 mirror_opens f run r = opened_on (image_in f.words) f.rig r.ran.asked.told.between r.ran.told f.rig_after r.ran.asked.told.since r.ran.ended.stretches.standing
 
-format_opens : (s : Stop) (name : List ℕ) (old new : RigState) → CauseUnformatted s name old new → OpenedOnce name old.standing new.standing
-format_opens stop.RigFault name old new c = inr c.1
-format_opens stop.Memory name old new c = c.0
-format_opens _ name old new c = absurd c
+format_opens : (us : List UnitSpec) (s : Stop) (name : List ℕ) (old new : RigState) → CauseUnformatted us s name old new → OpenedOnce name old.standing new.standing
+format_opens us stop.RigFault name old new c = inr c.1
+format_opens us stop.Memory name old new c = c.0
+format_opens us _ name old new c = absurd c
 
 migrate_opens : (s : Stop) (name : List ℕ) (old new : RigState) → CauseUnmigrated s name old new → OpenedOnce name old.standing new.standing
 migrate_opens (stop.Image f) name old new c = inr c.0.opened
@@ -121,7 +122,7 @@ opens (Some Run) f (Refused r) c = not_run_opens f r c
 opens (Some Run) f (Done run) c = run_opens f run c
 opens (Some Trace) f (Refused r) c = not_run_opens f r c
 opens (Some Trace) f (Done x) c = run_opens f x.0 c.ran
-opens (Some (Format us)) f (Refused r) c = by_opens CauseUnformatted r f (λ s d. format_opens s (image_in f.words) f.rig f.rig_after d) c
+opens (Some (Format us)) f (Refused r) c = by_opens (CauseUnformatted us) r f (λ s d. format_opens us s (image_in f.words) f.rig f.rig_after d) c
 opens (Some (Format us)) f (Done x) c = inr c.0.opened
 opens (Some Migrate) f (Refused r) c = by_opens CauseUnmigrated r f (λ s d. migrate_opens s (image_in f.words) f.rig f.rig_after d) c
 opens (Some Migrate) f (Done n) c = inr c.0.opened
@@ -130,8 +131,8 @@ opens (Some Mirror) f (Done run) c = mirror_opens f run c
 opens (Some Scrub) f (Refused r) c = by_opens CauseUnscrubbed r f (λ s d. scrub_opens s (image_in f.words) f.rig f.rig_after d) c
 opens (Some Scrub) f (Done x) c = opened_on (image_in f.words) f.rig c.0.discovered.between c.0.told f.rig_after c.0.discovered.since c.0.standing
 opens (Some Nvme) f (Refused r) c = nvme_opens r f c
-opens (Some Nvme) f (Done x) c = done_opens (image_in f.words) x.1 x.0 f.left f.left_after f.rig f.rig_after c
+opens (Some Nvme) f (Done x) c = done_opens (image_in f.words) x.1 x.0 f.left f.left_after f.reads f.reads_after f.rig f.rig_after c
 opens (Some (Modes ty)) f (Refused r) c = wanting_opens f r c
-opens (Some (Modes ty)) f (Done x) c = inl (stayed f.rig f.rig_after c.0)
+opens (Some (Modes ty)) f (Done x) c = inl (stayed f.rig f.rig_after c.1)
 opens (Some (Big n seed)) f (Refused r) c = wanting_opens f r c
 opens (Some (Big n seed)) f (Done b) c = inl (stayed f.rig f.rig_after c.1)

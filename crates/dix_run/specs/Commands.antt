@@ -16,6 +16,7 @@ use Rattle.nvme_command.specs.Texts.{text_in}
 use Rattle.nvme_command.specs.declared.line.NvmLine.{NvmLine}
 use Rattle.nvme_command.specs.Causes.{WereDone}
 use Rattle.nvme_command.specs.Fits.{misfit}
+use Rattle.mode_map.specs.Finders.{AreFirstFinders}
 use Rattle.mode_map.specs.Modes.{modes_text}
 use Rattle.script_text.specs.Bindings.{binding_fault}
 use Rattle.script_text.specs.Language.{script_in}
@@ -109,7 +110,7 @@ format_work us = record {
   WasDone = λ x f. WasFormatted (image_in f.words) us f.rig f.rig_after × LeavesSource f;
   status = λ x. status.Whole;
   text = λ x. codes "formatted " ++ (decimal (length us) ++ codes "\n");
-  WasRefused = ByCause CauseUnformatted;
+  WasRefused = ByCause (CauseUnformatted us);
   Answers = λ f s. Calm f.rig.faults f.rig_after.faults → WholeOrWants s;
 }
 
@@ -181,19 +182,19 @@ pub record IsRightNvme (f : Facts) : Type 0 where
 abbrev pub nvme_work : Work dix
 nvme_work = record {
   Yield = Bool × List ℕ;
-  WasDone = λ x f. WereDone (image_in f.words) x.1 x.0 f.left f.left_after f.rig f.rig_after;
+  WasDone = λ x f. WereDone (image_in f.words) x.1 x.0 f.left f.left_after f.reads f.reads_after f.rig f.rig_after;
   status = λ x. done_status x.0;
   text = λ x. x.1;
   WasRefused = CauseNotCommanded;
   Answers = λ f s. IsRightNvme f → RunsOrWants s;
 }
 
--- ---- modes T: the map of the type was told; the rig and the source are as before
+-- ---- modes T: the map of the type was told, whose finders are the first that find a flip; the rig and the source are as before
 
 abbrev pub modes_work : PiType → Work dix
 modes_work ty = record {
   Yield = Unit {0};
-  WasDone = λ x f. (f.rig_after ≡ f.rig) × LeavesSource f;
+  WasDone = λ x f. AreFirstFinders ty × (f.rig_after ≡ f.rig) × LeavesSource f;
   status = λ x. status.Whole;
   text = λ x. modes_text ty;
   WasRefused = WantsMemory;

@@ -2,7 +2,7 @@
 use Rattle.std.proofs.Common.{◌≡◌, ℕ, suc, ◌*◌, ◌^◌, ◌<◌, ◌≤◌, true, List, [], ◌∷◌, length, take, drop, Option, Some, None, refl, sym, ap, subst, ◌∙◌, arith}
 use Rattle.std.proofs.lemmas.List.{drop_at, length-take}
 use Rattle.image_laws.specs.Over.{image_with, left_by, opening_over, replied, setting_over, volume_over}
-use Rattle.image_laws.proofs.FreshHead.{right_head, units_back}
+use Rattle.image_rig.proofs.FreshHead.{right_head, units_back}
 use Rattle.image_laws.proofs.Got.{got_walked}
 use Rattle.image_laws.proofs.Told.{IsAfter, after, head_asked, image_after, units_asked}
 use Rattle.image_rig.proofs.Heads.{right_units, right_head as right_parts}

@@ -49,13 +49,13 @@ pub record HasWritten (w : Work dix) (v : Verdict Refusal w.Yield) (result : Sta
   pub status_is : result ≡ verdict_status dix w v
   pub text_is : text' ≡ verdict_text dix w v
 
-wrote : (w : Work dix) (v : Verdict Refusal w.Yield) (text' : List ℕ) (o n : ℕ) (result : Status) → (result ≡ status.WriteFault → ⊥) → Written (verdict_status dix w v) (verdict_text dix w v) (Some []) (Some text') o n result → HasWritten w v result text'
+pub wrote : (w : Work dix) (v : Verdict Refusal w.Yield) (text' : List ℕ) (o n : ℕ) (result : Status) → (result ≡ status.WriteFault → ⊥) → Written (verdict_status dix w v) (verdict_text dix w v) (Some []) (Some text') o n result → HasWritten w v result text'
 wrote w v text' o n result good (inl e) = record { status_is = e.0; text_is = e.1 }
 wrote w v text' o n result good (inr e) = absurd (good e.0)
 
 -- ---- it is refused for want of memory alone
 
-no_rise : (o n : ℕ) → n ≡ 0 → Rose o n → ⊥
+pub no_rise : (o n : ℕ) → n ≡ 0 → Rose o n → ⊥
 no_rise o n e r = never_rose o n (omega (arith, e), omega (arith, e)) r
 
 no_rig_fault : (f : Facts) → f.rig_after.faults ≡ 0 → CauseRefused stop.RigFault (call_of f) → ⊥
@@ -84,6 +84,9 @@ unmirrored_for_memory f (refusal.Stopped s) e c alone = for_memory_mirrored f s 
 
 -- ---- a run
 
+pub ended_run : (image text image' text' : List ℕ) (f : Facts) (o n : ℕ) (result : Status) → IsCalled Run image text image' f → Carries f (Some []) (Some text') o n result → EndedAs dix run_work f (Some []) (Some text') o n result
+ended_run image text image' text' f o n result called carries = let named : command_in f.words ≡ Some command.Run = ap command_in called.words in subst (λ (c : Option Command). EndedAs dix (work_of c) f (Some []) (Some text') o n result) named carries.ended
+
 -- The script was run, and status and text are those of its replies.
 pub record CameToRun (script : Script) (f : Facts) (result : Status) (text' : List ℕ) : Type 0 where
   pub run : Finished
@@ -95,7 +98,7 @@ pub came_to_run : (script : Script) (image text image' text' : List ℕ) (f : Fa
     Carries f (Some []) (Some text') o n result → CameToRun script f result text'
 came_to_run script image text image' text' f o n result called right fits memory sink carries = by ended.verdict ended.cause (wrote run_work ended.verdict text' o n result sink ended.written) where
   ended : EndedAs dix run_work f (Some []) (Some text') o n result
-  ended = let named : command_in f.words ≡ Some command.Run = ap command_in called.words in subst (λ (c : Option Command). EndedAs dix (work_of c) f (Some []) (Some text') o n result) named carries.ended
+  ended = ended_run image text image' text' f o n result called carries
 
   by : (v : Verdict Refusal Finished) → Cause dix run_work v f → HasWritten run_work v result text' → CameToRun script f result text'
   by (Refused r) cause w = absurd (memory (w.status_is ∙ refused_for_memory f r called.faults cause (λ s c. complete s (call_of f) c text image script called.text_is fits.language called.image_is right fits.volume fits.lines called.reads)))
@@ -108,6 +111,9 @@ came_to_run script image text image' text' f o n result called right fits memory
 
 -- ---- a run on a mirror
 
+pub ended_mirror : (image text image' text' : List ℕ) (f : Facts) (o n : ℕ) (result : Status) → IsCalled Mirror image text image' f → Carries f (Some []) (Some text') o n result → EndedAs dix mirror_work f (Some []) (Some text') o n result
+ended_mirror image text image' text' f o n result called carries = let named : command_in f.words ≡ Some command.Mirror = ap command_in called.words in subst (λ (c : Option Command). EndedAs dix (work_of c) f (Some []) (Some text') o n result) named carries.ended
+
 pub record CameToMirror (script : Script) (f : Facts) (result : Status) (text' : List ℕ) : Type 0 where
   pub run : Mirrored
   pub ran : HasMirrored run script (image_in f.words) f.rig f.rig_after
@@ -118,7 +124,7 @@ pub came_to_mirror : (script : Script) (image text image' text' : List ℕ) (f :
     Carries f (Some []) (Some text') o n result → CameToMirror script f result text'
 came_to_mirror script image text image' text' f o n result called right fits memory sink carries = by ended.verdict ended.cause (wrote mirror_work ended.verdict text' o n result sink ended.written) where
   ended : EndedAs dix mirror_work f (Some []) (Some text') o n result
-  ended = let named : command_in f.words ≡ Some command.Mirror = ap command_in called.words in subst (λ (c : Option Command). EndedAs dix (work_of c) f (Some []) (Some text') o n result) named carries.ended
+  ended = ended_mirror image text image' text' f o n result called carries
 
   by : (v : Verdict Refusal Mirrored) → Cause dix mirror_work v f → HasWritten mirror_work v result text' → CameToMirror script f result text'
   by (Refused r) cause w = absurd (memory (w.status_is ∙ unmirrored_for_memory f r called.faults cause (λ s c. mirror_complete s (call_of f) c text image script called.text_is fits.language called.image_is right fits.volume fits.lines called.reads)))

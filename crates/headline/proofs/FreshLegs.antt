@@ -24,7 +24,7 @@ use Rattle.script_form_laws.proofs.Fresh.{blocks_are, fresh_unit, shapes_are, ce
 use Rattle.script_text.specs.declared.script.Script.{Script}
 use Rattle.image_laws.specs.Passed.{devices_of}
 use Rattle.headline.specs.Headline.{blocks_in, half_over, mirror_over, volume_over}
-use Rattle.image_laws.proofs.FreshHead.{units_back}
+use Rattle.image_rig.proofs.FreshHead.{units_back}
 
 -- ---- the block of an address
 

@@ -3,7 +3,7 @@ use Rattle.std.proofs.Common.{◌≡◌, ℕ, List, Some, arith}
 use Rattle.dix_base.specs.Told.{Calm}
 use Rattle.target_answer.specs.Target.{Stored}
 use Rattle.script_text.specs.declared.script.Script.{Script}
-use Rattle.dix_run.specs.Passed.{HasServedMirror, HasMirrored, Mirrored, WasEnough, IsOneGoodRun}
+use Rattle.dix_run.specs.Passed.{HasServedMirror, HasMirrored, Mirrored, OnIntactLegs}
 use Rattle.dix_run.proofs.Passed.{calm-names-none, known-told}
 use Rattle.rig_api.specs.State.{RigState}
 
@@ -14,8 +14,8 @@ pub got_served : (run : Mirrored) (script : Script) (name : List ℕ) (old new :
     → (left : List Stored) × ((new.units ≡ Some left) × HasServedMirror script m.devices us left run.mirror.state.pool run.mirror.replies.items run.mirror.state.marks.items run.repair.repaired run.repair.lost)
 got_served run script name old new us m e none = m.ended.told us e (calm-names-none run script name old new m (calm m.told.faults new.faults none))
 
-pub got_enough : (run : Mirrored) (script : Script) (name : List ℕ) (old new : RigState) (us : List Stored) (m : HasMirrored run script name old new) → m.told.units ≡ Some us → new.faults ≡ 0 → IsOneGoodRun script m.devices us
-    → (left : List Stored) × ((new.units ≡ Some left) × WasEnough script m.devices us left run.repair.lost)
-got_enough run script name old new us m e none p =
+pub got_intact : (run : Mirrored) (script : Script) (name : List ℕ) (old new : RigState) (us : List Stored) (m : HasMirrored run script name old new) → m.told.units ≡ Some us → new.faults ≡ 0
+    → (left : List Stored) × ((new.units ≡ Some left) × OnIntactLegs script m.devices us left run.repair.lost)
+got_intact run script name old new us m e none =
     let known = known-told run script name old new m us e in
-    (known.after, (known.ended, (m.intact known (calm-names-none run script name old new m (calm m.told.faults new.faults none))).enough p))
+    (known.after, (known.ended, m.intact known (calm-names-none run script name old new m (calm m.told.faults new.faults none))))

@@ -19,28 +19,31 @@ use Rattle.walk_laws.specs.PlainMap.{as_expected}
 use Rattle.walk_laws.specs.Settings.{Setting}
 use Rattle.walk_laws.specs.UnderMap.{address_of}
 use Rattle.run_laws.specs.ShownRun.{DevicesAreClean}
+use Rattle.run_laws.proofs.CleanWhereRead.{on_clean_devices}
 use Rattle.image_rig.proofs.Heads.{layout_parts}
 use Rattle.run_premises.proofs.Escapes.{none_supplied}
 use Rattle.script_form_laws.proofs.Fresh.{formatted_clean, shapes_are}
 use Rattle.script_text.specs.declared.script.Script.{Script}
-use Rattle.image_laws.specs.Passed.{IsFormedRun, IsPlainRun, has_bad, AllReadRightly, Followed, HasRun, WasAsked, devices_of, table_over, Finished}
+use Rattle.image_laws.specs.Passed.{IsDetectableRun, IsFormedRun, IsPlainRun, RunReadsRightly, has_bad, AllReadRightly, Followed, HasRun, WasAsked, devices_of, table_over, Finished}
 use Rattle.image_laws.proofs.Passed.{table_is, image_devices}
-use Rattle.dix_run.specs.Passed.{HasServedMirror, is_any_lost, mirror_text, HasMirrored, Mirrored, BothHoldLast, WasEnough, IsOneGoodRun}
+use Rattle.call_refusal.specs.declared.refusal.Refusal.{Refusal as Stop}
+use Rattle.dix_run.specs.Passed.{HasServedMirror, is_any_lost, mirror_text, HasMirrored, Mirrored, BothHoldLast, OnIntactLegs, WasEnough, IsFormedMirror, IsOneGoodRun, IsStillMirror}
 use Rattle.report_text.specs.Report.{report}
 use Rattle.dix_run.specs.Headline.{Carries}
 use Rattle.call_verdict.specs.Verdicts.{done_status}
 use Rattle.dix_run.specs.Verdict.{Facts}
 use Rattle.call_verdict.specs.declared.status.Status.{Status}
 use Rattle.call_verdict.specs.declared.status.Status.TheVariants as status
-use Rattle.headline.specs.Headline.{AreEqualLegs, FitsImage, FitsMirror, HasGoodLegs, Headline, IsClean, IsFaultless, IsFormedText, IsFound, IsFresh, IsMended, IsMirrored, IsPlain, IsStill, IsWalked, blocks_in, mended_over, mirror_over, opening_over, replied_on_mirror, setting_over, volume_over}
+use Rattle.headline.specs.Headline.{AreEqualLegs, FitsImage, FitsMirror, HasFormedLegs, HasGoodLegs, HasStillLegs, Headline, IsClean, IsCleanWhereRead, IsFaultless, IsFormedText, IsFound, IsFresh, IsMended, IsMirrored, IsPlain, IsRefused, IsShownText, IsStill, IsWalked, blocks_in, first_fault, mended_over, mirror_over, opening_over, replied_on_mirror, setting_over, volume_over}
 use Rattle.headline.specs.Words.{IsTold, wants_memory, words_for}
 use Rattle.headline.specs.declared.way.Way.{Way}
 use Rattle.headline.specs.declared.way.Way.TheVariants.{Mirror, Run}
 use Rattle.headline.proofs.Coming.{CameToMirror, CameToRun, IsCalled, came_to_mirror, came_to_run}
-use Rattle.image_laws.proofs.FreshHead.{right_head, units_back}
+use Rattle.headline.proofs.Refused.{refused_mirror, refused_run}
+use Rattle.image_rig.proofs.FreshHead.{right_head, units_back}
 use Rattle.headline.proofs.FreshLegs.{equal_legs}
-use Rattle.image_laws.proofs.Got.{got_formed, got_plain, got_walked}
-use Rattle.headline.proofs.GotMirrored.{got_enough, got_served}
+use Rattle.image_laws.proofs.Got.{got_formed, got_plain, got_shown, got_walked}
+use Rattle.headline.proofs.GotMirrored.{got_intact, got_served}
 use Rattle.image_laws.proofs.Told.{IsAfter, after, head_asked, image_after, units_asked}
 
 -- ---- over the image
@@ -101,8 +104,16 @@ plain script image image' text' run right bytes o tx p =
     let w = got_plain script (volume_over script image) (devices_of image) o.old o.new run.stack.pool run.stack.replies.items (own_units image) o.followed o.units o.none premise in
     record { report_is = tx ∙ ap report w.2.replies_are; image_is = image_after image image' w.0 _ right (o.after w.0 w.1) w.2.blocks }
 
-found : (script : Script) (image image' text' : List ℕ) (run : Finished) → All (λ x. x < 256) image → RanOver script image image' run → text' ≡ report run.stack.replies.items → IsFormedText script image → IsClean script image → IsFound script image text'
-found script image image' text' run bytes o tx p clean =
+found_by : (script : Script) (image image' text' : List ℕ) (run : Finished) → RanOver script image image' run → text' ≡ report run.stack.replies.items → RunReadsRightly script (volume_over script image) (own_units image) run.stack.replies.items → IsFound script image text'
+found_by script image image' text' run o tx reads =
+    let w = got_walked script (volume_over script image) (devices_of image) o.old o.new run.stack.pool run.stack.replies.items (own_units image) o.followed o.units o.none in
+    record {
+      report_is = tx ∙ ap report w.2.replies_are;
+      reads = subst (AllReadRightly (setting_over script image) script.ops (opening_over script image)) w.2.replies_are reads;
+    }
+
+found : (script : Script) (image image' text' : List ℕ) (run : Finished) → RanOver script image image' run → text' ≡ report run.stack.replies.items → IsFormedText script image → IsClean script image → IsFound script image text'
+found script image image' text' run o tx p clean =
     let premise : IsFormedRun script (volume_over script image) (devices_of image) (own_units image) = record {
       ty = p.ty;
       dix = p.dix;
@@ -112,32 +123,52 @@ found script image image' text' run bytes o tx p clean =
       escapes = p.escapes;
       clean = clean;
     } in
-    let w = got_walked script (volume_over script image) (devices_of image) o.old o.new run.stack.pool run.stack.replies.items (own_units image) o.followed o.units o.none in
-    let reads = got_formed script (volume_over script image) (devices_of image) o.old o.new run.stack.pool run.stack.replies.items (own_units image) o.followed o.units o.none premise in
-    record {
-      report_is = tx ∙ ap report w.2.replies_are;
-      reads = subst (AllReadRightly (setting_over script image) script.ops (opening_over script image)) w.2.replies_are reads;
-    }
+    found_by script image image' text' run o tx (got_formed script (volume_over script image) (devices_of image) o.old o.new run.stack.pool run.stack.replies.items (own_units image) o.followed o.units o.none premise)
+
+shown : (script : Script) (image image' text' : List ℕ) (run : Finished) → RanOver script image image' run → text' ≡ report run.stack.replies.items → IsShownText script image → IsCleanWhereRead script image → IsFound script image text'
+shown script image image' text' run o tx p clean =
+    let premise : IsDetectableRun script (volume_over script image) (devices_of image) (own_units image) = record {
+      ty = p.ty;
+      dix = p.dix;
+      dif = p.dif;
+      protect = p.protect;
+      clean = clean;
+      no_escape = p.no_escape;
+      shown = p.shown;
+    } in
+    found_by script image image' text' run o tx (got_shown script (volume_over script image) (devices_of image) o.old o.new run.stack.pool run.stack.replies.items (own_units image) o.followed o.units o.none premise)
 
 -- ---- after `format`
 
-clean_of : (script : Script) (units : List UnitSpec) → MadeFor (volume_over script (formatted units)) (devices_of (formatted units)) script.block → is_layout units ≡ true → is_zero (volume_over script (formatted units)).ty ≡ false → as_expected (setting_over script (formatted units)) 0 ≡ true → IsClean script (formatted units)
-clean_of script units made h tuples app =
+all_clean : (script : Script) (units : List UnitSpec) → is_layout units ≡ true → is_zero (volume_over script (formatted units)).ty ≡ false → as_expected (setting_over script (formatted units)) 0 ≡ true
+    → DevicesAreClean (setting_over script (formatted units)) (devices_of (formatted units)) (blocks_in (formatted units))
+all_clean script units h tuples app =
     let few = (layout_parts units h).1 in
     let image = formatted units in
     let own : own_units image ≡ units_in units image = ap (λ us. units_in us image) (units_back units h) in
     let cell : cell_in (shapes_of (own_units image)) ≡ cell_in units = ap cell_in (ap shapes_of own ∙ shapes_are units few) in
     let ds : map info_of units ≡ devices_of image = ap (map info_of) (sym (units_back units h)) in
     let m : Setting = setting_over script image in
-    let all : DevicesAreClean m (devices_of image) (blocks_in image) =
     subst (λ (d : List DeviceInfo). DevicesAreClean m d (blocks_in image)) ds
-    (subst (λ (us : List Stored). DevicesAreClean m (map info_of units) (blocks_told us)) (sym own) (formatted_clean m units few tuples app cell)) in
+    (subst (λ (us : List Stored). DevicesAreClean m (map info_of units) (blocks_told us)) (sym own) (formatted_clean m units few tuples app cell))
+
+clean_of : (script : Script) (units : List UnitSpec) → MadeFor (volume_over script (formatted units)) (devices_of (formatted units)) script.block → is_layout units ≡ true → is_zero (volume_over script (formatted units)).ty ≡ false → as_expected (setting_over script (formatted units)) 0 ≡ true → IsClean script (formatted units)
+clean_of script units made h tuples app =
+    let m : Setting = setting_over script (formatted units) in
+    let all = all_clean script units h tuples app in
     λ v l z. all v (address_of m v) l (made.inside v l)
 
 is_clean : (script : Script) (image : List ℕ) (units : List UnitSpec) → MadeFor (volume_over script image) (devices_of image) script.block → IsFresh units image → is_zero (volume_over script image).ty ≡ false → as_expected (setting_over script image) 0 ≡ true → IsClean script image
 is_clean script image units made fresh tuples app =
     let e = fresh.image_is in
     subst (IsClean script) (sym e) (clean_of script units (subst (λ (i : List ℕ). MadeFor (volume_over script i) (devices_of i) script.block) e made) fresh.layout (subst (λ (i : List ℕ). is_zero (volume_over script i).ty ≡ false) e tuples) (subst (λ (i : List ℕ). as_expected (setting_over script i) 0 ≡ true) e app))
+
+is_clean_where_read : (script : Script) (image : List ℕ) (units : List UnitSpec) → IsFresh units image → is_zero (volume_over script image).ty ≡ false → as_expected (setting_over script image) 0 ≡ true → IsCleanWhereRead script image
+is_clean_where_read script image units fresh tuples app =
+    let e = fresh.image_is in
+    let whole = formatted units in
+    subst (IsCleanWhereRead script) (sym e)
+    (on_clean_devices (setting_over script whole) (devices_of whole) (blocks_in whole) (all_clean script units fresh.layout (subst (λ (i : List ℕ). is_zero (volume_over script i).ty ≡ false) e tuples) (subst (λ (i : List ℕ). as_expected (setting_over script i) 0 ≡ true) e app)))
 
 -- a script without faults over it
 faultless : (script : Script) (image image' : List ℕ) (units : List UnitSpec) (run : Finished) → RanOver script image image' run → IsFresh units image → as_expected (setting_over script image) 0 ≡ true → IsStill script → IsFaultless script image
@@ -155,7 +186,7 @@ pub record MirroredOver (script : Script) (image image' : List ℕ) (run : Mirro
   pub after : IsAfter image image' left
   pub made : MadeFor (volume_over script image) (devices_of image) script.block
   pub served : HasServedMirror script (devices_of image) (own_units image) left run.mirror.state.pool run.mirror.replies.items run.mirror.state.marks.items run.repair.repaired run.repair.lost
-  pub enough : IsOneGoodRun script (devices_of image) (own_units image) → WasEnough script (devices_of image) (own_units image) left run.repair.lost
+  pub legs : OnIntactLegs script (devices_of image) (own_units image) left run.repair.lost
 
 mirrored_over : (script : Script) (image text image' : List ℕ) (f : Facts) (name : List ℕ) (run : Mirrored) → IsCalled Mirror image text image' f → head_fault (head_of image) ≡ None → HasMirrored run script name f.rig f.rig_after → MirroredOver script image image' run
 mirrored_over script image text image' f name run called right r =
@@ -163,16 +194,14 @@ mirrored_over script image text image' f name run called right r =
     let us = own_units image in
     let units : r.told.units ≡ Some us = units_asked name r.devices f.rig r.told image called.image_is r.asked in
     let s = got_served run script name f.rig f.rig_after us r units called.faults in
+    let e = got_intact run script name f.rig f.rig_after us r units called.faults in
     record {
       left = s.0;
       made = subst (λ (d : List DeviceInfo). MadeFor (table_over script.entries d) d script.block) ds r.bound.made;
       after = told_after Mirror image text image' f name r.devices r.told called right r.asked r.ended.stretches.standing s.0 s.1.0;
       served = subst (λ (d : List DeviceInfo). HasServedMirror script d us s.0 run.mirror.state.pool run.mirror.replies.items run.mirror.state.marks.items run.repair.repaired run.repair.lost) ds s.1.1;
-      enough = λ p.
-          let e = got_enough run script name f.rig f.rig_after us r units called.faults (subst (λ (d : List DeviceInfo). IsOneGoodRun script d us) (sym ds) p) in
-          let same : e.0 ≡ s.0 = one_left e.0 s.0 (sym e.1.0 ∙ s.1.0) in
-          subst (λ (left : List Stored). WasEnough script (devices_of image) us left run.repair.lost) same
-          (subst (λ (d : List DeviceInfo). WasEnough script d us e.0 run.repair.lost) ds e.1.1);
+      legs = subst (λ (left : List Stored). OnIntactLegs script (devices_of image) us left run.repair.lost) (one_left e.0 s.0 (sym e.1.0 ∙ s.1.0))
+          (subst (λ (d : List DeviceInfo). OnIntactLegs script d us e.0 run.repair.lost) ds e.1.1);
     }
   where
     one_left : (a b : List Stored) → Some a ≡ Some b → a ≡ b
@@ -190,8 +219,15 @@ mirrored script image image' text' run result right o st tx =
       image_is = image_after image image' o.left done.blocks right o.after w.blocks;
     }
 
-mended : (script : Script) (image image' text' : List ℕ) (run : Mirrored) (result : Status) → All (λ x. x < 256) image → MirroredOver script image image' run → IsMirrored script image result text' image' → HasGoodLegs script image → AreEqualLegs script image → IsMended script image text' image'
-mended script image image' text' run result bytes o is p legs =
+mended_by : (script : Script) (image image' text' : List ℕ) (run : Mirrored) (result : Status) → (o : MirroredOver script image image' run) → IsMirrored script image result text' image' → WasEnough script (devices_of image) (own_units image) o.left run.repair.lost → IsMended script image text' image'
+mended_by script image image' text' run result o is w = record {
+  report_is = is.report_is ∙ ap (mirror_text (replied_on_mirror script image) (mended_over script image).repaired) (sym o.served.lost_is ∙ w.lost_none);
+  reads = w.reads;
+  equal = subst (BothHoldLast script (devices_of image) (own_units image)) o.after.units w.equal;
+}
+
+mended : (script : Script) (image image' text' : List ℕ) (run : Mirrored) (result : Status) → MirroredOver script image image' run → IsMirrored script image result text' image' → HasGoodLegs script image → AreEqualLegs script image → IsMended script image text' image'
+mended script image image' text' run result o is p legs =
     let premise : IsOneGoodRun script (devices_of image) (own_units image) = record {
       ty = p.ty;
       protect = p.protect;
@@ -201,19 +237,39 @@ mended script image image' text' run result bytes o is p legs =
       shown = p.shown;
       one_good = p.one_good;
     } in
-    let w = o.enough premise in
-    record {
-      report_is = is.report_is ∙ ap (mirror_text (replied_on_mirror script image) (mended_over script image).repaired) (sym o.served.lost_is ∙ w.lost_none);
-      reads = w.reads;
-      equal = subst (BothHoldLast script (devices_of image) (own_units image)) o.after.units w.equal;
-    }
+    mended_by script image image' text' run result o is (o.legs.enough premise)
+
+mended_formed : (script : Script) (image image' text' : List ℕ) (run : Mirrored) (result : Status) → MirroredOver script image image' run → IsMirrored script image result text' image' → HasFormedLegs script image → AreEqualLegs script image → IsMended script image text' image'
+mended_formed script image image' text' run result o is p legs =
+    let premise : IsFormedMirror script (devices_of image) (own_units image) = record {
+      ty = p.ty;
+      protect = p.protect;
+      form = p.form;
+      a_leg = p.a_leg;
+      escapes = p.escapes;
+      clean = legs.clean;
+      equal = legs.equal;
+    } in
+    mended_by script image image' text' run result o is (o.legs.formed premise)
+
+mended_still : (script : Script) (image image' text' : List ℕ) (run : Mirrored) (result : Status) → MirroredOver script image image' run → IsMirrored script image result text' image' → HasStillLegs script image → AreEqualLegs script image → IsMended script image text' image'
+mended_still script image image' text' run result o is p legs =
+    let premise : IsStillMirror script (devices_of image) (own_units image) = record {
+      ty = p.ty;
+      faults = p.still.faults;
+      overwrites = p.still.overwrites;
+      escapes = p.still.escapes;
+      clean = legs.clean;
+      equal = legs.equal;
+    } in
+    mended_by script image image' text' run result o is (o.legs.still premise)
 
 -- so are both legs over the image that `format` left
-fresh_legs : (script : Script) (image image' : List ℕ) (units : List UnitSpec) (run : Mirrored) → MirroredOver script image image' run → IsFresh units image → as_expected (mirror_over script image) 0 ≡ true → HasGoodLegs script image → AreEqualLegs script image
-fresh_legs script image image' units run o fresh app p =
+fresh_legs : (script : Script) (image image' : List ℕ) (units : List UnitSpec) (run : Mirrored) → MirroredOver script image image' run → IsFresh units image → as_expected (mirror_over script image) 0 ≡ true → (volume_over script image).ty ≡ One → AreEqualLegs script image
+fresh_legs script image image' units run o fresh app one =
     let e = fresh.image_is in
     let made : MadeFor (volume_over script (formatted units)) (devices_of (formatted units)) script.block = subst (λ (i : List ℕ). MadeFor (volume_over script i) (devices_of i) script.block) e o.made in
-    let ty : (volume_over script (formatted units)).ty ≡ One = subst (λ (i : List ℕ). (volume_over script i).ty ≡ One) e p.ty in
+    let ty : (volume_over script (formatted units)).ty ≡ One = subst (λ (i : List ℕ). (volume_over script i).ty ≡ One) e one in
     subst (AreEqualLegs script) (sym e) (record {
       clean = clean_of script units made fresh.layout (ap is_zero ty) (subst (λ (i : List ℕ). as_expected (setting_over script i) 0 ≡ true) e app);
       equal = equal_legs script units fresh.layout made ty;
@@ -224,34 +280,52 @@ fresh_legs script image image' units run o fresh app p =
 pub headlined : (way : Way) (image text image' text' : List ℕ) (f : Facts) (o n : ℕ) (result : Status) → IsCalled way image text image' f → (result ≡ status.Memory → ⊥) → (result ≡ status.WriteFault → ⊥) → Carries f (Some []) (Some text') o n result →
     Headline way image text result text' image'
 headlined way image text image' text' f o n result called memory sink carries = record {
+  refused = λ why first. refused_at way why called carries first;
   ran = λ script is right fits.
       let c = run_at script is right fits in
       let over = over_at script is right fits c in
       record {
         walked = walked script image image' text' c.run result right over c.status_is c.text_is;
         plain = plain script image image' text' c.run right called.bytes over c.text_is;
-        found = found script image image' text' c.run called.bytes over c.text_is;
+        found = found script image image' text' c.run over c.text_is;
+        shown = shown script image image' text' c.run over c.text_is;
       };
   mirrored = λ script is right fits.
       let c = mirror_at script is right fits in
       let over = mirror_over_at script is right fits c in
       let done = mirrored script image image' text' c.run result right over c.status_is c.text_is in
-      record { walked = done; mended = mended script image image' text' c.run result called.bytes over done };
+      record {
+        walked = done;
+        mended = mended script image image' text' c.run result over done;
+        mended_formed = mended_formed script image image' text' c.run result over done;
+        mended_still = mended_still script image image' text' c.run result over done;
+      };
   fresh_ran = λ script units is fresh fits app.
       let right = fresh_head units fresh in
       let c = run_at script is right fits in
       let over = over_at script is right fits c in
       record {
         plain = λ p. plain script image image' text' c.run right called.bytes over c.text_is (faultless script image image' units c.run over fresh app p);
-        found = λ p. found script image image' text' c.run called.bytes over c.text_is p (is_clean script image units over.made fresh (ap is_zero p.ty) app);
+        found = λ p. found script image image' text' c.run over c.text_is p (is_clean script image units over.made fresh (ap is_zero p.ty) app);
+        shown = λ p. shown script image image' text' c.run over c.text_is p (is_clean_where_read script image units fresh (ap is_zero p.ty) app);
       };
-  fresh_mirrored = λ script units is fresh fits app p.
+  fresh_mirrored = λ script units is fresh fits app.
       let right = fresh_head units fresh in
       let c = mirror_at script is right fits in
       let over = mirror_over_at script is right fits c in
-      mended script image image' text' c.run result called.bytes over (mirrored script image image' text' c.run result right over c.status_is c.text_is) p (fresh_legs script image image' units c.run over fresh app p);
+      let done = mirrored script image image' text' c.run result right over c.status_is c.text_is in
+      let legs = fresh_legs script image image' units c.run over fresh app in
+      record {
+        mended = λ p. mended script image image' text' c.run result over done p (legs p.ty);
+        mended_formed = λ p. mended_formed script image image' text' c.run result over done p (legs p.ty);
+        mended_still = λ p. mended_still script image image' text' c.run result over done p (legs p.ty);
+      };
 }
   where
+    refused_at : (w : Way) (why : Stop) → IsCalled w image text image' f → Carries f (Some []) (Some text') o n result → first_fault w image text ≡ Some why → IsRefused why image result text' image'
+    refused_at Run why at given first = refused_run why image text image' text' f o n result at memory sink given first
+    refused_at Mirror why at given first = refused_mirror why image text image' text' f o n result at memory sink given first
+
     fresh_head : (units : List UnitSpec) → IsFresh units image → head_fault (head_of image) ≡ None
     fresh_head units fresh = ap (λ i. head_fault (head_of i)) fresh.image_is ∙ right_head units fresh.layout
 

@@ -1,4 +1,5 @@
 mod FreshLegs
 mod GotMirrored
 mod Coming
+mod Refused
 mod Headlined

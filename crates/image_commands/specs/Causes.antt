@@ -4,7 +4,7 @@ use Rattle.target_answer.specs.Image.{formatted}
 use Rattle.target_answer.specs.Target.{Stored}
 use Rattle.target_answer.specs.declared.units.UnitSpec.{UnitSpec}
 use Rattle.rig_api.specs.Head.{IsHeadOf, head_fault, units_of, version_in}
-use Rattle.rig_api.specs.Telling.{IsMigrated, KeepsBlocks, KeepsUnits, Opened, migrated_count, units_told}
+use Rattle.rig_api.specs.Telling.{IsMigrated, KeepsBlocks, KeepsUnits, LeavesShort, Opened, migrated_count, units_told}
 use Rattle.rig_api.specs.State.{RigState}
 use Rattle.rig_discovery.specs.Passed.{Answers}
 use Rattle.volume_table.specs.declared.device.DeviceInfo.{DeviceInfo}
@@ -31,11 +31,11 @@ pub record WasFormatted (name : List ℕ) (us : List UnitSpec) (old new : RigSta
   pub armed : new.armed ≡ old.armed
   pub log : new.log ≡ old.log
 
--- Why an image isn't formatted: the rig failed, or there is no memory. The armed faults are as before, and there is no further record.
-abbrev pub CauseUnformatted : Refusal → List ℕ → RigState → RigState → Type 0
-CauseUnformatted refusal.RigFault name old new = Rose old.faults new.faults × Opened name old.standing new.standing × (new.log ≡ old.log) × (new.armed ≡ old.armed)
-CauseUnformatted refusal.Memory name old new = OpenedOnce name old.standing new.standing × (new.log ≡ old.log) × (new.armed ≡ old.armed)
-CauseUnformatted _ name old new = ⊥
+-- Why an image isn't formatted with these units: the rig failed; or there is no memory, and it is as it was, or a front of the formatted one that isn't opened. The armed faults are as before, and there is no further record.
+abbrev pub CauseUnformatted : List UnitSpec → Refusal → List ℕ → RigState → RigState → Type 0
+CauseUnformatted us refusal.RigFault name old new = Rose old.faults new.faults × Opened name old.standing new.standing × (new.log ≡ old.log) × (new.armed ≡ old.armed)
+CauseUnformatted us refusal.Memory name old new = OpenedOnce name old.standing new.standing × (new.log ≡ old.log) × (new.armed ≡ old.armed) × LeavesShort (formatted us) old.image new.image
+CauseUnformatted us _ name old new = ⊥
 
 -- The image of this name was opened once more. Where its head, which is right, was of version 1, it has the equal head of version 2, and n is the number of its units; else it is as it was, and n is 0.
 -- Every stored block is as before, so are the armed faults, and there is no further record.

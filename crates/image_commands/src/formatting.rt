@@ -10,7 +10,7 @@ use std::alloc::Global;
 use target_answer::UnitSpec;
 
 /// Makes the image of this name the formatted one of these units, 1 to 8 that an image may have.
-/// After a fault the image may be anything.
+/// After a fault of the rig the image may be anything; after want of memory it is as it was, or isn't opened.
 pub fn format_image<R: Rig>(
     alloc: Global,
     name: &str,
@@ -20,7 +20,7 @@ pub fn format_image<R: Rig>(
     requires { is_layout units.now ≡ true }
     ensures { let old = R.state rig.old in
         let new = R.state rig.new in
-        MatchResult result (λ _. WasFormatted name.now units.now old new) (λ r. CauseUnformatted r name.now old new) }
+        MatchResult result (λ _. WasFormatted name.now units.now old new) (λ r. CauseUnformatted units.now r name.now old new) }
 {
     rig.format(alloc, name, units)?;
     Ok(())

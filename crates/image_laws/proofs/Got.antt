@@ -6,7 +6,7 @@ use Rattle.volume_table.specs.declared.device.DeviceInfo.{DeviceInfo}
 use Rattle.stack_ops.specs.declared.reply.Reply.{Reply}
 use Rattle.run_command.specs.Passed.{HasWalked, KnownBlocks, RoseBy, medium_lines, Script}
 use Rattle.run_command.proofs.Passed.{known_from}
-use Rattle.run_command.specs.Premises.{IsFormedRun, IsPlainRun}
+use Rattle.run_command.specs.Premises.{IsDetectableRun, IsFormedRun, IsPlainRun}
 use Rattle.run_command.specs.Followed.{Followed, HasPlain, RunReadsRightly}
 use Rattle.rig_api.specs.State.{RigState}
 
@@ -35,3 +35,8 @@ pub got_formed : (script : Script) (table : Table) (devices : List DeviceInfo) (
     → RunReadsRightly script table us replies
 got_formed script table devices old new pool replies us f e none p =
     (f.intact (at script table devices old new pool replies us f e) (unnamed (medium_lines replies) old.faults new.faults f.any_rig.medium none)).formed p
+
+pub got_shown : (script : Script) (table : Table) (devices : List DeviceInfo) (old new : RigState) (pool : List (List ℕ)) (replies : List Reply) (us : List Stored) → Followed script table devices old new pool replies → old.units ≡ Some us → new.faults ≡ 0 → IsDetectableRun script table devices us
+    → RunReadsRightly script table us replies
+got_shown script table devices old new pool replies us f e none p =
+    (f.intact (at script table devices old new pool replies us f e) (unnamed (medium_lines replies) old.faults new.faults f.any_rig.medium none)).shown p

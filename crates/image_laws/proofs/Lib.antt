@@ -1,5 +1,4 @@
 pub mod Cut
-pub mod FreshHead
 pub mod Got
 pub mod Passed
 pub mod Told

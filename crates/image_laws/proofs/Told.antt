@@ -24,7 +24,7 @@ use Rattle.run_command.specs.Verdict.{WasAsked, devices_of}
 use Rattle.run_command.proofs.Devices.{image_devices}
 use Rattle.image_laws.specs.Over.{blocks_in, image_with}
 use Rattle.image_laws.proofs.Cut.{image_is_cut}
-use Rattle.image_laws.proofs.FreshHead.{units_back}
+use Rattle.image_rig.proofs.FreshHead.{units_back}
 
 -- ---- after it was opened
 

@@ -1,6 +1,7 @@
 pub mod Changes
 pub mod Places
 pub mod Small
+pub mod Short
 pub mod Told
 pub mod Heads
 pub mod LayoutPlaces

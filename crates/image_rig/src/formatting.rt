@@ -7,6 +7,7 @@ ghost use Rattle.dix_base.specs.Told.{Appended, Rose};
 ghost use Rattle.target_answer.specs.Frames.{joined, stored_size};
 ghost use Rattle.target_answer.specs.Headers.{is_layout, is_spec, version_for};
 ghost use Rattle.target_answer.specs.Image.{all_fresh, formatted, fresh};
+ghost use Rattle.image_rig.specs.Short.{AppendedShort};
 ghost use Rattle.image_rig.specs.Small.{is_small};
 
 use dix_base::{Store, StoreFault};
@@ -40,6 +41,7 @@ fn append_blocks<S: Store>(
     requires long { length frame.old ≡ stored_size unit.now.ty unit.now.size }
     requires zeros { take unit.now.size frame.old ≡ replicate unit.now.size 0 }
     ensures appended { OnOk result (Appended (joined (all_fresh unit.now)) (S.state store.old).bytes (S.state store.new).bytes) }
+    ensures short { IsErrOf result StoreFault.Memory → AppendedShort (joined (all_fresh unit.now)) (S.state store.old).bytes (S.state store.new).bytes }
     ensures cause { IsErrOf result StoreFault.Failed → Rose (S.state store.old).faults (S.state store.new).faults }
     ensures stays { WasExtended (S.state store.old) (S.state store.new) }
 {
@@ -54,6 +56,7 @@ fn append_blocks<S: Store>(
 fn append_unit<S: Store>(alloc: Global, store: &mut S, unit: &UnitSpec) -> Result<(), StoreFault>
     requires { is_spec unit.now ≡ true }
     ensures appended { OnOk result (Appended (joined (all_fresh unit.now)) (S.state store.old).bytes (S.state store.new).bytes) }
+    ensures short { IsErrOf result StoreFault.Memory → AppendedShort (joined (all_fresh unit.now)) (S.state store.old).bytes (S.state store.new).bytes }
     ensures cause { IsErrOf result StoreFault.Failed → Rose (S.state store.old).faults (S.state store.new).faults }
     ensures stays { WasExtended (S.state store.old) (S.state store.new) }
 {
@@ -70,6 +73,7 @@ pub(crate) fn append_formatted<S: Store>(
 ) -> Result<(), StoreFault>
     requires { is_layout units.now ≡ true }
     ensures appended { OnOk result (Appended (formatted units.now) (S.state store.old).bytes (S.state store.new).bytes) }
+    ensures short { IsErrOf result StoreFault.Memory → AppendedShort (formatted units.now) (S.state store.old).bytes (S.state store.new).bytes }
     ensures cause { IsErrOf result StoreFault.Failed → Rose (S.state store.old).faults (S.state store.new).faults }
     ensures stays { WasExtended (S.state store.old) (S.state store.new) }
 {

@@ -125,9 +125,9 @@ TakingEnds (Err import.Long) layout us s most o m p q image image_after left lef
 TakingEnds (Err import.Store) layout us s most o m p q image image_after left left_after = Rose o m × IsUnstored layout us s most image image_after left left_after
 TakingEnds (Err import.Source) layout us s most o m p q image image_after left left_after = Rose p q × IsUnread layout us s image image_after left left_after
 
--- How an import ends: all pieces came and nothing more, or fewer, or one byte more, or store or source failed, whose count rose.
+-- How an import ends: all pieces came and nothing more, and no call of the source failed; or fewer came, or one byte more, or store or source failed, whose count rose.
 abbrev pub ImportEnds : Result ℕ ImportFault → Layout → List UnitSpec → Stretch → (most : ℕ) → (stores stores_after sources sources_after : ℕ) → (image image_after left left_after : Option (List ℕ)) → Type 0
-ImportEnds (Ok n) layout us s most o m p q image image_after left left_after = (n ≡ s.count) × HasTaken layout us s n [] [] image image_after left left_after × IsAtEnd left_after
+ImportEnds (Ok n) layout us s most o m p q image image_after left left_after = (n ≡ s.count) × HasTaken layout us s n [] [] image image_after left left_after × IsAtEnd left_after × (q ≡ p)
 ImportEnds (Err (import.Short n)) layout us s most o m p q image image_after left left_after = IsShort layout us s n image image_after left left_after
 ImportEnds (Err import.Long) layout us s most o m p q image image_after left left_after = (byte : ℕ) × HasTaken layout us s s.count (byte ∷ []) [] image image_after left left_after
 ImportEnds (Err import.Store) layout us s most o m p q image image_after left left_after = Rose o m × IsUnstored layout us s most image image_after left left_after

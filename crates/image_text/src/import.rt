@@ -93,6 +93,7 @@ fn take_stretch<S: Store, R: Source>(
         (S.state store.old).bytes (S.state store.new).bytes (R.left source.old) (R.left source.new) }
     ensures apart { KeepsOutside (units_open image.now) at (S.state store.old).bytes (S.state store.new).bytes }
     ensures store { WasWritten (S.state store.old) (S.state store.new) }
+    ensures calm { OnOk result (R.faults source.new ≡ R.faults source.old) }
     ensures sources { R.faults source.old ≤ R.faults source.new }
 {
     let got = match fill(source, pieces) {
@@ -153,6 +154,7 @@ fn take_all<S: Store, R: Source>(
     ensures apart { KeepsOutside (units_open image.now) place (S.state store.old).bytes (S.state store.new).bytes }
     ensures room { length pieces.new ≡ length pieces.old }
     ensures store { WasWritten (S.state store.old) (S.state store.new) }
+    ensures calm { OnOk result (R.faults source.new ≡ R.faults source.old) }
     ensures sources { R.faults source.old ≤ R.faults source.new }
 {
     let len = block_bytes(image, place.dev);

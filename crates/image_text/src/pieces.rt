@@ -1,6 +1,6 @@
 //! Pieces of a dump, taken from a source and made blocks.
 
-ghost use Rattle.std.specs.Prelude.{◌≡◌, ◌+◌, ◌*◌, ◌^◌, ◌<◌, ◌≤◌, IfOk, List, OnErr, ℕ, length, take, true};
+ghost use Rattle.std.specs.Prelude.{◌≡◌, ◌+◌, ◌*◌, ◌^◌, ◌<◌, ◌≤◌, IfOk, List, OnErr, OnOk, ℕ, length, take, true};
 ghost use Rattle.dix_base.specs.Told.{IsAtEnd, Rose, Took};
 ghost use Rattle.target_answer.specs.Frames.{frames_of, joined, stored_size};
 ghost use Rattle.target_answer.specs.Passing.{with_own_tuple};
@@ -18,6 +18,7 @@ pub(crate) fn fill<S: Source>(source: &mut S, into: &mut [u8]) -> Result<usize, 
     ensures taken { IfOk result (λ n. Took (take n into.new) (S.left source.old) (S.left source.new)) }
     ensures end { IfOk result (λ n. n < length into.old → IsAtEnd (S.left source.new)) }
     ensures broken { OnErr result ((bytes : List ℕ) × Took bytes (S.left source.old) (S.left source.new)) }
+    ensures calm { OnOk result (S.faults source.new ≡ S.faults source.old) }
     ensures cause { OnErr result (Rose (S.faults source.old) (S.faults source.new)) }
     ensures long { length into.new ≡ length into.old }
     ensures count { S.faults source.old ≤ S.faults source.new }

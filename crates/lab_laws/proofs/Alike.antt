@@ -16,7 +16,7 @@ use Rattle.script_laws.specs.Keeping.{Each}
 use Rattle.flip_sweep.specs.Comes.{CameTo}
 use Rattle.flip_sweep.specs.Verdicts.{are_same_blocks, are_same_replies, first_spoilt, is_same, is_same_block, is_same_check, is_same_reply, is_same_why, verdict_of}
 use Rattle.flip_sweep.specs.declared.verdict.Verdict.TheVariants.{Same, Unseen}
-use Rattle.image_laws.proofs.FreshHead.{same_bytes}
+use Rattle.image_rig.proofs.FreshHead.{same_bytes}
 use Rattle.lab_laws.proofs.Listing.{IsQuiet, found_nowhere}
 use Rattle.lab_laws.proofs.Scrubbed.{same_units}
 use Rattle.small_laws.proofs.Tests.{eqb_self}

@@ -92,7 +92,7 @@ module _ (s : Standing) (k : ℕ) where
 
 -- ---- the records of a run
 
-module _ (run : Finished) (f : Facts) (image : List ℕ) (told_is : f.rig.image ≡ Some image) (calm : Calm f.rig.faults f.rig_after.faults) (script : Script) (held : HoldsScript script f.left f.left_after) (h : HasRun run script f.name f.rig f.rig_after) where
+module _ (run : Finished) (f : Facts) (image : List ℕ) (told_is : f.rig.image ≡ Some image) (calm : Calm f.rig.faults f.rig_after.faults) (script : Script) (held : HoldsScript script f.left f.left_after f.reads f.reads_after) (h : HasRun run script f.name f.rig f.rig_after) where
   abbrev s : Standing
   s = f.rig_after.standing
 

@@ -55,19 +55,19 @@ untaken words h left left' reads reads' rig second byte units r x taken o k e c 
 
 -- its script isn't swept
 pub unswept_so : (words : List (List ℕ)) (h : StoreState) (left left' : Option (List ℕ)) (reads reads' : ℕ) (rig : RigState) (second : StoreState) (byte : ℕ) (units : List UnitSpec) (script : Script) (r : Stop) (taken taken' : Option (List ℕ)) (o n : ℕ) →
-    reads ≤ reads' → HasRead script left left' → SweepEnds (Err (unswept.Stopped r)) (swept byte units script) o n taken taken' → Came (Some (Sweep byte units)) (Err (refusal.Stopped r)) (on_input words h h left left' reads reads' rig second) taken taken' o n
+    reads ≤ reads' → HasRead script left left' reads reads' → SweepEnds (Err (unswept.Stopped r)) (swept byte units script) o n taken taken' → Came (Some (Sweep byte units)) (Err (refusal.Stopped r)) (on_input words h h left left' reads reads' rig second) taken taken' o n
 unswept_so words h left left' reads reads' rig second byte units script r taken taken' o n k read e =
     record { comes = (inr (script, read, e.0), e.1, e.2); kept = reads_source words h left left' reads reads' rig second k }
 
 pub whole : (words : List (List ℕ)) (h : StoreState) (left left' : Option (List ℕ)) (reads reads' : ℕ) (rig : RigState) (second : StoreState) (byte : ℕ) (units : List UnitSpec) (script : Script) (unseen : Bool) (taken taken' : Option (List ℕ)) (o n : ℕ) (s : Status) →
-    reads ≤ reads' → HasRead script left left' → SweepEnds (Ok unseen) (swept byte units script) o n taken taken' → s ≡ done_status unseen → Came (Some (Sweep byte units)) (Ok s) (on_input words h h left left' reads reads' rig second) taken taken' o n
+    reads ≤ reads' → HasRead script left left' reads reads' → SweepEnds (Ok unseen) (swept byte units script) o n taken taken' → s ≡ done_status unseen → Came (Some (Sweep byte units)) (Ok s) (on_input words h h left left' reads reads' rig second) taken taken' o n
 whole words h left left' reads reads' rig second byte units script unseen taken taken' o n s k read e w = record {
   comes = (record { script = script; broken = None }, record { read = read; own = e.0 }, inl (w ∙ ap done_status e.1, e.2));
   kept = reads_source words h left left' reads reads' rig second k;
 }
 
 pub halted : (words : List (List ℕ)) (h : StoreState) (left left' : Option (List ℕ)) (reads reads' : ℕ) (rig : RigState) (second : StoreState) (byte : ℕ) (units : List UnitSpec) (script : Script) (x : Halt) (taken taken' : Option (List ℕ)) (o n : ℕ) (s : Status) →
-    reads ≤ reads' → HasRead script left left' → SweepEnds (Err (unswept.Halted x)) (swept byte units script) o n taken taken' → s ≡ halt_status x → Came (Some (Sweep byte units)) (Ok s) (on_input words h h left left' reads reads' rig second) taken taken' o n
+    reads ≤ reads' → HasRead script left left' reads reads' → SweepEnds (Err (unswept.Halted x)) (swept byte units script) o n taken taken' → s ≡ halt_status x → Came (Some (Sweep byte units)) (Ok s) (on_input words h h left left' reads reads' rig second) taken taken' o n
 halted words h left left' reads reads' rig second byte units script halt.Memory taken taken' o n s k read e w = record {
   comes = (record { script = script; broken = Some e.1.0 }, record { read = read; own = e.0 }, inl (w, e.1.1));
   kept = reads_source words h left left' reads reads' rig second k;
@@ -90,12 +90,12 @@ source_unswept : (w : Swept) → CauseUnswept stop.ReadFault w → ⊥
 source_unswept w (inl c) = let e : stop.ReadFault ≡ stop.Script c.0 = c.2 in absurd (cc)
 source_unswept w (inr c) = c.1
 
-read_same : (f : Facts) (text : List ℕ) (script found : Script) → f.left ≡ Some text → script_in text ≡ Ok script → HasRead found f.left f.left_after → found ≡ script
+read_same : (f : Facts) (text : List ℕ) (script found : Script) → f.left ≡ Some text → script_in text ≡ Ok script → HasRead found f.left f.left_after f.reads f.reads_after → found ≡ script
 read_same f text script found l s read =
     let e : ◌≡◌ {A = Result Script ScriptFault} (Ok found) (Ok script) = sym read.reads ∙ ap script_in (whole_text read.text text f.left f.left_after l read.whole) ∙ s in
     cc
 
-read_none : (f : Facts) (text : List ℕ) (bad : ScriptFault) (found : Script) → f.left ≡ Some text → script_in text ≡ Err bad → HasRead found f.left f.left_after → ⊥
+read_none : (f : Facts) (text : List ℕ) (bad : ScriptFault) (found : Script) → f.left ≡ Some text → script_in text ≡ Err bad → HasRead found f.left f.left_after f.reads f.reads_after → ⊥
 read_none f text bad found l s read =
     let e : ◌≡◌ {A = Result Script ScriptFault} (Ok found) (Err bad) = sym read.reads ∙ ap script_in (whole_text read.text text f.left f.left_after l read.whole) ∙ s in
     absurd (cc)
@@ -174,10 +174,10 @@ may stop.Memory P byte units f k c m = m.memory refl
 may stop.ReadFault P byte units f k c m = absurd (source_failed byte units f k c)
 
 -- a sweep whose volume is at fault has read its script
-volume_read : (s : Stop) (entry : ℕ) (kind : VolumeKind) (byte : ℕ) (units : List UnitSpec) (f : Facts) → s ≡ stop.Volume entry kind → CauseNotSwept byte units (refusal.Stopped s) f → (script : Script) × HasRead script f.left f.left_after × CauseUnswept (stop.Volume entry kind) (swept byte units script)
+volume_read : (s : Stop) (entry : ℕ) (kind : VolumeKind) (byte : ℕ) (units : List UnitSpec) (f : Facts) → s ≡ stop.Volume entry kind → CauseNotSwept byte units (refusal.Stopped s) f → (script : Script) × HasRead script f.left f.left_after f.reads f.reads_after × CauseUnswept (stop.Volume entry kind) (swept byte units script)
 volume_read s entry kind byte units f e c = by (subst (λ (x : Stop). CauseNotSwept byte units (refusal.Stopped x) f) e c)
   where
-    by : CauseNotSwept byte units (refusal.Stopped (stop.Volume entry kind)) f → (script : Script) × HasRead script f.left f.left_after × CauseUnswept (stop.Volume entry kind) (swept byte units script)
+    by : CauseNotSwept byte units (refusal.Stopped (stop.Volume entry kind)) f → (script : Script) × HasRead script f.left f.left_after f.reads f.reads_after × CauseUnswept (stop.Volume entry kind) (swept byte units script)
     by (inl c) = absurd c
     by (inr c) = c
 

@@ -43,7 +43,7 @@ told_text (Marked said) = said
 
 -- The script of the source was run over the image, and these are the records of the call.
 pub record HasToldRun (script : Script) (run : Finished) (log : List LogEntry) (f : Facts) : Type 0 where
-  pub read : HasRead script f.left f.left_after
+  pub read : HasRead script f.left f.left_after f.reads f.reads_after
   pub ran : HasRun run script (image_in f.words) f.rig f.rig_after
   pub log_is : log ≡ drop run.first f.rig_after.log
 

@@ -35,12 +35,12 @@ pub record Sweeping : Type 0 where
 
 -- The script of the source, which has no fault of its own, was swept. The text may end in its middle, as there may be no memory between two runs.
 pub record HasSwept (x : Sweeping) (f : Facts) : Type 0 where
-  pub read : HasRead x.script f.left f.left_after
+  pub read : HasRead x.script f.left f.left_after f.reads f.reads_after
   pub own : own_fault x.script ≡ None
 
 -- Why nothing is swept: the source gives no script; or it was read to its end, and its script isn't swept.
 abbrev pub CauseNotSwept : (byte : ℕ) → List UnitSpec → Refusal → Facts → Type 0
-CauseNotSwept byte units (refusal.Stopped s) f = CauseUntaken s f.left f.left_after f.reads f.reads_after ⊎ ((script : Script) × HasRead script f.left f.left_after × CauseUnswept s (swept byte units script))
+CauseNotSwept byte units (refusal.Stopped s) f = CauseUntaken s f.left f.left_after f.reads f.reads_after ⊎ ((script : Script) × HasRead script f.left f.left_after f.reads f.reads_after × CauseUnswept s (swept byte units script))
 CauseNotSwept byte units _ f = ⊥
 
 -- the status of a sweep that was broken off

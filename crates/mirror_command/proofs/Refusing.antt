@@ -49,7 +49,7 @@ unbound refusal.Memory s name devices old new asked c = inl (inr (devices, asked
 unbound _ s name devices old new asked c = absurd c
 
 -- the script of a source was run on a mirror, or wasn't
-pub source_run : (r : Result Mirrored Refusal) (f : Facts) (s : Script) → HasRead s f.left f.left_after → MatchResult r (λ x. HasMirrored x s f.name f.rig f.rig_after) (λ x. CauseStopped x s f.name f.rig f.rig_after) →
+pub source_run : (r : Result Mirrored Refusal) (f : Facts) (s : Script) → HasRead s f.left f.left_after f.reads f.reads_after → MatchResult r (λ x. HasMirrored x s f.name f.rig f.rig_after) (λ x. CauseStopped x s f.name f.rig f.rig_after) →
     MatchResult r (λ x. HasMirroredSource x f) (λ x. CauseRefused x f)
 source_run (Ok run) f s read h = record { script = s; read = read; ran = h }
 source_run (Err r) f s read h = inr (s, read, h)

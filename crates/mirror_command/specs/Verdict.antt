@@ -73,7 +73,7 @@ pub record HasMirrored (run : Mirrored) (s : Script) (name : List ℕ) (old new 
 -- The source was read to its end, and its script was run on a mirror.
 pub record HasMirroredSource (run : Mirrored) (f : Facts) : Type 0 where
   pub script : Script
-  pub read : HasRead script f.left f.left_after
+  pub read : HasRead script f.left f.left_after f.reads f.reads_after
   pub ran : HasMirrored run script f.name f.rig f.rig_after
 
 -- ---- and one that wasn't
@@ -109,7 +109,7 @@ CauseStopped why s name old new = CauseUntold why name old new
 abbrev pub CauseRefused : Refusal → Facts → Type 0
 CauseRefused r f =
     (CauseUntaken r f.left f.left_after f.reads f.reads_after × (f.rig_after ≡ f.rig))
-    ⊎ ((s : Script) × HasRead s f.left f.left_after × CauseStopped r s f.name f.rig f.rig_after)
+    ⊎ ((s : Script) × HasRead s f.left f.left_after f.reads f.reads_after × CauseStopped r s f.name f.rig f.rig_after)
 
 -- A text of the language, an image whose head is right, and a script without a fault on a mirror over it, and no fault of the source: then nothing in them is refused.
 abbrev pub IsComplete : Refusal → Facts → Type 0

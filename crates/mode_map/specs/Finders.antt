@@ -19,6 +19,7 @@ use Rattle.block_path.specs.declared.mode.Mode.{Mode}
 use Rattle.walk_laws.specs.Settings.{Block, Setting, route}
 use Rattle.walk_laws.specs.PlainMap.{MapEntry, tag_of}
 use Rattle.walk_laws.specs.UnderMap.{stored_as}
+use Rattle.mode_map.specs.NearFlips.{IsNearFlip}
 use Rattle.mode_map.specs.declared.finder.Seen.{Seen}
 use Rattle.mode_map.specs.declared.finder.Seen.TheVariants.{Adapter, Target, Owner as OfOwner}
 
@@ -114,3 +115,14 @@ finder mode ty TargetToMedium = checks_stored mode ty
 finder mode ty MediumToTarget = checks_stored mode ty
 finder mode ty TargetToAdapter = if passes mode ty then Some Adapter else None
 finder mode ty AdapterToHost = if mode.dix then Some OfOwner else None
+
+-- In a setting of this mode and type, and of whatever volume, this layer is the first to find a flip at this crossing, of a write of the block or of a read of it as it is stored under its proper tuple; or none does.
+pub record IsFirstFinder (mode : Mode) (ty : PiType) (at : Crossing) (first : Option Seen) : Type 0 where
+  -- where the flip changes the guards that see it
+  pub found : (m : Setting) (b : Block) (owner : Owner) (e : MapEntry) (off : ℕ) (bytes : List ℕ) → m.mode ≡ mode → m.ty ≡ ty → IsCleanBlock m e → ShowsIn m at off bytes e → seen_in m b owner at off bytes e ≡ first
+  -- where it is of one byte, or of two, not both by FFh
+  pub near : (m : Setting) (b : Block) (owner : Owner) (e : MapEntry) (off : ℕ) (bytes : List ℕ) → m.mode ≡ mode → m.ty ≡ ty → IsCleanBlock m e → IsNearFlip m off bytes → seen_in m b owner at off bytes e ≡ first
+
+-- For each mode of a served protect field and each crossing, the finder is the first that finds such a flip.
+abbrev pub AreFirstFinders : PiType → Type 0
+AreFirstFinders ty = (mode : Mode) (at : Crossing) → is_served mode.protect ≡ true → IsFirstFinder mode ty at (finder mode ty at)

@@ -1,12 +1,8 @@
 //! The first layer that finds a block altered.
 
-ghost use Rattle.std.specs.Prelude.{◌≡◌, ℕ, List, true, if◌then◌else◌, Some, None};
+ghost use Rattle.std.specs.Prelude.{◌≡◌, true, if◌then◌else◌, Some, None};
 ghost use Rattle.pi_tuple.specs.Finds.{is_zero};
-ghost use Rattle.integrity_payload.specs.declared.payload.Owner.{Owner};
-ghost use Rattle.walk_laws.specs.Settings.{Block, Setting};
-ghost use Rattle.walk_laws.specs.PlainMap.{MapEntry};
-ghost use Rattle.mode_map.specs.Finders.{IsCleanBlock, ShowsIn, checks_stored, finder, is_served, seen_in};
-ghost use Rattle.mode_map.specs.NearFlips.{IsNearFlip};
+ghost use Rattle.mode_map.specs.Finders.{IsFirstFinder, checks_stored, finder, is_served};
 
 use block_path::Mode;
 use fault_schedule::Crossing;
@@ -73,10 +69,7 @@ fn finder(mode: &Mode, ty: PiType, at: Crossing) -> Option<Seen>
 pub fn first_finder(mode: &Mode, ty: PiType, at: Crossing) -> Option<Seen>
     requires { is_served mode.now.protect ≡ true }
     ensures value { result ≡ finder mode.now ty at }
-    ensures found { (m : Setting) (b : Block) (owner : Owner) (e : MapEntry) (off : ℕ) (bytes : List ℕ) → m.mode ≡ mode.now → m.ty ≡ ty → IsCleanBlock m e → ShowsIn m at off bytes e
-        → seen_in m b owner at off bytes e ≡ result }
-    ensures near { (m : Setting) (b : Block) (owner : Owner) (e : MapEntry) (off : ℕ) (bytes : List ℕ) → m.mode ≡ mode.now → m.ty ≡ ty → IsCleanBlock m e → IsNearFlip m off bytes
-        → seen_in m b owner at off bytes e ≡ result }
+    ensures first { IsFirstFinder mode.now ty at result }
 {
     finder(mode, ty, at)
 }

@@ -1,7 +1,7 @@
 //! The text of the modes of a type.
 
 ghost use Rattle.std.specs.Prelude.{◌≡◌, ◌++◌, IfOk, OnOk, true};
-ghost use Rattle.mode_map.specs.Finders.{is_served};
+ghost use Rattle.mode_map.specs.Finders.{AreFirstFinders, is_served};
 ghost use Rattle.mode_map.specs.Modes.{four_lines, in_words, line, mode_of, mode_text, modes_text, on_off, out_words, protect_text, seen_text, word};
 
 use crate::finder::{Seen, first_finder};
@@ -118,9 +118,10 @@ fn add_four(text: &mut Vec<u8>, dix: bool, ty: PiType) -> Result<(), AllocError>
 
 /// The eight lines of a type, `DIX DIF PROTECT` and the first finder at each crossing from the host
 /// to the medium and back: `adapter`, `target`, `owner` or `none`. The protect field is `-` where no
-/// tuple travels between adapter and target.
+/// tuple travels between adapter and target. Each is the first that finds a flip there.
 pub fn modes_text(alloc: Global, ty: PiType) -> Result<Vec<u8>, AllocError>
-    ensures { IfOk result (λ v. v.items ≡ modes_text ty) }
+    ensures text { IfOk result (λ v. v.items ≡ modes_text ty) }
+    ensures first { AreFirstFinders ty }
 {
     let mut text = Vec::new(alloc);
     add_four(&mut text, false, ty)?;

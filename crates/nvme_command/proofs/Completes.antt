@@ -43,8 +43,8 @@ no_lines : (f : ScriptFault) (left left' : Option (List ℕ)) (text : List ℕ) 
 no_lines f left left' text lines e t (inl n) = let same = whole_text n.0 text left left' e n.1 in let both = sym n.2 ∙ ap text_in same ∙ t in cc
 no_lines f left left' text lines e t (inr n) = over_long text n.1.0 left left' e n.1.1 n.1.2 (text_short text lines t)
 
-same_lines : (text : List ℕ) (lines lines' : List NvmLine) (left left' : Option (List ℕ)) → left ≡ Some text → text_in text ≡ Ok lines → HasLines lines' left left' → lines' ≡ lines
-same_lines text lines lines' left left' e t h = let both = sym h.lines_are ∙ ap text_in (whole_text h.text text left left' e h.whole) ∙ t in cc
+same_lines : (text : List ℕ) (lines lines' : List NvmLine) (left left' : Option (List ℕ)) (reads reads' : ℕ) → left ≡ Some text → text_in text ≡ Ok lines → HasLines lines' left left' reads reads' → lines' ≡ lines
+same_lines text lines lines' left left' reads reads' e t h = let both = sym h.lines_are ∙ ap text_in (whole_text h.text text left left' e h.whole) ∙ t in cc
 
 -- the devices that a told image's rig told are those of its head
 devices_told : (image name : List ℕ) (devices : List DeviceInfo) (old new : RigState) → old.image ≡ Some image → HasTold name devices old new → devices ≡ map info_of (units_of (head_of image))
@@ -68,7 +68,7 @@ no_misfit f name lines' lines old new image same i m h =
 pub spared_alone : (f : Refusal) (name : List ℕ) (left left' : Option (List ℕ)) (reads reads' : ℕ) (old new : RigState) (text image : List ℕ) (lines : List NvmLine) → left ≡ Some text → text_in text ≡ Ok lines → old.image ≡ Some image → head_fault (head_of image) ≡ None →
     misfit (map info_of (units_of (head_of image))) lines ≡ None → Calm reads reads' → Calm old.faults new.faults → CauseNotDone f name left left' reads reads' old new → f ≡ refusal.Memory
 spared_alone (refusal.Script f) name left left' reads reads' old new text image lines l t i h m cr cf (inl c) = absurd (no_lines f left left' text lines l t c.0)
-spared_alone (refusal.Script f) name left left' reads reads' old new text image lines l t i h m cr cf (inr c) = absurd (no_misfit f name c.0 lines old new image (same_lines text lines c.0 left left' l t c.1) i m c.2)
+spared_alone (refusal.Script f) name left left' reads reads' old new text image lines l t i h m cr cf (inr c) = absurd (no_misfit f name c.0 lines old new image (same_lines text lines c.0 left left' reads reads' l t c.1) i m c.2)
 spared_alone (refusal.Image x) name left left' reads reads' old new text image lines l t i h m cr cf (inr c) = absurd (right_head image x name old new i c.2.1.image h c.2.0)
 spared_alone (refusal.BadCapacity dev) name left left' reads reads' old new text image lines l t i h m cr cf (inr c) = absurd (told_is_good image name dev old new i c.2)
 spared_alone refusal.RigFault name left left' reads reads' old new text image lines l t i h m cr cf (inr c) = absurd (never_rose old.faults new.faults cf c.2.0)
@@ -112,6 +112,6 @@ pub not_done_opens : (f : Refusal) (name : List ℕ) (left left' : Option (List 
 not_done_opens f name left left' reads reads' old new (inl c) = inl (ap (λ (v : RigState). v.standing.openings) c.1, ap (λ (v : RigState). v.standing.name) c.1)
 not_done_opens f name left left' reads reads' old new (inr c) = undone_opens f name c.0 old new c.2
 
-pub done_opens : (name text : List ℕ) (bad : Bool) (left left' : Option (List ℕ)) (old new : RigState) → WereDone name text bad left left' old new → OpenedOnce name old.standing new.standing
-done_opens name text bad left left' old new w =
+pub done_opens : (name text : List ℕ) (bad : Bool) (left left' : Option (List ℕ)) (reads reads' : ℕ) (old new : RigState) → WereDone name text bad left left' reads reads' old new → OpenedOnce name old.standing new.standing
+done_opens name text bad left left' reads reads' old new w =
     opens_on name old.standing w.done.between.standing new.standing (stands_all w.done.devices w.lines w.done.came.replies w.done.between new w.done.came.done) (asked_opens name w.done.devices old w.done.between w.done.told.asked)

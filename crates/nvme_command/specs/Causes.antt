@@ -21,11 +21,12 @@ use Rattle.nvme_command.specs.Replies.{has_failed, replies_text}
 
 -- What a call comes to: the commands done, or why not.
 
--- The source was read to its end, and held a text of these lines.
-pub record HasLines (lines : List NvmLine) (left left' : Option (List ℕ)) : Type 0 where
+-- The source was read to its end, no call of it failed, and it held a text of these lines.
+pub record HasLines (lines : List NvmLine) (left left' : Option (List ℕ)) (reads reads' : ℕ) : Type 0 where
   pub text : List ℕ
   pub whole : IsWhole text left left'
   pub lines_are : text_in text ≡ Ok lines
+  pub calm : reads' ≡ reads
 
 -- The source was read to its end and held a text with this first fault, or more than a text may have.
 abbrev pub HasNoLines : ScriptFault → Option (List ℕ) → Option (List ℕ) → Type 0
@@ -88,12 +89,12 @@ CauseUnread refusal.ReadFault left left' reads reads' = Rose reads reads'
 CauseUnread _ left left' reads reads' = ⊥
 
 -- The commands of the source's lines were done on the image of this name.
-pub record WereDone (name text : List ℕ) (bad : Bool) (left left' : Option (List ℕ)) (old new : RigState) : Type 0 where
+pub record WereDone (name text : List ℕ) (bad : Bool) (left left' : Option (List ℕ)) (reads reads' : ℕ) (old new : RigState) : Type 0 where
   pub lines : List NvmLine
-  pub read : HasLines lines left left'
+  pub read : HasLines lines left left' reads reads'
   pub done : HasDone name lines text bad old new
 
 -- Why not: the lines aren't read, and the rig is as it was; or they are, and what comes behind is at fault.
 abbrev pub CauseNotDone : Refusal → (name : List ℕ) → (left left' : Option (List ℕ)) → (reads reads' : ℕ) → RigState → RigState → Type 0
 CauseNotDone f name left left' reads reads' old new =
-    (CauseUnread f left left' reads reads' × (new ≡ old)) ⊎ ((lines : List NvmLine) × HasLines lines left left' × CauseUndone f name lines old new)
+    (CauseUnread f left left' reads reads' × (new ≡ old)) ⊎ ((lines : List NvmLine) × HasLines lines left left' reads reads' × CauseUndone f name lines old new)

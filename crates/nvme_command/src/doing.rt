@@ -17,7 +17,7 @@ use std::alloc::Global;
 
 /// Reads the source to its end, and its lines.
 fn lines_of<S: Source>(alloc: Global, source: &mut S) -> Result<Vec<NvmLine>, Refusal>
-    ensures { MatchResult result (λ v. HasLines v.items (S.left source.old) (S.left source.new))
+    ensures { MatchResult result (λ v. HasLines v.items (S.left source.old) (S.left source.new) (S.faults source.old) (S.faults source.new))
         (λ f. CauseUnread f (S.left source.old) (S.left source.new) (S.faults source.old) (S.faults source.new)) }
 {
     let text = read_all(alloc, source)?;
@@ -70,7 +70,7 @@ pub fn do_commands<S: Source, R: Rig>(
 ) -> Result<Done, Refusal>
     ensures { let old = R.state rig.old in
         let new = R.state rig.new in
-        MatchResult result (λ d. WereDone name.now d.text.items d.bad (S.left source.old) (S.left source.new) old new)
+        MatchResult result (λ d. WereDone name.now d.text.items d.bad (S.left source.old) (S.left source.new) (S.faults source.old) (S.faults source.new) old new)
         (λ f. CauseNotDone f name.now (S.left source.old) (S.left source.new) (S.faults source.old) (S.faults source.new) old new) }
 {
     let lines = lines_of(alloc, source)?;

@@ -11,6 +11,7 @@ ghost use Rattle.pi_tuple.specs.declared.TheConstants.{LARGEST_BLOCK};
 use crate::{Completion, NvmCommand};
 use pi_guard::crc16;
 use pi_tuple::{PiType, TUPLE, has_ref_tag, make};
+use target_answer::stored_size;
 
 /// Puts these bytes behind those in front of this place, and answers where they end.
 fn put(into: &mut [u8], at: usize, piece: &[u8]) -> usize
@@ -64,19 +65,6 @@ pub(crate) fn has_meta(ty: PiType, command: &NvmCommand) -> bool
     ty != PiType::Zero && !command.pract
 }
 
-/// The bytes of a block with its tuple, where the unit has tuples.
-fn stored_size(ty: PiType, size: usize) -> usize
-    requires { size ≤ LARGEST_BLOCK }
-    ensures value { result ≡ stored_size ty size }
-    ensures bound { result ≤ size + TUPLE }
-{
-    if ty == PiType::Zero {
-        size
-    } else {
-        size + TUPLE
-    }
-}
-
 /// The bytes that a command has sent by its unit: the frames of a read.
 pub(crate) fn room_for(ty: PiType, command: &NvmCommand, size: usize) -> usize
     requires few { command.now.count ≤ 1024 }
@@ -88,7 +76,7 @@ pub(crate) fn room_for(ty: PiType, command: &NvmCommand, size: usize) -> usize
     if command.is_write() {
         0
     } else {
-        command.count as usize * stored_size(ty, size)
+        command.count as usize * stored_size(ty, size as u32)
     }
 }
 
@@ -204,7 +192,7 @@ pub(crate) fn deliver(
         meta.fill(0);
         return;
     }
-    let width = stored_size(ty, size);
+    let width = stored_size(ty, size as u32);
     take_parts(width, 0, size, command.count, came, body);
     if has_meta(ty, command) {
         take_parts(width, size, TUPLE, command.count, came, meta);

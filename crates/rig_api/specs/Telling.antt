@@ -82,6 +82,16 @@ JudgesNone (Err BadMagic) = ⊥
 JudgesNone (Err BadHeader) = ⊥
 JudgesNone (Err BadLength) = ⊥
 
+-- The part is the front of the whole, and at least one byte is missing.
+pub record IsShortOf (whole part : List ℕ) : Type 0 where
+  pub byte : ℕ
+  pub rest : List ℕ
+  pub whole_is : whole ≡ part ++ (byte ∷ rest)
+
+-- The image is as it was; or it is the front of this one, not all of it, and isn't opened.
+abbrev pub LeavesShort : List ℕ → (old new : Option (List ℕ)) → Type 0
+LeavesShort whole old new = Becomes (λ was is. (is ≡ was) ⊎ (IsShortOf whole is × (head_fault (head_of is) ≡ None → ⊥))) old new
+
 abbrev pub no_unit : Stored
 no_unit = record { ty = Zero; size = 0; first = 0; blocks = [] }
 

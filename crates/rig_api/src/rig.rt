@@ -5,7 +5,7 @@ ghost use Rattle.dix_base.specs.Told.{AreOctets, Becomes, Rose};
 ghost use Rattle.rig_api.specs.Head.{fault_name, units_of, version_in};
 ghost use Rattle.rig_api.specs.Log.{HasRoom, capacity_len, entry_at, have_keys};
 ghost use Rattle.rig_api.specs.State.{Exchanged, IsJudgement, KeepsRecords, RigState, Stays};
-ghost use Rattle.rig_api.specs.Telling.{IsMigrated, IsStanding, JudgesNone, KeepsBlocks, KeepsUnits, LeavesImage, Opened, OpenedBy, Stayed, block_at, can_change, changed, frame_size, greatest_size, migrated_count, source_of, spec_at, unit_at, units_told, with_block};
+ghost use Rattle.rig_api.specs.Telling.{IsMigrated, IsStanding, JudgesNone, KeepsBlocks, KeepsUnits, LeavesImage, LeavesShort, Opened, OpenedBy, Stayed, block_at, can_change, changed, frame_size, greatest_size, migrated_count, source_of, spec_at, unit_at, units_told, with_block};
 ghost use Rattle.target_answer.specs.Headers.{is_layout};
 ghost use Rattle.target_answer.specs.Image.{formatted};
 ghost use Rattle.target_answer.specs.Requests.{blocks_of};
@@ -92,13 +92,14 @@ pub trait Rig {
     /// of zeros with proper tuples. The units are 1 to 8; each has 1 to 65,536 blocks of 512
     /// bytes or 1 to 8,192 of 4,096, and its first address and blocks are together at most 2^63.
     ///
-    /// `Failed` comes only where the count of faults rose, `Memory` for want of it; then the image
-    /// may be anything. Afterwards the rig has no device.
+    /// `Failed` comes only where the count of faults rose; then the image may be anything. After want of
+    /// memory it is as it was, or a front of the formatted one that isn't opened. The rig has no device then.
     fn format(&mut self, alloc: Global, name: &str, spec: &[UnitSpec]) -> Result<(), RigFault>
         requires layout { is_layout spec.now ≡ true }
         ensures formatted { OnOk result (Becomes (λ was is. is ≡ formatted spec.now) (state self.old).image (state self.new).image) }
         ensures answers { JudgesNone result }
         ensures failed { IsErrOf result RigFault.Failed → Rose (state self.old).faults (state self.new).faults }
+        ensures short { IsErrOf result RigFault.Memory → LeavesShort (formatted spec.now) (state self.old).image (state self.new).image }
         ensures tells { is_some (state self.new).image ≡ is_some (state self.old).image }
         ensures none { (state self.new).standing.devices ≡ 0 }
         ensures head { (state self.new).standing.head ≡ (state self.old).standing.head }

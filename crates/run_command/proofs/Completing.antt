@@ -26,7 +26,7 @@ use Rattle.run_command.specs.declared.verdict.Finished.{Finished}
 use Rattle.call_refusal.specs.declared.refusal.Refusal.{Refusal}
 use Rattle.call_refusal.specs.declared.refusal.Refusal.TheVariants as refusal
 
-pub same_script : (f : Facts) (text : List ℕ) (script found : Script) → f.left ≡ Some text → script_in text ≡ Ok script → HasRead found f.left f.left_after → found ≡ script
+pub same_script : (f : Facts) (text : List ℕ) (script found : Script) → f.left ≡ Some text → script_in text ≡ Ok script → HasRead found f.left f.left_after f.reads f.reads_after → found ≡ script
 same_script f text script found l s read =
     let e : ◌≡◌ {A = Result Script ScriptFault} (Ok found) (Ok script) = sym read.reads ∙ ap script_in (whole_text read.text text f.left f.left_after l read.whole) ∙ s in
     cc
@@ -35,7 +35,7 @@ same_script f text script found l s read =
 too_long : (text : List ℕ) (script : Script) → 4194304 < length text → script_in text ≡ Ok script → ⊥
 too_long text script l s = let t : nat_lt 4194304 (length text) ≡ true = lt-ltb 4194304 (length text) l in let u = rw t at s in absurd (cc)
 
-longer : (taken held : List ℕ) (new : Option (List ℕ)) → Took taken (Some held) new → length taken ≤ length held
+pub longer : (taken held : List ℕ) (new : Option (List ℕ)) → Took taken (Some held) new → length taken ≤ length held
 longer taken held None t = absurd t
 longer taken held (Some left) t = let e = ap length t ∙ length-append taken left in omega (arith, e)
 

@@ -1,6 +1,7 @@
 pub mod Completing
 pub mod Devices
 pub mod Fallen
+pub mod FirstFaults
 pub mod Layers
 pub mod Passed
 pub mod PremiseRows

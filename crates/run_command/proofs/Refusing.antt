@@ -65,7 +65,7 @@ unbound refusal.Memory script name devices old new asked c = inr (devices, asked
 unbound _ script name devices old new asked c = absurd c
 
 -- the script of a source was run, or comes to no run
-pub source_run : (r : Result Finished Refusal) (f : Facts) (script : Script) → HasRead script f.left f.left_after → MatchResult r (λ x. HasRun x script f.name f.rig f.rig_after) (λ x. CauseStopped x script f.name f.rig f.rig_after) →
+pub source_run : (r : Result Finished Refusal) (f : Facts) (script : Script) → HasRead script f.left f.left_after f.reads f.reads_after → MatchResult r (λ x. HasRun x script f.name f.rig f.rig_after) (λ x. CauseStopped x script f.name f.rig f.rig_after) →
     MatchResult r (λ x. HasRunSource x f) (λ x. CauseRefused x f)
 source_run (Ok run) f script read h = record { script = script; read = read; ran = h }
 source_run (Err r) f script read h = inr (script, read, h)

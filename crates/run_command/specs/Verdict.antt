@@ -39,11 +39,12 @@ pub record Facts : Type 0 where
   pub rig : RigState
   pub rig_after : RigState
 
--- The source was read to its end; what it held is the text of this script.
-pub record HasRead (script : Script) (old new : Option (List ℕ)) : Type 0 where
+-- The source was read to its end, and no call of it failed; what it held is the text of this script.
+pub record HasRead (script : Script) (old new : Option (List ℕ)) (o n : ℕ) : Type 0 where
   pub text : List ℕ
   pub whole : IsWhole text old new
   pub reads : script_in text ≡ Ok script
+  pub calm : n ≡ o
 
 -- The source was read to its end, and this is the first fault of the text that it held; or one byte more was taken than a script may have.
 abbrev pub HoldsFault : ScriptFault → Option (List ℕ) → Option (List ℕ) → Type 0
@@ -96,7 +97,7 @@ CauseUntaken _ old new o n = ⊥
 abbrev pub CauseRefused : Refusal → Facts → Type 0
 CauseRefused r f =
     (CauseUntaken r f.left f.left_after f.reads f.reads_after × (f.rig_after ≡ f.rig))
-    ⊎ ((script : Script) × HasRead script f.left f.left_after × CauseStopped r script f.name f.rig f.rig_after)
+    ⊎ ((script : Script) × HasRead script f.left f.left_after f.reads f.reads_after × CauseStopped r script f.name f.rig f.rig_after)
 
 -- The stack of a script over its volume, none of whose ops has begun.
 pub record IsBegun (script : Script) (table : Table) (s : Stack) : Type 0 where
@@ -133,7 +134,7 @@ pub record HasRun (run : Finished) (script : Script) (name : List ℕ) (old new 
 -- The source was read to its end, and its script was run.
 pub record HasRunSource (run : Finished) (f : Facts) : Type 0 where
   pub script : Script
-  pub read : HasRead script f.left f.left_after
+  pub read : HasRead script f.left f.left_after f.reads f.reads_after
   pub ran : HasRun run script f.name f.rig f.rig_after
 
 -- the devices of an image

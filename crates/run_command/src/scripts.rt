@@ -13,7 +13,7 @@ use std::alloc::Global;
 
 /// Reads the source to its end, but no further than one byte more than a script may have, and the script that it holds.
 pub fn take_script<S: Source>(alloc: Global, source: &mut S) -> Result<Script, Refusal>
-    ensures reads { IfOk result (λ s. HasRead s (S.left source.old) (S.left source.new)) }
+    ensures reads { IfOk result (λ s. HasRead s (S.left source.old) (S.left source.new) (S.faults source.old) (S.faults source.new)) }
     ensures sound { IfOk result (λ s. IsSound s) }
     ensures cause { IfErr result (λ r. CauseUntaken r (S.left source.old) (S.left source.new) (S.faults source.old) (S.faults source.new)) }
     ensures count { S.faults source.old ≤ S.faults source.new }

@@ -37,7 +37,7 @@ as_read want script r text name old new e h = subst (λ (w : Result Script Scrip
 
 -- ---- a source
 
-halted : (r : Refusal) (f : Facts) (script : Script) → HasRead script f.left f.left_after → CauseHalted r script f.name f.rig f.rig_after → CauseNotRun r f
+halted : (r : Refusal) (f : Facts) (script : Script) → HasRead script f.left f.left_after f.reads f.reads_after → CauseHalted r script f.name f.rig f.rig_after → CauseNotRun r f
 halted (refusal.Script bad) f script read c = absurd c
 halted (refusal.Image x) f script read c = inr (script, read, c)
 halted (refusal.BadCapacity dev) f script read c = inr (script, read, c)
@@ -49,19 +49,19 @@ halted refusal.ReadFault f script read c = absurd c
 for_memory : (u : Unexplained) (f : Facts) → u ≡ Refused refusal.Memory → TookAtMost (most_bytes + 1) f.left f.left_after → f.rig_after ≡ f.rig → CauseUnexplained u f
 for_memory u f e t k = subst (λ (x : Unexplained). CauseUnexplained x f) (sym e) (inl (t, k))
 
-by_read : (want : Result Script ScriptFault) (r : Result Explained Unexplained) (text : List ℕ) (f : Facts) → IsWhole text f.left f.left_after → script_in text ≡ want → ExplainsRead want r text f.name f.rig f.rig_after → MatchResult r (λ e. HasExplained e f) (λ u. CauseUnexplained u f)
-by_read (Ok script) (Ok x) text f w e h = record { script = script; read = record { text = text; whole = w; reads = e }; explained = h }
-by_read (Ok script) (Err (Marked said)) text f w e h =
+by_read : (want : Result Script ScriptFault) (r : Result Explained Unexplained) (text : List ℕ) (f : Facts) → IsWhole text f.left f.left_after → f.reads_after ≡ f.reads → script_in text ≡ want → ExplainsRead want r text f.name f.rig f.rig_after → MatchResult r (λ e. HasExplained e f) (λ u. CauseUnexplained u f)
+by_read (Ok script) (Ok x) text f w k e h = record { script = script; read = record { text = text; whole = w; reads = e; calm = k }; explained = h }
+by_read (Ok script) (Err (Marked said)) text f w k e h =
     record { text = text; bad = h.bad; fault = inr (record { script = script; whole = w; reads = e; unbound = h.unbound }); marks = h.marks }
-by_read (Ok script) (Err (Refused r)) text f w e h = halted r f script (record { text = text; whole = w; reads = e }) h
-by_read (Err bad) (Ok x) text f w e h = absurd h.1
-by_read (Err bad) (Err (Marked said)) text f w e h = record { text = text; bad = bad; fault = inl (record { taken = inl w; reads = e; rig = h.0 }); marks = h.1 }
-by_read (Err bad) (Err (Refused r)) text f w e h = for_memory (Refused r) f (ap Refused h.1) (within text f.left f.left_after w) h.0
+by_read (Ok script) (Err (Refused r)) text f w k e h = halted r f script (record { text = text; whole = w; reads = e; calm = k }) h
+by_read (Err bad) (Ok x) text f w k e h = absurd h.1
+by_read (Err bad) (Err (Marked said)) text f w k e h = record { text = text; bad = bad; fault = inl (record { taken = inl w; reads = e; rig = h.0 }); marks = h.1 }
+by_read (Err bad) (Err (Refused r)) text f w k e h = for_memory (Refused r) f (ap Refused h.1) (within text f.left f.left_after w) h.0
 
-pub by_text : (r : Result Explained Unexplained) (text : List ℕ) (f : Facts) → IsWhole text f.left f.left_after → ExplainsText r text f.name f.rig f.rig_after → MatchResult r (λ e. HasExplained e f) (λ u. CauseUnexplained u f)
-by_text r text f w (inl m) =
+pub by_text : (r : Result Explained Unexplained) (text : List ℕ) (f : Facts) → IsWhole text f.left f.left_after → f.reads_after ≡ f.reads → ExplainsText r text f.name f.rig f.rig_after → MatchResult r (λ e. HasExplained e f) (λ u. CauseUnexplained u f)
+by_text r text f w k (inl m) =
     subst (λ (x : Result Explained Unexplained). MatchResult x (λ e. HasExplained e f) (λ u. CauseUnexplained u f)) (sym m.0) (inl (within text f.left f.left_after w, m.1))
-by_text r text f w (inr h) = by_read (script_in text) r text f w refl h
+by_text r text f w k (inr h) = by_read (script_in text) r text f w k refl h
 
 pub too_long : (text : List ℕ) → length text ≡ most_bytes + 1 → script_in text ≡ Err (record { line = 0; kind = TooMany })
 too_long text l =

@@ -28,7 +28,7 @@ pub record WasExplained (e : Explained) (script : Script) (name : List ℕ) (old
 -- The source was read to its end, and its script was run and is explained.
 pub record HasExplained (e : Explained) (f : Facts) : Type 0 where
   pub script : Script
-  pub read : HasRead script f.left f.left_after
+  pub read : HasRead script f.left f.left_after f.reads f.reads_after
   pub explained : WasExplained e script f.name f.rig f.rig_after
 
 -- The source gave this text, whose first fault this is, and was then at its end, or gave one byte more than a script may have. The rig is as before.

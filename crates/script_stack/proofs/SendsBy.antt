@@ -131,6 +131,7 @@ sends_for s t begun r log log' more few all w m n opening first st whole walks e
       few = few es r more w.stack has;
       formed = formed_as (mode_of begun.adapter) s.mode begun.adapter.ty t.ty sent.more more (ap mode_of (sym w.stays.adapter) ∙ (sym walks.over.mode ∙ e)) (ap (λ x. x.ty) (sym w.stays.adapter) ∙ (sym walks.over.ty ∙ f)) same sent.formed;
       of_requests = subst (λ (log : List Record). Each (IsOfRequests (plan_in r.sheet)) log) same (subst (λ (sh : Sheet). Each (IsOfRequests (plan_in sh)) sent.more) (sym w.stays.sheet) sent.of_requests);
+      came = record { view = has.view; comes = has.comes; ended = w.ended has.view has.holds; on_record = has.on_record };
       sent = each;
       pieces = λ none u. few_pieces (plan_in r.sheet) es more plan.queues u (each none);
     }

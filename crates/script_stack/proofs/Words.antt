@@ -14,6 +14,7 @@ sends_own s words t log replies h = record {
   few = h.few;
   formed = h.formed;
   of_requests = h.of_requests;
+  came = h.came;
   sent = h.sent;
   pieces = h.pieces;
 }

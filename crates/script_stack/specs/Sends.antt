@@ -3,13 +3,16 @@ use Rattle.std.specs.Prelude.{◌≡◌, ◌≤◌, ℕ, List, [], ◌∷◌, �
 use Rattle.std.specs.List.{All, AllByRecursion as Each}
 use Rattle.rig_api.specs.Log.{LogEntry as Record}
 use Rattle.script_text.specs.Passed.{Reply}
+use Rattle.stack_laws.specs.Comes.{Comes}
 use Rattle.stack_laws.specs.Measure.{greatest_pieces}
 use Rattle.stack_laws.specs.Plan.{Plan}
 use Rattle.stack_laws.specs.Runs.{ScheduleEntry, blocks_of_requests, sends_of}
+use Rattle.stack_laws.specs.Steps.{enabled}
+use Rattle.stack_laws.specs.View.{View}
 use Rattle.volume_table.specs.Tables.{Table}
 use Rattle.script_text.specs.declared.script.Script.{Script}
 use Rattle.dix_adapter.specs.Groups.{mode_of}
-use Rattle.stack_core.specs.OnRecord.{AreRecords, HasQueues, HasSent, IsFormed, IsOfRequests, ListsNone}
+use Rattle.stack_core.specs.OnRecord.{AreOnRecord, AreRecords, HasQueues, HasSent, IsFormed, IsOfRequests, ListsNone}
 use Rattle.stack_core.specs.Passed.{requests_from, plan_of, shifted_by}
 use Rattle.stack_core.specs.Stacks.{plan_in}
 use Rattle.stack_core.specs.declared.stack.Stack.{Stack}
@@ -32,7 +35,16 @@ pub record IsPlanFor (s : Script) (t : Table) (p : Plan) : Type 0 where
   pub is : p ≡ plan_for s t p.devices
   pub queues : HasQueues p
 
+-- The schedule has chosen the steps of the plan, one after another up to the last, where each command that was sent gave fates to its blocks; those that it left untouched were put back, to be sent again.
+-- The records are, in order and one for one, those of these commands, but for some that the adapter held back, of each of which a block is bad.
+pub record HasCome (p : Plan) (es : List ScheduleEntry) (log : List Record) : Type 0 where
+  pub view : View
+  pub comes : Comes p es view.steps view
+  pub ended : enabled p view ≡ []
+  pub on_record : AreOnRecord view.commands log
+
 -- The records of a run are at most as many as its requests have blocks.
+-- Whichever blocks are listed, they are those of the commands to which plan and schedule come, by what the answers left to send again.
 -- Each is of a READ or WRITE in the form that the script's mode and the volume's type call for, and, whichever blocks are listed, of blocks of its requests, where these lie and with their labels.
 -- Where the replies list no block they are, in order and one for one, those of the groups that are sent where all blocks are good;
 -- so where besides no entry of the schedule cuts, they are at most as many as the greatest pieces of the requests.
@@ -42,6 +54,7 @@ pub record SendsFor (s : Script) (t : Table) (log : List Record) (replies : List
   pub few : length log ≤ blocks_of_requests plan.requests
   pub formed : Each (IsFormed s.mode t.ty) log
   pub of_requests : Each (IsOfRequests plan) log
+  pub came : HasCome plan (entries_of s.schedule) log
   pub sent : ListsNone replies → AreRecords (sends_of plan (entries_of s.schedule)) log
   pub pieces : ListsNone replies → All (λ e. e.cut ≡ 0) (entries_of s.schedule) → length log ≤ greatest_pieces plan 0 plan.requests
 

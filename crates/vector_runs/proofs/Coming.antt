@@ -79,14 +79,14 @@ come (Err r) f k h = record {
   script_complete = script_complete r f h;
 }
 
-listed : (r : Result Played Refusal) (f : Facts) (lines : List VectorLine) → HoldsList lines f.left f.left_after → MatchResult r (λ p. ListPlayed p lines f.name f.rig f.rig_after) (λ x. CauseUnanswered x f.name lines f.rig f.rig_after) →
+listed : (r : Result Played Refusal) (f : Facts) (lines : List VectorLine) → HoldsList lines f.left f.left_after f.reads f.reads_after → MatchResult r (λ p. ListPlayed p lines f.name f.rig f.rig_after) (λ x. CauseUnanswered x f.name lines f.rig f.rig_after) →
     MatchResult r (λ p. HasPlayed p f) (λ x. CauseNotPlayed x f)
 listed (Ok (played.Listed ls first)) f lines held h =
-    record { held = subst (λ (v : List VectorLine). HoldsList v f.left f.left_after) (sym h.0) held; answered = rw h.0 h.1; first_is = h.2 }
+    record { held = subst (λ (v : List VectorLine). HoldsList v f.left f.left_after f.reads f.reads_after) (sym h.0) held; answered = rw h.0 h.1; first_is = h.2 }
 listed (Ok (played.Ran run)) f lines held h = absurd h
 listed (Err r) f lines held h = inr (inr (lines, held, h))
 
-ran : (r : Result Played Refusal) (f : Facts) (script : Script) → HoldsScript script f.left f.left_after → MatchResult r (λ p. ScriptPlayed p script f.name f.rig f.rig_after) (λ x. CauseStopped x script f.name f.rig f.rig_after) →
+ran : (r : Result Played Refusal) (f : Facts) (script : Script) → HoldsScript script f.left f.left_after f.reads f.reads_after → MatchResult r (λ p. ScriptPlayed p script f.name f.rig f.rig_after) (λ x. CauseStopped x script f.name f.rig f.rig_after) →
     MatchResult r (λ p. HasPlayed p f) (λ x. CauseNotPlayed x f)
 ran (Ok (played.Listed ls first)) f script held h = absurd h
 ran (Ok (played.Ran run)) f script held h = (script, held, h)
@@ -94,10 +94,10 @@ ran (Err r) f script held h = inr (inl (script, held, h))
 
 -- ---- the call
 
-pub come_listed : (r : Result Played Refusal) (f : Facts) (lines : List VectorLine) → f.reads ≤ f.reads_after → HoldsList lines f.left f.left_after → MatchResult r (λ p. ListPlayed p lines f.name f.rig f.rig_after) (λ x. CauseUnanswered x f.name lines f.rig f.rig_after) → HasCome r f
+pub come_listed : (r : Result Played Refusal) (f : Facts) (lines : List VectorLine) → f.reads ≤ f.reads_after → HoldsList lines f.left f.left_after f.reads f.reads_after → MatchResult r (λ p. ListPlayed p lines f.name f.rig f.rig_after) (λ x. CauseUnanswered x f.name lines f.rig f.rig_after) → HasCome r f
 come_listed r f lines k held h = come r f k (listed r f lines held h)
 
-pub come_ran : (r : Result Played Refusal) (f : Facts) (script : Script) → f.reads ≤ f.reads_after → HoldsScript script f.left f.left_after → MatchResult r (λ p. ScriptPlayed p script f.name f.rig f.rig_after) (λ x. CauseStopped x script f.name f.rig f.rig_after) → HasCome r f
+pub come_ran : (r : Result Played Refusal) (f : Facts) (script : Script) → f.reads ≤ f.reads_after → HoldsScript script f.left f.left_after f.reads f.reads_after → MatchResult r (λ p. ScriptPlayed p script f.name f.rig f.rig_after) (λ x. CauseStopped x script f.name f.rig f.rig_after) → HasCome r f
 come_ran r f script k held h = come r f k (ran r f script held h)
 
 pub come_untaken : (r : Refusal) (f : Facts) → f.reads ≤ f.reads_after → CauseNotTaken r f.left f.left_after f.reads f.reads_after → f.rig_after ≡ f.rig → HasCome (Err r) f

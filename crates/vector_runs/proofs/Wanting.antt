@@ -39,10 +39,10 @@ script_bad text f l (inr e) = held_by text f (of_script f) (script_at_fault text
 
 -- ---- over a source
 
-pub taken_so : (r : Result Wanted Refusal) (text : List ℕ) (a b : Option (List ℕ)) → IsWhole text a b → MatchResult r (λ w. Holds w text) (λ x. CauseNotHeld x text) → IfOk r (λ w. HasTaken w a b)
-taken_so (Ok (wanted.Lines lines)) text a b w h = record { text = text; whole = w; list = h.0; reads = h.1 }
-taken_so (Ok (wanted.Script s)) text a b w h = record { text = text; whole = w; script_is = h.0; reads = h.1; plays = h.2 }
-taken_so (Err r) text a b w h = tt
+pub taken_so : (r : Result Wanted Refusal) (text : List ℕ) (a b : Option (List ℕ)) (o n : ℕ) → IsWhole text a b → n ≡ o → MatchResult r (λ w. Holds w text) (λ x. CauseNotHeld x text) → IfOk r (λ w. HasTaken w a b o n)
+taken_so (Ok (wanted.Lines lines)) text a b o n w k h = record { text = text; whole = w; list = h.0; reads = h.1; calm = k }
+taken_so (Ok (wanted.Script s)) text a b o n w k h = record { text = text; whole = w; script_is = h.0; reads = h.1; plays = h.2; calm = k }
+taken_so (Err r) text a b o n w k h = tt
 
 not_taken : (r : Refusal) (text : List ℕ) (a b : Option (List ℕ)) (o n : ℕ) → IsWhole text a b → CauseNotHeld r text → CauseNotTaken r a b o n
 not_taken r text a b o n w (inl m) = subst (λ x. CauseNotTaken x a b o n) (sym m) (within text a b w)

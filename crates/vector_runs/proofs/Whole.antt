@@ -104,10 +104,10 @@ list_complete r f (inr (inr c)) = λ text image lines l n s i h o calm.
 one_fault : (x : Option ScriptFault) (f : ScriptFault) → x ≡ Some f → x ≡ None → ⊥
 one_fault x f a b = no_fault x f b a
 
-held_list : (lines : List VectorLine) (f : Facts) → HoldsList lines f.left f.left_after → (text : List ℕ) → f.left ≡ Some text → text_fault text ≡ None
+held_list : (lines : List VectorLine) (f : Facts) → HoldsList lines f.left f.left_after f.reads f.reads_after → (text : List ℕ) → f.left ≡ Some text → text_fault text ≡ None
 held_list lines f h text l = ap text_fault (sym (whole_text h.text text f.left f.left_after l h.whole)) ∙ list_right h.text lines h.list h.reads
 
-held_script : (script : Script) (f : Facts) → HoldsScript script f.left f.left_after → (text : List ℕ) → f.left ≡ Some text → text_fault text ≡ None
+held_script : (script : Script) (f : Facts) → HoldsScript script f.left f.left_after f.reads f.reads_after → (text : List ℕ) → f.left ≡ Some text → text_fault text ≡ None
 held_script script f h text l = ap text_fault (sym (whole_text h.text text f.left f.left_after l h.whole)) ∙ script_right h.text script h.script_is h.reads h.plays
 
 pub not_played_faulty : (p : Played) (f : Facts) (text : List ℕ) (bad : ScriptFault) → f.left ≡ Some text → text_fault text ≡ Some bad → HasPlayed p f → ⊥

@@ -36,20 +36,20 @@ played_text (played.Ran run) entries = vectors_text entries
 
 -- A list was taken from the source, its image was opened, and its commands were done.
 pub record HasListed (lines : List VectorLine) (first : ℕ) (f : Facts) : Type 0 where
-  pub held : HoldsList lines f.left f.left_after
+  pub held : HoldsList lines f.left f.left_after f.reads f.reads_after
   pub answered : HasAnswered f.name lines f.rig f.rig_after
   pub first_is : first ≡ length f.rig.log
 
 abbrev pub HasPlayed : Played → Facts → Type 0
 HasPlayed (played.Listed lines first) f = HasListed lines.items first f
-HasPlayed (played.Ran run) f = (script : Script) × HoldsScript script f.left f.left_after × HasRun run script f.name f.rig f.rig_after
+HasPlayed (played.Ran run) f = (script : Script) × HoldsScript script f.left f.left_after f.reads f.reads_after × HasRun run script f.name f.rig f.rig_after
 
 -- Why no vectors come: the source gives nothing, and the rig is as before; or the script that was taken doesn't run; or the list that was taken isn't done.
 abbrev pub CauseNotPlayed : Refusal → Facts → Type 0
 CauseNotPlayed r f =
     (CauseNotTaken r f.left f.left_after f.reads f.reads_after × (f.rig_after ≡ f.rig))
-    ⊎ (((script : Script) × HoldsScript script f.left f.left_after × CauseStopped r script f.name f.rig f.rig_after)
-    ⊎ ((lines : List VectorLine) × HoldsList lines f.left f.left_after × CauseUnanswered r f.name lines f.rig f.rig_after))
+    ⊎ (((script : Script) × HoldsScript script f.left f.left_after f.reads f.reads_after × CauseStopped r script f.name f.rig f.rig_after)
+    ⊎ ((lines : List VectorLine) × HoldsList lines f.left f.left_after f.reads f.reads_after × CauseUnanswered r f.name lines f.rig f.rig_after))
 
 -- what a list's done call shows of the list itself, over views alone
 abbrev pub ListPlayed : Played → List VectorLine → List ℕ → RigState → RigState → Type 0

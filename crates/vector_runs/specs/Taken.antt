@@ -43,24 +43,26 @@ abbrev pub KeepsRules : Wanted → Type 0
 KeepsRules (wanted.Lines lines) = Unit {0}
 KeepsRules (wanted.Script script) = IsSound script
 
--- The source was read to its end, and what it held is a list of these lines.
-pub record HoldsList (lines : List VectorLine) (old new : Option (List ℕ)) : Type 0 where
+-- The source was read to its end, and no call of it failed; what it held is a list of these lines.
+pub record HoldsList (lines : List VectorLine) (old new : Option (List ℕ)) (o n : ℕ) : Type 0 where
   pub text : List ℕ
   pub whole : IsWhole text old new
   pub list : is_list (lines_of text) ≡ true
   pub reads : list_in text ≡ Ok lines
+  pub calm : n ≡ o
 
--- The source was read to its end, and what it held is the text of this script, each of whose lines has vectors.
-pub record HoldsScript (script : Script) (old new : Option (List ℕ)) : Type 0 where
+-- The source was read to its end, and no call of it failed; what it held is the text of this script, each of whose lines has vectors.
+pub record HoldsScript (script : Script) (old new : Option (List ℕ)) (o n : ℕ) : Type 0 where
   pub text : List ℕ
   pub whole : IsWhole text old new
   pub script_is : is_list (lines_of text) ≡ false
   pub reads : script_in text ≡ Ok script
   pub plays : unplayed script ≡ None
+  pub calm : n ≡ o
 
-abbrev pub HasTaken : Wanted → Option (List ℕ) → Option (List ℕ) → Type 0
-HasTaken (wanted.Lines lines) old new = HoldsList lines.items old new
-HasTaken (wanted.Script script) old new = HoldsScript script old new
+abbrev pub HasTaken : Wanted → Option (List ℕ) → Option (List ℕ) → ℕ → ℕ → Type 0
+HasTaken (wanted.Lines lines) old new o n = HoldsList lines.items old new o n
+HasTaken (wanted.Script script) old new o n = HoldsScript script old new o n
 
 -- The source was read to its end, and this is the first fault of what it held; or one byte more was taken than a text may have.
 abbrev pub HoldsFault : ScriptFault → Option (List ℕ) → Option (List ℕ) → Type 0

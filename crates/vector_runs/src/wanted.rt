@@ -60,7 +60,7 @@ fn wanted_of(alloc: Global, text: &[u8]) -> Result<Wanted, Refusal>
 
 /// Reads the source to its end, but no further than one byte more than a text may have, and what it holds.
 pub(crate) fn take_wanted<S: Source>(alloc: Global, source: &mut S) -> Result<Wanted, Refusal>
-    ensures taken { IfOk result (λ w. HasTaken w (S.left source.old) (S.left source.new)) }
+    ensures taken { IfOk result (λ w. HasTaken w (S.left source.old) (S.left source.new) (S.faults source.old) (S.faults source.new)) }
     ensures rules { IfOk result (λ w. KeepsRules w) }
     ensures cause { IfErr result (λ r. CauseNotTaken r (S.left source.old) (S.left source.new) (S.faults source.old) (S.faults source.new)) }
     ensures count { S.faults source.old ≤ S.faults source.new }

@@ -1,4 +1,4 @@
-use Rattle.image_laws.proofs.FreshHead.{right_head, units_back}
+use Rattle.image_rig.proofs.FreshHead.{right_head, units_back}
 use Rattle.image_laws.proofs.Told.{devices_back, formatted_left, told_formatted}
 use Rattle.headline.proofs.formatted.a_formatted_image_tells_its_units.Goals as goal
 

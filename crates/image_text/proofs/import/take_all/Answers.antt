@@ -23,6 +23,7 @@ loop-left-init g c = record {
   pieces = refl;
   frames = refl;
   store = not_written _;
+  calm = refl;
   sources = omega arith;
 }
 
@@ -82,5 +83,6 @@ loop-left-preserved g c =
       pieces = refilled _ _ _ c.take_stretch.auto.pieces held ∙ inv.pieces;
       frames = refilled _ _ _ c.take_stretch.auto.frames (omega (arith, room, c.min.ensures, inv.frames)) ∙ inv.frames;
       store = written_on _ _ _ inv.store c.take_stretch.ensures.store;
+      calm = c.in-Ok.ensures.calm ∙ inv.calm;
       sources = omega (arith, c.take_stretch.ensures.sources, inv.sources);
     }

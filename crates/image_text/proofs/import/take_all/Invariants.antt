@@ -14,6 +14,7 @@ invariant-loop-left g l = record {
   pieces : length l.pieces ≡ length l.initial.pieces;
   frames : length l.frames ≡ length l.initial.frames;
   store : WasWritten (g.S.Store.state l.initial.store) (g.S.Store.state l.store);
+  calm : g.R.Source.faults l.source ≡ g.R.Source.faults l.initial.source;
   sources : g.R.Source.faults l.initial.source ≤ g.R.Source.faults l.source;
 }
 

@@ -10,5 +10,6 @@ loop-got-preserved g c =
       long = long_on c.loop-got.got c.loop-got.into c.take.new.buf (omega (arith, inv.few, inv.long)) c.take.auto.buf ∙ inv.long;
       whole = refl;
       taken = took_on c.loop-got.got c.in-Ok.n c.loop-got.into c.take.new.buf _ _ _ (omega (arith, inv.few, inv.long)) c.in-Ok.ensures.bound c.take.auto.buf inv.taken c.in-Ok.ensures.taken;
+      calm = c.in-Ok.ensures.calm ∙ inv.calm;
       count = omega (arith, inv.count, c.take.ensures.count);
     }

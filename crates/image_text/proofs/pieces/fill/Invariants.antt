@@ -8,6 +8,7 @@ invariant-loop-got g l = record {
   long : length l.into ≡ l.len;
   whole : length l.initial.into ≡ l.len;
   taken : Took (take l.got l.into) (g.S.Source.left l.initial.source) (g.S.Source.left l.source);
+  calm : g.S.Source.faults l.source ≡ g.S.Source.faults l.initial.source;
   count : g.S.Source.faults l.initial.source ≤ g.S.Source.faults l.source;
 }
 

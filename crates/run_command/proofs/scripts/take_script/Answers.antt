@@ -4,7 +4,7 @@ use Rattle.run_command.proofs.Refusing.{unread, untaken_text}
 use Rattle.run_command.proofs.scripts.take_script.Goals as goal
 
 pub returns-clause-reads : goal.returns-clause-reads
-returns-clause-reads g c = record { text = c.in_ok-text.text.items; whole = c.in_ok-text.ensures.whole; reads = rw c.deref.ensures.value at c.in_ok-script.ensures }
+returns-clause-reads g c = record { text = c.in_ok-text.text.items; whole = c.in_ok-text.ensures.whole; reads = rw c.deref.ensures.value at c.in_ok-script.ensures; calm = c.in_ok-text.ensures.calm }
 
 pub returns-in_err-script-clause-cause : goal.returns-in_err-script-clause-cause
 returns-in_err-script-clause-cause g c =

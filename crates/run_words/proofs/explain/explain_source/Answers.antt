@@ -7,12 +7,12 @@ use Rattle.run_words.proofs.explain.explain_source.Goals as goal
 pub returns-in-Ok-clause-verdict : goal.returns-in-Ok-clause-verdict
 returns-in-Ok-clause-verdict g c =
     let whole = subst (λ (x : List ℕ). IsWhole x (g.S.Source.left c.args.source.now) (g.S.Source.left c.read_all.new.source)) (sym c.deref.ensures.value) c.in-Ok.ensures.whole in
-    by_text c.explain_text.result c.deref.result.now _ whole c.explain_text.ensures.verdict
+    by_text c.explain_text.result c.deref.result.now _ whole c.in-Ok.ensures.calm c.explain_text.ensures.verdict
 
 pub returns-in-Ok-clause-complete : goal.returns-in-Ok-clause-complete
 returns-in-Ok-clause-complete g c =
     let whole = subst (λ (x : List ℕ). IsWhole x (g.S.Source.left c.args.source.now) (g.S.Source.left c.read_all.new.source)) (sym c.deref.ensures.value) c.in-Ok.ensures.whole in
-    all_complete c.explain_text.result _ (by_text c.explain_text.result c.deref.result.now _ whole c.explain_text.ensures.verdict)
+    all_complete c.explain_text.result _ (by_text c.explain_text.result c.deref.result.now _ whole c.in-Ok.ensures.calm c.explain_text.ensures.verdict)
 
 pub returns-in-Err-TooMany-clause-verdict : goal.returns-in-Err-TooMany-clause-verdict
 returns-in-Err-TooMany-clause-verdict g c = by_long c.marked_long.result _ (c.in-Err-TooMany.ensures.over (ap Err c.in-Err-TooMany.field-0-is)) refl c.marked_long.ensures

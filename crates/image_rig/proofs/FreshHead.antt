@@ -89,6 +89,9 @@ by_size us false e h = record { long = second_long us (layout_parts us h).1; bac
 written : (us : List UnitSpec) → is_layout us ≡ true → IsWritten us (version_for us)
 written us h = by_size us (is_first us) refl h
 
+pub header_long : (us : List UnitSpec) → is_layout us ≡ true → length (header (version_for us) us) ≡ 512
+header_long us h = (written us h).long
+
 -- ---- the length
 
 unit_long : (ty : PiType) (size lba n : ℕ) → length (joined (fresh_from ty size lba n)) ≡ n * stored_size ty size
