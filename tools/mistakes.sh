@@ -70,7 +70,9 @@ judge_rest() {
     [ $# -gt "$wanted" ] || return 0
     command=$1 image=$2
     shift "$wanted"
-    if takes_script "$command" "$image" && [ -f "$1" ]; then
+    if takes_script "$command" "$image" && [ -f "$1" ] && [ "$(head -c 4 -- "$image" 2>/dev/null | tr -d '\0')" = 'dix ' ]; then
+        wrong "$image is a script; the image comes first, and the script on standard input: $call $command $1 < $image"
+    elif takes_script "$command" "$image" && [ -f "$1" ]; then
         wrong "$1 is a word too many; what $command reads comes on standard input: $call $command $image < $1"
     else
         wrong "$1 is a word too many behind $command"
