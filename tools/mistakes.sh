@@ -63,6 +63,8 @@ judge_image() {
     esac
 }
 
+is_image() { { [ -f "$1" ] || [ -b "$1" ]; } && [ "$(head -c 6 -- "$1" 2>/dev/null | tr -d '\0')" = DIXIMG ]; }
+
 # Words behind the last that a command takes: WANTED WORDS..
 judge_rest() {
     wanted=$1
@@ -70,8 +72,8 @@ judge_rest() {
     [ $# -gt "$wanted" ] || return 0
     command=$1 image=$2
     shift "$wanted"
-    if takes_script "$command" "$image" && [ -f "$1" ] && [ "$(head -c 4 -- "$image" 2>/dev/null | tr -d '\0')" = 'dix ' ]; then
-        wrong "$image is a script; the image comes first, and the script on standard input: $call $command $1 < $image"
+    if takes_script "$command" "$image" && is_image "$1" && [ -f "$image" ] && ! is_image "$image"; then
+        wrong "$image is no image; the image comes first, and the script on standard input: $call $command $1 < $image"
     elif takes_script "$command" "$image" && [ -f "$1" ]; then
         wrong "$1 is a word too many; what $command reads comes on standard input: $call $command $image < $1"
     else
