@@ -1,8 +1,7 @@
 -- What the steps of a stack come to, by the laws of a script that was run to its end.
-use Rattle.std.proofs.Common.{ℕ, zero, suc, ◌≡◌, ◌<◌, ◌*◌, Bool, true, false, List, [], ◌∷◌, ◌++◌, get_or, map, take, Option, None, Some, refl, sym, ap, subst, ◌∙◌}
+use Rattle.std.proofs.Common.{ℕ, zero, suc, ◌≡◌, ◌<◌, ◌*◌, Bool, true, false, List, [], ◌∷◌, ◌++◌, get_or, map, take, refl, sym, ap, subst, ◌∙◌}
 use Rattle.std.specs.Prelude.{All}
 use Rattle.std.specs.List.{list_any}
-use Rattle.std.proofs.lemmas.Bool.{false≢true, or_parts}
 use Rattle.page_pool.specs.Cells.{flat}
 use Rattle.dix_base.specs.Told.{AreOctets}
 use Rattle.target_answer.specs.Target.{Stored}
@@ -51,7 +50,6 @@ use Rattle.run_command.specs.Followed.{AllReadRightly, Followed, HasPlain, HasRe
 use Rattle.block_path.specs.Acts.{State}
 use Rattle.block_path.specs.Moves.{hidden}
 use Rattle.stack_ops.specs.declared.op.Op.{Op}
-use Rattle.stack_ops.specs.declared.op.Op.TheVariants.{Fetch, FetchPi, Fill, Overwrite, Put, Seal, Show, Wait, Write, WritePi}
 use Rattle.stack_walk_laws.specs.AtTheEnd.{EndsAsFalling}
 use Rattle.stack_walk_laws.specs.Flips.{with_flips}
 use Rattle.stack_walk_laws.proofs.NoFlips.{no_flips_in}
