@@ -52,7 +52,7 @@ for_memory u f e t k = subst (λ (x : Unexplained). CauseUnexplained x f) (sym e
 by_read : (want : Result Script ScriptFault) (r : Result Explained Unexplained) (text : List ℕ) (f : Facts) → IsWhole text f.left f.left_after → f.reads_after ≡ f.reads → script_in text ≡ want → ExplainsRead want r text f.name f.rig f.rig_after → MatchResult r (λ e. HasExplained e f) (λ u. CauseUnexplained u f)
 by_read (Ok script) (Ok x) text f w k e h = record { script = script; read = record { text = text; whole = w; reads = e; calm = k }; explained = h }
 by_read (Ok script) (Err (Marked said)) text f w k e h =
-    record { text = text; bad = h.bad; fault = inr (record { script = script; whole = w; reads = e; unbound = h.unbound }); marks = h.marks }
+    record { text = text; bad = h.bad; fault = inr (record { script = script; whole = w; reads = e; calm = k; unbound = h.unbound }); marks = h.marks }
 by_read (Ok script) (Err (Refused r)) text f w k e h = halted r f script (record { text = text; whole = w; reads = e; calm = k }) h
 by_read (Err bad) (Ok x) text f w k e h = absurd h.1
 by_read (Err bad) (Err (Marked said)) text f w k e h = record { text = text; bad = bad; fault = inl (record { taken = inl w; reads = e; rig = h.0 }); marks = h.1 }
@@ -88,7 +88,7 @@ holds text bad f h = by_taken h.taken
 
 refused_so : (text : List ℕ) (bad : ScriptFault) (f : Facts) → IsAtFault text bad f → CauseRefused (refusal.Script bad) f
 refused_so text bad f (inl h) = inl (holds text bad f h, h.rig)
-refused_so text bad f (inr h) = inr (h.script, record { text = text; whole = h.whole; reads = h.reads }, h.unbound)
+refused_so text bad f (inr h) = inr (h.script, record { text = text; whole = h.whole; reads = h.reads; calm = h.calm }, h.unbound)
 
 not_outside : (bad : ScriptFault) → (refusal.Script bad ≡ refusal.Memory) ⊎ (refusal.Script bad ≡ refusal.RigFault) → ⊥
 not_outside bad (inl e) = absurd (cc)

@@ -37,11 +37,12 @@ pub record HasFaultyText (text : List ℕ) (bad : ScriptFault) (f : Facts) : Typ
   pub reads : script_in text ≡ Err bad
   pub rig : f.rig_after ≡ f.rig
 
--- The source gave this text of a script and was then at its end. The image was opened, its devices told what they are, and the script has this fault over its volume, the first.
+-- The source gave this text of a script and was then at its end, and no call of it failed. The image was opened, its devices told what they are, and the script has this fault over its volume, the first.
 pub record HasUnboundText (text : List ℕ) (bad : ScriptFault) (f : Facts) : Type 0 where
   pub script : Script
   pub whole : IsWhole text f.left f.left_after
   pub reads : script_in text ≡ Ok script
+  pub calm : f.reads_after ≡ f.reads
   pub unbound : IsUnbound bad script f.name f.rig f.rig_after
 
 abbrev pub IsAtFault : (text : List ℕ) → ScriptFault → Facts → Type 0
