@@ -37,7 +37,7 @@ judge_unit() {
     elif ! is_within "$1" 0 3; then
         wrong "$word: T, the protection type, is 0 to 3"
     elif [ $# = 4 ] && [ "$3" != 512 ] && [ "$3" != 4096 ]; then
-        wrong "$word: SIZE is 512 or 4096"
+        wrong "$word: SIZE is 512 or 4096, that of the data without tuples"
     elif ! is_within "$2" 1 $most; then
         wrong "$word: BLOCKS is 1 to $most for blocks of ${3:-512} bytes"
     elif [ $# = 4 ] && ! is_at_most "$4" "$(((9223372036854775807 - $2) + 1))"; then
