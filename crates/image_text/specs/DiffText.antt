@@ -8,6 +8,9 @@ use Rattle.target_answer.specs.Frames.{data_of, tuple_of}
 use Rattle.image_text.specs.ShowText.{one_if}
 use Rattle.image_text.specs.declared.diff.WhatDiffers.{WhatDiffers}
 use Rattle.image_text.specs.declared.diff.Pair.{Pair}
+use Rattle.image_text.specs.declared.unlike.Unlike.{Unlike}
+use Rattle.std.specs.Int.{w16, w32, to_be_bytes}
+use Rattle.hex.specs.Hex.{encode_lower}
 
 -- What differs of two stored blocks, and the text that tells it of the blocks of two places.
 
@@ -49,25 +52,70 @@ differences p lba other one two =
 abbrev pub differs : WhatDiffers → Bool
 differs d = d.content || (d.guard || (d.app || d.tag))
 
--- the word, where this differs
-abbrev pub word_if : Bool → List ℕ → List ℕ
-word_if differ word = if differ then word else []
+-- ---- in how many bytes data differ, and in which first
 
--- a word for each that differs, in this order
-abbrev pub what_text : WhatDiffers → List ℕ
-what_text d = word_if d.content (codes " data") ++ (word_if d.guard (codes " guard") ++ (word_if d.app (codes " app") ++ word_if d.tag (codes " ref")))
+abbrev pub no_byte : Unlike
+no_byte = record { count = 0; at = 0; one = 0; two = 0 }
+
+-- with two bytes that differ at this place
+abbrev pub with_unlike : Unlike → (at x y : ℕ) → Unlike
+with_unlike u at x y = if eqb u.count 0 then record { count = 1; at = at; one = x; two = y } else record { count = u.count + 1; at = u.at; one = u.one; two = u.two }
+
+-- with two bytes at this place
+abbrev pub with_bytes : Unlike → (at x y : ℕ) → Unlike
+with_bytes u at x y = if eqb x y then u else with_unlike u at x y
+
+-- with those of two texts, from this place on
+abbrev pub unlike_from : Unlike → (at : ℕ) → (ones twos : List ℕ) → Unlike
+unlike_from u at [] twos = u
+unlike_from u at (x ∷ xs) [] = u
+unlike_from u at (x ∷ xs) (y ∷ ys) = unlike_from (with_bytes u at x y) (at + 1) xs ys
+
+-- of two texts
+abbrev pub unlike_of : (ones twos : List ℕ) → Unlike
+unlike_of ones twos = unlike_from no_byte 0 ones twos
+
+-- ---- the words
+
+abbrev pub text_if : Bool → List ℕ → List ℕ
+text_if differ text = if differ then text else []
+
+-- what both have
+abbrev pub values_text : (one two : List ℕ) → List ℕ
+values_text one two = codes " " ++ (encode_lower one ++ (codes " " ++ encode_lower two))
+
+abbrev pub counted_text : (word : List ℕ) → ℕ → List ℕ
+counted_text word n = word ++ decimal n
+
+-- in how many bytes the data differ, where first, and what both have there
+abbrev pub content_text : Unlike → List ℕ
+content_text u = counted_text (codes " data ") u.count ++ (counted_text (codes " at ") u.at ++ values_text (u.one ∷ []) (u.two ∷ []))
+
+abbrev pub field_text : (differ : Bool) → (word one two : List ℕ) → List ℕ
+field_text differ word one two = text_if differ (word ++ values_text one two)
+
+-- each field of the tuples that differs, with what both have
+abbrev pub fields_text : WhatDiffers → (one two : Tuple) → List ℕ
+fields_text d one two =
+    field_text d.guard (codes " guard") (to_be_bytes w16 one.guard) (to_be_bytes w16 two.guard) ++ (field_text d.app (codes " app") (to_be_bytes w16 one.app) (to_be_bytes w16 two.app) ++
+    field_text d.tag (codes " ref") (to_be_bytes w32 one.rtag) (to_be_bytes w32 two.rtag))
+
+-- what differs of two blocks, in this order
+abbrev pub what_text : Pair → WhatDiffers → (one two : List ℕ) → List ℕ
+what_text p d one two =
+    text_if d.content (content_text (unlike_of (data_of p.unit.size one) (data_of p.other_unit.size two))) ++ text_if (have_tuples p) (fields_text d (tuple_of p.unit.size one) (tuple_of p.other_unit.size two))
 
 -- DEV LBA
 abbrev pub side_text : (dev lba : ℕ) → List ℕ
 side_text dev lba = decimal dev ++ (codes " " ++ decimal lba)
 
 -- DEV LBA DEV LBA WHAT .., where something differs, else nothing
-abbrev pub line_of : Pair → (lba other : ℕ) → WhatDiffers → List ℕ
-line_of p lba other d = if differs d then side_text p.dev lba ++ (codes " " ++ (side_text p.other_dev other ++ (what_text d ++ codes "\n"))) else []
+abbrev pub line_of : Pair → (lba other : ℕ) → WhatDiffers → (one two : List ℕ) → List ℕ
+line_of p lba other d one two = if differs d then side_text p.dev lba ++ (codes " " ++ (side_text p.other_dev other ++ (what_text p d one two ++ codes "\n"))) else []
 
 -- the line of two stored blocks, where they differ
 abbrev pub diff_line : Pair → (lba other : ℕ) → (one two : List ℕ) → List ℕ
-diff_line p lba other one two = line_of p lba other (differences p lba other one two)
+diff_line p lba other one two = line_of p lba other (differences p lba other one two) one two
 
 abbrev pub diff_first : List ℕ
 diff_first = codes "dix diff 1\n"

@@ -4,10 +4,12 @@ ghost use Rattle.std.specs.Prelude.{◌≡◌, ◌+◌, ◌*◌, ◌^◌, ◌<�
 ghost use Rattle.pi_tuple.specs.Tuples.{tuple_in};
 ghost use Rattle.dix_base.specs.Told.{Appended, AppendedSome, Rose};
 ghost use Rattle.target_answer.specs.Frames.{frames_of, stored_size};
-ghost use Rattle.image_text.specs.DiffText.{compared_line, count_differ, counted_tag, diff_first, diff_line, diff_lines, differences, differs, have_tuples, line_of, side_text, tuples_differ, what_text, word_if};
+ghost use Rattle.image_text.specs.DiffText.{compared_line, content_text, count_differ, counted_tag, counted_text, diff_first, diff_line, diff_lines, differences, differs, field_text, fields_text, have_tuples, line_of, side_text, tuples_differ, values_text, what_text};
 
+use crate::line::add_hex;
 use crate::show::{counted, stored_len};
 use crate::sight::{is_zero, tuple_in};
+use crate::unlike::{Unlike, unlike_of};
 use dix_base::{Failed, Sink};
 use pi_tuple::{PiType, Tuple, has_ref_tag, ref_tag};
 use report_text::{Line, add, add_number, write_all};
@@ -117,28 +119,87 @@ fn differs(found: WhatDiffers) -> bool
     found.content || found.guard || found.app || found.tag
 }
 
-/// The word, where this differs.
-fn add_word(line: &mut Line, differ: bool, word: &[u8])
+/// What both have, behind the line.
+fn add_values(line: &mut Line, one: &[u8], two: &[u8])
+    requires one { length one.now ≤ 4 }
+    requires two { length two.now ≤ 4 }
+    requires room { length line.old.items ≤ 460 }
+    ensures items { line.new.items ≡ line.old.items ++ values_text one.now two.now }
+    ensures bound { length line.new.items ≤ length line.old.items + 18 }
+{
+    add(line, b" ");
+    add_hex(line, one);
+    add(line, b" ");
+    add_hex(line, two);
+}
+
+/// A word and a number.
+fn add_counted(line: &mut Line, word: &[u8], number: u32)
     requires few { length word.now ≤ 6 }
-    requires room { length line.old.items ≤ 480 }
-    ensures items { line.new.items ≡ line.old.items ++ word_if differ word.now }
-    ensures bound { length line.new.items ≤ length line.old.items + 6 }
+    requires room { length line.old.items ≤ 440 }
+    ensures items { line.new.items ≡ line.old.items ++ counted_text word.now number }
+    ensures bound { length line.new.items ≤ length line.old.items + 46 }
+{
+    add(line, word);
+    add_number(line, u64::from(number));
+}
+
+/// In how many bytes the data differ, and what both have in the first of them.
+fn add_content(line: &mut Line, found: Unlike)
+    requires { length line.old.items ≤ 256 }
+    ensures items { line.new.items ≡ line.old.items ++ content_text found }
+    ensures bound { length line.new.items ≤ length line.old.items + 110 }
+{
+    add_counted(line, b" data ", found.count);
+    add_counted(line, b" at ", found.at);
+    add_values(line, &[found.one], &[found.two]);
+}
+
+/// A field of the tuples, where it differs.
+fn add_field(line: &mut Line, differ: bool, word: &[u8], one: &[u8], two: &[u8])
+    requires few { length word.now ≤ 6 }
+    requires one { length one.now ≤ 4 }
+    requires two { length two.now ≤ 4 }
+    requires room { length line.old.items ≤ 440 }
+    ensures items { line.new.items ≡ line.old.items ++ field_text differ word.now one.now two.now }
+    ensures bound { length line.new.items ≤ length line.old.items + 24 }
 {
     if differ {
         add(line, word);
+        add_values(line, one, two);
     }
 }
 
-/// A word for each that differs.
-fn add_what(line: &mut Line, found: WhatDiffers)
-    requires { length line.old.items ≤ 400 }
-    ensures items { line.new.items ≡ line.old.items ++ what_text found }
-    ensures bound { length line.new.items ≤ length line.old.items + 24 }
+/// Each field of the tuples that differs.
+fn add_fields(line: &mut Line, found: WhatDiffers, one: Tuple, two: Tuple)
+    requires { length line.old.items ≤ 380 }
+    ensures items { line.new.items ≡ line.old.items ++ fields_text found one two }
+    ensures bound { length line.new.items ≤ length line.old.items + 72 }
 {
-    add_word(line, found.content, b" data");
-    add_word(line, found.guard, b" guard");
-    add_word(line, found.app, b" app");
-    add_word(line, found.tag, b" ref");
+    let (guard, other_guard) = (one.guard.to_be_bytes(), two.guard.to_be_bytes());
+    add_field(line, found.guard, b" guard", &guard, &other_guard);
+    let (app, other_app) = (one.app.to_be_bytes(), two.app.to_be_bytes());
+    add_field(line, found.app, b" app", &app, &other_app);
+    let (rtag, other_rtag) = (one.rtag.to_be_bytes(), two.rtag.to_be_bytes());
+    add_field(line, found.tag, b" ref", &rtag, &other_rtag);
+}
+
+/// What differs of two blocks.
+fn add_what(line: &mut Line, pair: Pair, found: WhatDiffers, one: &[u8], two: &[u8])
+    requires room { length line.old.items ≤ 256 }
+    requires one { length one.now ≡ stored_size pair.unit.ty pair.unit.size }
+    requires two { length two.now ≡ stored_size pair.other_unit.ty pair.other_unit.size }
+    ensures items { line.new.items ≡ line.old.items ++ what_text pair found one.now two.now }
+    ensures bound { length line.new.items ≤ length line.old.items + 182 }
+{
+    let (data, behind) = one.split_at(pair.unit.size as usize);
+    let (other_data, other_behind) = two.split_at(pair.other_unit.size as usize);
+    if found.content {
+        add_content(line, unlike_of(data, other_data));
+    }
+    if have_tuples(pair) {
+        add_fields(line, found, tuple_in(behind), tuple_in(other_behind));
+    }
 }
 
 /// The unit's number and the address of a block.
@@ -153,15 +214,24 @@ fn add_side(line: &mut Line, dev: u32, lba: u64)
 }
 
 /// The line of two blocks that differ.
-fn difference_line(pair: Pair, lba: u64, other: u64, found: WhatDiffers) -> Line
-    requires { differs found ≡ true }
-    ensures { result.items ≡ line_of pair lba other found }
+fn difference_line(
+    pair: Pair,
+    lba: u64,
+    other: u64,
+    found: WhatDiffers,
+    one: &[u8],
+    two: &[u8],
+) -> Line
+    requires differ { differs found ≡ true }
+    requires one { length one.now ≡ stored_size pair.unit.ty pair.unit.size }
+    requires two { length two.now ≡ stored_size pair.other_unit.ty pair.other_unit.size }
+    ensures { result.items ≡ line_of pair lba other found one.now two.now }
 {
     let mut line = Line::new();
     add_side(&mut line, pair.dev, lba);
     add(&mut line, b" ");
     add_side(&mut line, pair.other_dev, other);
-    add_what(&mut line, found);
+    add_what(&mut line, pair, found, one, two);
     add(&mut line, b"\n");
     line
 }
@@ -197,7 +267,7 @@ fn write_difference<O: Sink>(
     if !differs(found) {
         return Ok(false);
     }
-    let line = difference_line(pair, lba, other, found);
+    let line = difference_line(pair, lba, other, found, one, two);
     write_all(out, line.as_slice())?;
     Ok(true)
 }

@@ -17,6 +17,7 @@ mod show;
 mod sight;
 mod unit;
 mod units;
+mod unlike;
 
 pub use blocks::show_blocks;
 pub use diff::{Pair, WhatDiffers, write_compared, write_diff_first, write_differences};
