@@ -5,6 +5,10 @@ use Rattle.std.specs.Prelude.{decimal}
 behind : (l m n a b : List ℕ) → m ≡ l ++ a → n ≡ m ++ b → n ≡ l ++ (a ++ b)
 behind l m n a b p q = q ∙ ap (λ (x : List ℕ). x ++ b) p ∙ append_assoc l a b
 
+-- five pieces, one behind another
+pub five : (k l m n o p a b c d e : List ℕ) → l ≡ k ++ a → m ≡ l ++ b → n ≡ m ++ c → o ≡ n ++ d → p ≡ o ++ e → p ≡ k ++ (a ++ (b ++ (c ++ (d ++ e))))
+five k l m n o p a b c d e s t u v w = behind k l p a (b ++ (c ++ (d ++ e))) s (behind l m p b (c ++ (d ++ e)) t (behind m n p c (d ++ e) u (behind n o p d e v w)))
+
 -- six pieces, one behind another
 pub six : (k l m n o p q a b c d e f : List ℕ) → l ≡ k ++ a → m ≡ l ++ b → n ≡ m ++ c → o ≡ n ++ d → p ≡ o ++ e → q ≡ p ++ f → q ≡ k ++ (a ++ (b ++ (c ++ (d ++ (e ++ f)))))
 six k l m n o p q a b c d e f s t u v w x =
