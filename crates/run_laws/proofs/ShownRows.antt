@@ -13,10 +13,10 @@ use Rattle.page_pool.specs.Places.{run}
 use Rattle.fault_schedule.specs.declared.fault.Crossing.TheVariants.{AdapterToTarget, MediumToTarget, TargetToMedium}
 use Rattle.fault_schedule.specs.declared.fault.FaultLine.{FaultLine}
 use Rattle.fault_schedule.specs.Altered.{shift_of}
-use Rattle.walk_laws.specs.Passed.{Copy, Op, Fetch, FetchPi, Overwrite, Write, Bad, Silent, Whole, found_in, from_medium, to_medium, AreCells, moved, from_wire, to_wire, DeviceInfo, place_in, Target}
+use Rattle.walk_laws.specs.Passed.{Copy, Op, Fetch, FetchPi, Overwrite, Write, Bad, Silent, Whole, found_in, from_medium, to_medium, AreCells, moved, from_wire, to_wire, DeviceInfo, medium_lba, place_in, Target}
 use Rattle.range_gate.specs.Cells.{cells_of}
 use Rattle.walk_laws.specs.ScriptWalk.{script_replies}
-use Rattle.walk_laws.specs.Settings.{Setting}
+use Rattle.walk_laws.specs.Settings.{Setting, route}
 use Rattle.walk_laws.specs.UnderMap.{IsClean}
 use Rattle.walk_laws.proofs.ScriptRows.{faulty, flip, opening, seg, shift}
 use Rattle.run_laws.specs.ShownRun.{AllAreFetched, AllStayNear, AreCleanWhereRead, HasBlock, HasCells, IsShownRun, LiesOn}

@@ -8,10 +8,10 @@ ghost use Rattle.walk_laws.specs.Settings.{Setting};
 ghost use Rattle.walk_laws.specs.ReadsAs.{ReadsRightly, read_op};
 ghost use Rattle.run_laws.specs.ShownRun.{IsShownRun};
 
-/// In type 1, with tuples passed all the way and protect field 001b, over clean devices, with no escape and with
-/// faults that can be shown: a block of a read is listed exactly where there is a first layer that checks after a
-/// fault, with that layer and with the check that is found in the frame that arrives there. Else it is delivered with
-/// the data and the application tag of the last accepted write.
+/// In type 1, with tuples passed all the way and protect field 001b, where each block to which a read comes is clean,
+/// with no escape and with faults that can be shown: a block of a read is listed exactly where there is a first layer
+/// that checks after a fault, with that layer and with the check that is found in the frame that arrives there. Else it
+/// is delivered with the data and the application tag of the last accepted write.
 pub fn a_read_is_the_last_write_or_names_the_first_layer()
     ensures { (m : Setting) (devices : List AnyDevice) (before after : List AnyOp) (owner : AnyOwner) (v n k : ℕ) (body tuples : List AnySeg) (opening : State)
         → IsShownRun m devices (before ++ (read_op owner v n body tuples ∷ after)) opening → k < n → ReadsRightly m before owner v n body tuples after opening k }
