@@ -1,5 +1,4 @@
 pub mod Passed
-pub mod Spared
 pub mod Stages
 pub mod Texts
 pub mod Verdict

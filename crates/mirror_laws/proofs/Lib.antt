@@ -1,5 +1,5 @@
-pub mod Ways
-pub mod Holds
+mod Ways
+mod Holds
 mod Steps
 mod Delivery
 mod Whole
