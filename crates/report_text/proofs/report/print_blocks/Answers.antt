@@ -9,7 +9,7 @@ pub loop-block-init : goal.loop-block-init
 loop-block-init g c = begins
 
 pub returns-in_err-write_all : goal.returns-in_err-write_all
-returns-in_err-write_all g c = 
+returns-in_err-write_all g c =
     let next = next_bad c.args.number c.loop-block.block-index c.args.blocks.now _ c.as_slice.result.now c.loop-block-test.true (c.as_slice.ensures.value ∙ c.line_of.ensures) in
     breaks (bad_lines c.args.number (drop (c.loop-block.block-index + 1) c.args.blocks.now)) c.from_residual.result c.from_residual.ensures.0 (as_left next c.loop-block.invariant) c.in_err-write_all.ensures
 

@@ -7,7 +7,6 @@ use Rattle.report_text.proofs.writing.write_hex.Goals as goal
 pub loop-rest-init : goal.loop-rest-init
 loop-rest-init g c = begins
 
-
 pub returns-in_err-write_all : goal.returns-in_err-write_all
 returns-in_err-write_all g c =
     let digits : c.as_slice.result.now ≡ encode_lower (take c.min.result c.loop-rest.rest.now) = c.as_slice.ensures.value ∙ c.add_hex.ensures.items ∙ ap (λ d. d ++ encode_lower c.split_at.result.0.now) c.new-digits.ensures ∙ ap encode_lower c.split_at.ensures.front in
