@@ -1,4 +1,4 @@
-use Rattle.std.proofs.Common.{ℕ, List, ◌≡◌, ◌+◌, ◌-◌, ◌++◌, subst, arith}
+use Rattle.std.proofs.Common.{ℕ, List, ◌+◌, ◌-◌, subst, arith}
 use Rattle.target_answer.specs.Frames.{frames_of, stored_size}
 use Rattle.image_text.specs.Sights.{block_text, is_at_fault, is_unchecked}
 use Rattle.image_text.specs.ShowText.{count_bad, count_unchecked, image_text}
