@@ -1,15 +1,14 @@
 -- The cause that is said of a fault is the case.
-use Rattle.std.proofs.Common.{ℕ, ◌≡◌, ◌+◌, ◌<◌, ◌≤◌, Bool, true, false, eqb, cond, List, length, Option, Some, None, refl, sym, ap, subst, ◌∙◌, arith}
+use Rattle.std.proofs.Common.{ℕ, ◌≡◌, ◌+◌, Bool, true, false, eqb, cond, List, length, Some, None, refl, subst, arith}
 use Rattle.std.specs.Prelude.{nat_le, nat_lt, ◌&&◌, ◌||◌}
 use Rattle.std.specs.List.{list_all}
 use Rattle.std.proofs.lemmas.Bool.{eqb-true, eqb-false, lt-ltb, ltb-true}
 use Rattle.page_pool.specs.Places.{total}
 use Rattle.page_pool.specs.declared.segs.Seg.{Seg}
-use Rattle.script_text.specs.Rules.{is_bad_flip, is_zero}
+use Rattle.script_text.specs.Rules.{is_zero}
 use Rattle.script_text.specs.Segments.{is_inside}
-use Rattle.fault_marks.specs.Closer.{at_word, flip_closer, other_total, seg_detail}
+use Rattle.fault_marks.specs.Closer.{at_word}
 use Rattle.fault_marks.specs.Laws.{CausesAreSo, IsSoOfFlip, IsSoOfSegment, IsSoOfTotal}
-use Rattle.fault_marks.specs.declared.closer.Closer.{Closer}
 use Rattle.fault_marks.specs.declared.detail.Detail.{Detail}
 use Rattle.fault_marks.specs.declared.detail.Detail.TheVariants.{PastFrame, NoChange, NoBytes, NoPage, PastPage, OtherTotal}
 
