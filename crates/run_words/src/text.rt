@@ -2,7 +2,6 @@
 
 ghost use Rattle.std.specs.Prelude.{◌≡◌, ◌≤◌, ◌++◌, OnOk, drop, length};
 ghost use Rattle.report_text.specs.Writing.{Wrote};
-ghost use Rattle.report_text.specs.Writing.{Wrote};
 ghost use Rattle.volume_table.specs.Places.{volume_len};
 ghost use Rattle.volume_table.specs.Tables.{IsTable, Table};
 ghost use Rattle.run_words.specs.Sites.{AreInside, Guides};
