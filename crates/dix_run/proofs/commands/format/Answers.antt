@@ -24,4 +24,4 @@ returns-in-Ok-clause-ended g c = λ left reads.
 
 pub returns-in-Err-clause-ended : goal.returns-in-Err-clause-ended
 returns-in-Err-clause-ended g c = λ left reads.
-    refused dix (format_work c.args.units.now) (refusal.Stopped c.in-Err.stop) _ _ _ _ _ c.refuse.result (rw c.image_of.ensures at c.in-Err.ensures, (refl, refl)) c.refuse.ensures.written
+    refused dix (format_work c.args.units.now) (refusal.Stopped c.in-Err.stop) _ _ _ _ _ c.refuse.result (rw (c.image_of.ensures, c.as_slice-units.ensures) at c.in-Err.ensures, (refl, refl)) c.refuse.ensures.written
