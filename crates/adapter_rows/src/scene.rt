@@ -11,9 +11,8 @@ use dix_base::MemStore;
 use fault_schedule::{FaultList, Tamper};
 use image_rig::ImageRig;
 use page_pool::PagePool;
-use rig_api::{Rig, UnitSpec};
+use rig_api::{Rig, UnitSpec, is_layout};
 use std::alloc::{AllocError, Global};
-use target_answer::is_layout;
 use test_rig::AnswerRig;
 use test_table::{cut, small};
 

@@ -4,9 +4,8 @@ ghost use Rattle.std.specs.Prelude.{◌≡◌, length};
 
 use crate::names::{add, none, out_of_range, type_of, yes_or_no};
 use pi_tuple::PiType;
-use rig_api::RigFault;
+use rig_api::{RigFault, UnitSpec, Version, header, is_header, specs_in, version_of};
 use std::alloc::{AllocError, Global};
-use target_answer::{UnitSpec, Version, header, is_header, specs_in, version_of};
 use test_table::{bytes_of, cut, hex_of, number, small};
 
 fn version_in(word: &str) -> Version {

@@ -2,7 +2,7 @@
 
 ghost use Rattle.std.specs.Prelude.{◌≡◌, length};
 ghost use Rattle.rig_api.specs.Log.{capacity_len};
-ghost use Rattle.target_answer.specs.Requests.{blocks_of};
+ghost use Rattle.rig_api.specs.Requests.{blocks_of};
 
 use crate::targets::{BLOCKS, READ, WRITE, frames};
 use fault_schedule::Label;

@@ -5,11 +5,11 @@ use Rattle.pi_tuple.specs.Tuples.{ref_tag}
 use Rattle.pi_tuple.specs.declared.checks.PiType.{PiType}
 use Rattle.pi_tuple.specs.declared.checks.PiType.TheVariants.{One}
 use Rattle.pi_tuple.specs.declared.tuple.Tuple.{Tuple}
-use Rattle.target_answer.specs.Frames.{data_of, joined, tuple_of}
-use Rattle.target_answer.specs.Headers.{bytes_of}
-use Rattle.target_answer.specs.Image.{all_fresh, fresh, fresh_bytes, units_from}
-use Rattle.target_answer.specs.declared.units.UnitSpec.{UnitSpec}
-use Rattle.target_answer.proofs.FreshBlocks.{fresh_many, fresh_is}
+use Rattle.rig_api.specs.Frames.{data_of, joined, tuple_of}
+use Rattle.rig_api.specs.Headers.{bytes_of}
+use Rattle.rig_api.specs.Image.{all_fresh, fresh, fresh_bytes, units_from}
+use Rattle.rig_api.specs.declared.units.UnitSpec.{UnitSpec}
+use Rattle.rig_api.proofs.FreshBlocks.{fresh_many, fresh_is}
 use Rattle.dix_adapter.specs.Ways.{blocks_told, cell_in, shapes_of}
 use Rattle.rig_discovery.specs.Discovery.{info_of}
 use Rattle.run_command.specs.Passed.{IsAddress, device_of}

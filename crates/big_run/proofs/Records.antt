@@ -17,7 +17,7 @@ use Rattle.script_text.specs.declared.script.Script.{Script}
 use Rattle.run_command.specs.Texts.{has_bad}
 use Rattle.run_command.specs.Verdict.{Followed, HasRun}
 use Rattle.run_command.specs.declared.verdict.Finished.{Finished}
-use Rattle.target_answer.specs.Image.{formatted}
+use Rattle.rig_api.specs.Image.{formatted}
 use Rattle.big_run.specs.Counting.{all_bad, counts_with, no_ops}
 use Rattle.big_run.specs.Plain.{big_replies, big_table, big_units}
 use Rattle.big_run.specs.Ran.{RanBig}

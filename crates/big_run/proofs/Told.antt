@@ -11,10 +11,10 @@ use Rattle.run_command.specs.Passed.{none_fails, device_of}
 use Rattle.script_text.specs.Generator.{big, big_entries}
 use Rattle.run_command.specs.Premises.{IsPlainRun, opening_told}
 use Rattle.run_command.specs.Verdict.{HasTable, WasAsked}
-use Rattle.target_answer.specs.Headers.{header, specs_in, version_of}
-use Rattle.target_answer.specs.Image.{formatted, fresh_bytes, units_from, units_in}
-use Rattle.target_answer.specs.declared.units.UnitSpec.{UnitSpec}
-use Rattle.target_answer.specs.declared.units.Version.TheVariants.{First}
+use Rattle.rig_api.specs.Headers.{header, specs_in, version_of}
+use Rattle.rig_api.specs.Image.{formatted, fresh_bytes, units_from, units_in}
+use Rattle.rig_api.specs.declared.units.UnitSpec.{UnitSpec}
+use Rattle.rig_api.specs.declared.units.Version.TheVariants.{First}
 use Rattle.volume_table.specs.Faults.{volume_type}
 use Rattle.volume_table.specs.Tables.{MadeFor, Table}
 use Rattle.volume_table.specs.declared.device.DeviceInfo.{DeviceInfo}

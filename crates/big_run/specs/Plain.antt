@@ -3,9 +3,9 @@ use Rattle.pi_tuple.specs.declared.checks.PiType.TheVariants.{One}
 use Rattle.script_text.specs.Generator.{big, big_entries, ops_from}
 use Rattle.run_command.specs.Premises.{opening_told, setting_told}
 use Rattle.stack_ops.specs.declared.reply.Reply.{Reply}
-use Rattle.target_answer.specs.Image.{all_fresh}
-use Rattle.target_answer.specs.Target.{Stored}
-use Rattle.target_answer.specs.declared.units.UnitSpec.{UnitSpec}
+use Rattle.rig_api.specs.Image.{all_fresh}
+use Rattle.rig_api.specs.Target.{Stored}
+use Rattle.rig_api.specs.declared.units.UnitSpec.{UnitSpec}
 use Rattle.volume_table.specs.Tables.{Table}
 use Rattle.walk_laws.specs.PlainMap.{plain_replies}
 use Rattle.walk_laws.specs.Settings.{Setting}

@@ -9,7 +9,7 @@ use Rattle.run_command.specs.declared.verdict.Finished.{Finished}
 use Rattle.run_command.specs.Passed.{IsPlanFor, entries_of}
 use Rattle.stack_laws.specs.Plan.{Plan}
 use Rattle.stack_laws.specs.Runs.{blocks_of_requests, sends_of}
-use Rattle.target_answer.specs.Image.{formatted}
+use Rattle.rig_api.specs.Image.{formatted}
 use Rattle.big_run.specs.Counting.{all_bad, counts_with, no_ops}
 use Rattle.big_run.specs.Plain.{big_replies, big_table, big_unit}
 use Rattle.big_run.specs.declared.running.BigRun.{BigRun}

@@ -4,7 +4,7 @@ ghost use Rattle.std.specs.Prelude.{◌≡◌, ◌≤◌, [], ◌∷◌, IfOk, S
 ghost use Rattle.pi_guard.specs.Guards.{crc};
 ghost use Rattle.report_text.specs.Report.{report};
 ghost use Rattle.script_text.specs.Generator.{big};
-ghost use Rattle.target_answer.specs.Image.{formatted};
+ghost use Rattle.rig_api.specs.Image.{formatted};
 ghost use Rattle.big_run.specs.Plain.{big_unit};
 ghost use Rattle.big_run.specs.Ran.{RanBig};
 
@@ -13,12 +13,11 @@ use dix_base::{CalmStore, Failed, MemSink};
 use image_rig::ImageRig;
 use pi_guard::crc16;
 use pi_tuple::PiType;
-use rig_api::Rig;
+use rig_api::{Rig, UnitSpec};
 use run_command::{Finished, print_run, run_script};
 use script_laws::a_big_script_keeps_the_rules;
 use script_text::{Script, big_script};
 use std::alloc::{AllocError, Global};
-use target_answer::UnitSpec;
 
 /// What the run of a generated script came to.
 #[derive(Clone, Copy, Debug, PartialEq, Eq)]

@@ -3,11 +3,11 @@ use Rattle.std.proofs.Common.{List, Option, ℕ, length, ◌≡◌, None, refl, 
 use Rattle.fault_schedule.specs.declared.fault.FaultLine.{FaultLine}
 use Rattle.fault_schedule.specs.declared.Label.{Label}
 use Rattle.fault_schedule.specs.declared.fault.Crossing.{Crossing}
-use Rattle.target_answer.specs.Passing.{crossed}
+use Rattle.rig_api.specs.Passing.{crossed}
 use Rattle.block_path.proofs.Sizes.{altered_length}
 use Rattle.pi_tuple.specs.declared.checks.Check.{Check}
 use Rattle.block_path.specs.Senses.{why_ended}
-use Rattle.target_answer.specs.Target.{check_sense}
+use Rattle.rig_api.specs.Target.{check_sense}
 use Rattle.bio_core.specs.declared.fate.Why.TheVariants.{Target}
 use Rattle.pi_tuple.specs.declared.checks.Check.TheVariants.{Guard, AppTag, RefTag}
 use Rattle.block_path.specs.Acts.{Act, State, act, tell}

@@ -20,7 +20,7 @@ use Rattle.fault_schedule.proofs.Xored.{length-xored}
 use Rattle.ref_remap.specs.Remapped.{remapped_bytes}
 use Rattle.bio_core.specs.declared.fate.Why.{Why}
 use Rattle.bio_core.specs.declared.request.Dir.TheVariants.{Read, Write}
-use Rattle.target_answer.specs.Passing.{then_crossed, unless, with_own_tuple}
+use Rattle.rig_api.specs.Passing.{then_crossed, unless, with_own_tuple}
 use Rattle.block_path.specs.declared.route.Route.{Route}
 use Rattle.block_path.specs.Moves.{Fills}
 use Rattle.block_path.specs.Routes.{converted, host_size, host_type, is_crc, passes_tuples, wire_size, with_guard}

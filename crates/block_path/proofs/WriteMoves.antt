@@ -10,7 +10,7 @@ use Rattle.pi_tuple.specs.Tuples.{ref_tag, tuple_bytes}
 use Rattle.pi_tuple.specs.declared.tuple.Tuple.{Tuple}
 use Rattle.range_gate.specs.Passed.{gather, scatter, share_a_cell}
 use Rattle.ref_remap.specs.Remapped.{remapped_bytes, remapped_tag}
-use Rattle.target_answer.specs.Frames.{frame_of}
+use Rattle.rig_api.specs.Frames.{frame_of}
 use Rattle.block_path.specs.declared.route.Route.{Route}
 use Rattle.block_path.specs.Acts.{State, act, tell}
 use Rattle.block_path.specs.Blocks.{Site, own_cell, own_frame, own_tuple, stored_cell, tag_after, tuple_after, write_block, write_block_of_app, written_by}

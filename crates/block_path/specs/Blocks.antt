@@ -11,7 +11,7 @@ use Rattle.range_gate.specs.Cells.{Cells}
 use Rattle.bio_core.specs.declared.fate.Why.{Why}
 use Rattle.bio_core.specs.declared.request.Dir.{Dir}
 use Rattle.bio_core.specs.declared.request.Dir.TheVariants.{Read, Write}
-use Rattle.target_answer.specs.Frames.{frame_of}
+use Rattle.rig_api.specs.Frames.{frame_of}
 use Rattle.block_path.specs.declared.route.Route.{Route}
 use Rattle.block_path.specs.Acts.{Act, Effect, State}
 use Rattle.block_path.specs.Routes.{Device, host_type, medium_lba, wire_lba}

@@ -5,8 +5,8 @@ use Rattle.pi_guard.specs.declared.GuardKind.TheVariants.{Crc, Ip}
 use Rattle.pi_tuple.specs.Finds.{own_tag}
 use Rattle.bio_core.specs.declared.request.Dir.{Dir}
 use Rattle.bio_core.specs.declared.request.Dir.TheVariants.{Read, Write}
-use Rattle.target_answer.specs.Frames.{data_of, frame_of}
-use Rattle.target_answer.specs.Passing.{with_own_tuple}
+use Rattle.rig_api.specs.Frames.{data_of, frame_of}
+use Rattle.rig_api.specs.Passing.{with_own_tuple}
 use Rattle.block_path.specs.declared.operation.Operation.{Operation}
 use Rattle.block_path.specs.declared.operation.Operation.TheVariants.{Normal, WriteInsert, ReadStrip, WriteStrip, ReadInsert, WritePass, ReadPass}
 use Rattle.block_path.specs.declared.route.Route.{Route}

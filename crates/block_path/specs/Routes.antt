@@ -15,9 +15,9 @@ use Rattle.fault_schedule.specs.declared.fault.FaultLine.{FaultLine}
 use Rattle.integrity_payload.specs.Payloads.{all_asked}
 use Rattle.bio_core.specs.declared.fate.Why.{Why}
 use Rattle.bio_core.specs.declared.fate.Why.TheVariants.{Target}
-use Rattle.target_answer.specs.Frames.{data_of, tuple_of}
-use Rattle.target_answer.specs.Passing.{from_medium, to_medium}
-use Rattle.target_answer.specs.declared.passage.Passage.{Passage}
+use Rattle.rig_api.specs.Frames.{data_of, tuple_of}
+use Rattle.rig_api.specs.Passing.{from_medium, to_medium}
+use Rattle.rig_api.specs.declared.passage.Passage.{Passage}
 use Rattle.block_path.specs.declared.mode.Mode.{Mode}
 use Rattle.block_path.specs.declared.route.Route.{Route}
 use Rattle.pi_tuple.specs.declared.TheConstants.{TUPLE}

@@ -7,8 +7,8 @@ use Rattle.ref_remap.specs.Remapped.{remapped_bytes}
 use Rattle.bio_core.specs.declared.request.Dir.TheVariants.{Write}
 use Rattle.bio_core.specs.declared.fate.Why.{Why}
 use Rattle.bio_core.specs.declared.fate.Why.TheVariants.{Adapter}
-use Rattle.target_answer.specs.Frames.{data_of}
-use Rattle.target_answer.specs.Passing.{unless}
+use Rattle.rig_api.specs.Frames.{data_of}
+use Rattle.rig_api.specs.Passing.{unless}
 use Rattle.block_path.specs.declared.route.Route.{Route}
 use Rattle.block_path.specs.Operations.{handed_on, operation_of}
 use Rattle.block_path.specs.Routes.{Device, host_finding, host_type}

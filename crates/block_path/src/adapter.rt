@@ -9,8 +9,8 @@ ghost use Rattle.pi_tuple.specs.declared.TheConstants.{TUPLE};
 ghost use Rattle.fault_schedule.specs.Altered.{altered};
 ghost use Rattle.integrity_payload.specs.Payloads.{all_asked};
 ghost use Rattle.pi_tuple.specs.Finds.{own_tag};
-ghost use Rattle.target_answer.specs.Frames.{data_of, frame_of};
-ghost use Rattle.target_answer.specs.Passing.{unless};
+ghost use Rattle.rig_api.specs.Frames.{data_of, frame_of};
+ghost use Rattle.rig_api.specs.Passing.{unless};
 ghost use Rattle.block_path.specs.Routes.{converted, host_finding, host_size, host_type, passes_tuples, wire_size, with_guard};
 ghost use Rattle.block_path.specs.Operations.{IsHandedOn};
 ghost use Rattle.block_path.specs.WayIn.{adapter_finds_in, from_wire};
@@ -21,7 +21,7 @@ use bio_core::Dir;
 use fault_schedule::{Crossing, Tamper};
 use pi_guard::{GuardKind, crc16};
 use pi_tuple::{Check, Checks, PiType, finds, make, own_tag, ref_tag};
-use target_answer::{put_tuple, tuple_behind};
+use rig_api::{put_tuple, tuple_behind};
 
 /// The type of the tuples that a host has in memory for a unit of this type: the unit's, and type 1 where the unit
 /// has none.

@@ -4,8 +4,8 @@ use Rattle.rig_discovery.specs.declared.discovery.BadCapacity.{BadCapacity}
 use Rattle.script_lines.specs.declared.kind.ScriptKind.{ScriptKind}
 use Rattle.script_lines.specs.declared.kind.ScriptKind.TheVariants as kind
 use Rattle.script_text.specs.declared.fault.ScriptFault.{ScriptFault}
-use Rattle.source_text.specs.declared.Unread.{Unread}
-use Rattle.source_text.specs.declared.Unread.TheVariants as unread
+use Rattle.dix_base.specs.declared.reading.Unread.{Unread}
+use Rattle.dix_base.specs.declared.reading.Unread.TheVariants as unread
 use Rattle.volume_table.specs.declared.fault.VolumeFault.{VolumeFault}
 use Rattle.volume_table.specs.declared.fault.VolumeFault.TheVariants as volume
 use Rattle.call_refusal.specs.declared.refusal.Refusal.{Refusal}

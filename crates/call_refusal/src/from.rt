@@ -8,7 +8,7 @@ use rig_api::RigFault;
 use rig_discovery::BadCapacity;
 use script_lines::ScriptKind;
 use script_text::ScriptFault;
-use source_text::Unread;
+use dix_base::Unread;
 use std::alloc::AllocError;
 use volume_table::VolumeFault;
 

@@ -4,3 +4,4 @@ mod Octets
 pub mod Counts
 pub mod Appending
 pub mod Stores
+pub mod Taking

@@ -1,3 +1,4 @@
 pub mod Forms
 pub mod Stores
 pub mod Told
+pub mod Reading

@@ -9,7 +9,7 @@ use Rattle.image_commands.proofs.Opened.{right_head, told_is_good}
 use Rattle.nvme_command.specs.Causes.{CauseNotDone}
 use Rattle.nvme_command.proofs.Completes.{spared_alone}
 use Rattle.unit_words.specs.Words.{image_in}
-use Rattle.target_answer.specs.declared.units.UnitSpec.{UnitSpec}
+use Rattle.rig_api.specs.declared.units.UnitSpec.{UnitSpec}
 use Rattle.dix_run.specs.Grammar.{command_in}
 use Rattle.dix_run.specs.declared.command.Command.{Command}
 use Rattle.dix_run.specs.declared.command.Command.TheVariants.{Run, Trace, Format, Migrate, Mirror, Scrub, Nvme, Modes, Big}

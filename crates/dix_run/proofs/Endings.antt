@@ -2,7 +2,7 @@
 use Rattle.std.proofs.Common.{ℕ, ◌≡◌, inr, List, [], ◌++◌, length, drop, Option, sym, ap, subst, ◌∙◌, append_assoc}
 use Rattle.std.specs.Prelude.{codes, decimal}
 use Rattle.std.proofs.Math.Seq.{drop-append_seam}
-use Rattle.target_answer.specs.declared.units.UnitSpec.{UnitSpec}
+use Rattle.rig_api.specs.declared.units.UnitSpec.{UnitSpec}
 use Rattle.volume_table.specs.declared.device.DeviceInfo.{DeviceInfo}
 use Rattle.rig_api.specs.Log.{LogEntry}
 use Rattle.rig_api.specs.State.{RigState}

@@ -4,8 +4,8 @@ use Rattle.std.specs.Prelude.{codes, if◌then◌else◌}
 use Rattle.std.specs.Str.{bytes_eq}
 use Rattle.std.proofs.lemmas.Bool.{leb-true}
 use Rattle.pi_tuple.specs.declared.checks.PiType.{PiType}
-use Rattle.target_answer.specs.Headers.{is_layout}
-use Rattle.target_answer.specs.declared.units.UnitSpec.{UnitSpec}
+use Rattle.rig_api.specs.Headers.{is_layout}
+use Rattle.rig_api.specs.declared.units.UnitSpec.{UnitSpec}
 use Rattle.unit_words.specs.Words.{is_name, units_in}
 use Rattle.dix_run.specs.Grammar.{big_of, big_with, command_in, format_of, format_with, is_one_name, modes_of, modes_with, on_image}
 use Rattle.script_words.specs.Decimals.{number_in}

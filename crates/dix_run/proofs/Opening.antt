@@ -5,7 +5,7 @@ use Rattle.image_commands.specs.Views.{OpenedOnce}
 use Rattle.nvme_command.proofs.Completes.{done_opens, not_done_opens}
 use Rattle.rig_api.specs.Telling.{Standing, Stayed}
 use Rattle.rig_api.specs.State.{RigState}
-use Rattle.target_answer.specs.declared.units.UnitSpec.{UnitSpec}
+use Rattle.rig_api.specs.declared.units.UnitSpec.{UnitSpec}
 use Rattle.unit_words.specs.Words.{image_in}
 use Rattle.dix_run.specs.declared.command.Command.{Command}
 use Rattle.dix_run.specs.declared.command.Command.TheVariants.{Run, Trace, Format, Migrate, Mirror, Scrub, Nvme, Modes, Big}

@@ -1,8 +1,8 @@
 use Rattle.std.specs.Prelude.{ℕ, ◌^◌, Bool, false, leb, ltb, ◌&&◌, if◌then◌else◌, List, [], ◌∷◌, codes, Option, Some, None}
 use Rattle.std.specs.Str.{bytes_eq}
 use Rattle.pi_tuple.specs.declared.checks.PiType.{PiType}
-use Rattle.target_answer.specs.Headers.{is_layout}
-use Rattle.target_answer.specs.declared.units.UnitSpec.{UnitSpec}
+use Rattle.rig_api.specs.Headers.{is_layout}
+use Rattle.rig_api.specs.declared.units.UnitSpec.{UnitSpec}
 use Rattle.script_words.specs.Decimals.{number_in}
 use Rattle.unit_words.specs.Units.{type_in}
 use Rattle.unit_words.specs.Words.{is_name, units_in}

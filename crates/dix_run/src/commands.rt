@@ -1,7 +1,7 @@
 //! The commands that make images and look after them. None of them reads the source.
 
 ghost use Rattle.std.specs.Prelude.{◌≡◌, ◌≤◌, ◌++◌, ℕ, List, Option, codes, decimal, length, true};
-ghost use Rattle.target_answer.specs.Headers.{is_layout};
+ghost use Rattle.rig_api.specs.Headers.{is_layout};
 ghost use Rattle.unit_words.specs.Words.{word_bytes};
 ghost use Rattle.dix_run.specs.Commands.{format_work, migrate_work, scrub_work};
 ghost use Rattle.call_verdict.specs.Verdicts.{EndedAs, IsPassedOn};

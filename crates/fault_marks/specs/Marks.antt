@@ -9,7 +9,7 @@ use Rattle.script_text.specs.declared.fault.ScriptFault.{ScriptFault}
 use Rattle.script_text.specs.declared.script.Script.{Script}
 use Rattle.fault_marks.specs.Words.{spans_of, text_behind}
 use Rattle.fault_marks.specs.declared.words.Span.{Span}
-use Rattle.source_text.specs.declared.TheConstants.{LONGEST_LINE}
+use Rattle.dix_base.specs.declared.reading.TheConstants.{LONGEST_LINE}
 
 -- Where in its line a fault is.
 

@@ -13,7 +13,7 @@ use crate::lines::{line_at, text_behind};
 use crate::texts::fault_line;
 use crate::words::{Span, first_begin, last_end, spans_of};
 use script_text::{ScriptFault, ScriptKind, read_script};
-use source_text::LONGEST_LINE;
+use dix_base::LONGEST_LINE;
 use std::alloc::{AllocError, Global};
 
 /// The text up to so many bytes behind a place; all of it, where it has no more.

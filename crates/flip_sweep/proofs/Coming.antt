@@ -18,11 +18,11 @@ use Rattle.call_refusal.specs.declared.refusal.Refusal.TheVariants as refusal
 use Rattle.run_command.specs.declared.verdict.Finished.{Finished}
 use Rattle.run_command.proofs.Completing.{table_is}
 use Rattle.run_command.proofs.Devices.{image_devices}
-use Rattle.target_answer.specs.Frames.{joined}
-use Rattle.target_answer.specs.Headers.{image_size, is_layout}
-use Rattle.target_answer.specs.Image.{formatted}
-use Rattle.target_answer.specs.Target.{Stored}
-use Rattle.target_answer.specs.declared.units.UnitSpec.{UnitSpec}
+use Rattle.rig_api.specs.Frames.{joined}
+use Rattle.rig_api.specs.Headers.{image_size, is_layout}
+use Rattle.rig_api.specs.Image.{formatted}
+use Rattle.rig_api.specs.Target.{Stored}
+use Rattle.rig_api.specs.declared.units.UnitSpec.{UnitSpec}
 use Rattle.volume_table.specs.Faults.{table_fault}
 use Rattle.volume_table.specs.Tables.{MadeFor, Table}
 use Rattle.volume_table.specs.declared.device.DeviceInfo.{DeviceInfo}

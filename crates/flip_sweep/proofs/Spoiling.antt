@@ -5,10 +5,10 @@ use Rattle.std.proofs.lemmas.Bool.{and_parts}
 use Rattle.std.proofs.lemmas.List.{length-drop}
 use Rattle.pi_tuple.specs.declared.checks.Check.{Check}
 use Rattle.pi_tuple.specs.declared.checks.PiType.{PiType}
-use Rattle.target_answer.specs.Frames.{frames_of, stored_size}
-use Rattle.target_answer.specs.Headers.{all_bytes, bytes_of, is_spec}
-use Rattle.target_answer.specs.Image.{units_from}
-use Rattle.target_answer.specs.declared.units.UnitSpec.{UnitSpec}
+use Rattle.rig_api.specs.Frames.{frames_of, stored_size}
+use Rattle.rig_api.specs.Headers.{all_bytes, bytes_of, is_spec}
+use Rattle.rig_api.specs.Image.{units_from}
+use Rattle.rig_api.specs.declared.units.UnitSpec.{UnitSpec}
 use Rattle.image_text.proofs.Frames.{next_frame}
 use Rattle.flip_sweep.specs.Verdicts.{first_spoilt, first_spoilt_from, new_finding, or_else, spoilt_of}
 use Rattle.flip_sweep.specs.declared.verdict.Verdict.{Verdict}

@@ -2,9 +2,9 @@
 use Rattle.std.specs.Prelude.{ℕ, ◌*◌, List, drop, take}
 use Rattle.page_pool.specs.Cells.{flat}
 use Rattle.stack_ops.specs.declared.reply.Reply.{Reply}
-use Rattle.target_answer.specs.Frames.{joined}
-use Rattle.target_answer.specs.Image.{formatted}
-use Rattle.target_answer.specs.declared.units.UnitSpec.{UnitSpec}
+use Rattle.rig_api.specs.Frames.{joined}
+use Rattle.rig_api.specs.Image.{formatted}
+use Rattle.rig_api.specs.declared.units.UnitSpec.{UnitSpec}
 use Rattle.image_laws.specs.Over.{left_by, replied}
 use Rattle.script_text.specs.declared.script.Script.{Script}
 use Rattle.flip_sweep.specs.declared.runs.Came.{Came}

@@ -1,8 +1,8 @@
 -- What stays from run to run.
 use Rattle.std.specs.Prelude.{◌≡◌, ◌<◌, ◌≤◌, true, None, length}
 use Rattle.run_command.specs.Working.{IsSound}
-use Rattle.target_answer.specs.Headers.{image_size, is_layout}
-use Rattle.target_answer.specs.Image.{formatted}
+use Rattle.rig_api.specs.Headers.{image_size, is_layout}
+use Rattle.rig_api.specs.Image.{formatted}
 use Rattle.flip_sweep.specs.Comes.{came_to, seen_of}
 use Rattle.flip_sweep.specs.Flips.{own_fault}
 use Rattle.flip_sweep.specs.Swept.{Sweep}

@@ -8,8 +8,8 @@ use Rattle.script_text.specs.declared.script.Script.{Script}
 use Rattle.run_command.specs.Verdict.{devices_of}
 use Rattle.call_refusal.specs.declared.refusal.Refusal.{Refusal}
 use Rattle.call_refusal.specs.declared.refusal.Refusal.TheVariants as refusal
-use Rattle.target_answer.specs.Image.{formatted}
-use Rattle.target_answer.specs.declared.units.UnitSpec.{UnitSpec}
+use Rattle.rig_api.specs.Image.{formatted}
+use Rattle.rig_api.specs.declared.units.UnitSpec.{UnitSpec}
 use Rattle.volume_table.specs.Faults.{table_fault}
 use Rattle.volume_table.specs.Tables.{MadeFor}
 use Rattle.volume_table.specs.declared.fault.VolumeFault.TheVariants.{At}

@@ -11,9 +11,9 @@ use Rattle.image_text.specs.Passed.{stored_finding}
 use Rattle.stack_ops.specs.declared.reply.BadBlock.{BadBlock}
 use Rattle.stack_ops.specs.declared.reply.Reply.{Reply}
 use Rattle.stack_ops.specs.declared.reply.Reply.TheVariants as reply
-use Rattle.target_answer.specs.Image.{units_from}
-use Rattle.target_answer.specs.Target.{Stored}
-use Rattle.target_answer.specs.declared.units.UnitSpec.{UnitSpec}
+use Rattle.rig_api.specs.Image.{units_from}
+use Rattle.rig_api.specs.Target.{Stored}
+use Rattle.rig_api.specs.declared.units.UnitSpec.{UnitSpec}
 use Rattle.flip_sweep.specs.Comes.{CameTo}
 use Rattle.flip_sweep.specs.declared.verdict.Verdict.{Verdict}
 use Rattle.flip_sweep.specs.declared.verdict.Verdict.TheVariants.{Found, Scrub, Same, Unseen}

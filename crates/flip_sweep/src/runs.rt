@@ -2,9 +2,9 @@
 
 ghost use Rattle.std.specs.Prelude.{◌≡◌, List, IfErr, IfOk, length, true};
 ghost use Rattle.run_command.specs.Working.{IsSound};
-ghost use Rattle.target_answer.specs.Headers.{image_size, is_layout};
-ghost use Rattle.target_answer.specs.Image.{formatted};
-ghost use Rattle.target_answer.specs.declared.units.UnitSpec.{UnitSpec as AnyUnit};
+ghost use Rattle.rig_api.specs.Headers.{image_size, is_layout};
+ghost use Rattle.rig_api.specs.Image.{formatted};
+ghost use Rattle.rig_api.specs.declared.units.UnitSpec.{UnitSpec as AnyUnit};
 ghost use Rattle.flip_sweep.specs.Comes.{came_to, seen_of};
 ghost use Rattle.flip_sweep.specs.Swept.{CauseNoRun};
 
@@ -12,12 +12,11 @@ use call_refusal::Refusal;
 use dix_base::CalmStore;
 use image_rig::ImageRig;
 use page_pool::PagePool;
-use rig_api::Rig;
+use rig_api::{Rig, UnitSpec};
 use run_command::{Finished, run_script};
 use script_text::Script;
 use stack_ops::Reply;
 use std::alloc::{AllocError, Global};
-use target_answer::UnitSpec;
 
 /// A run that came to its end, and the rig over the image that it left.
 #[derive(Drop)]

@@ -2,16 +2,16 @@
 
 ghost use Rattle.std.specs.Prelude.{◌≡◌, ◌+◌, ◌*◌, ◌<◌, ◌^◌, Some, None, length, true};
 ghost use Rattle.image_text.specs.Passed.{stored_finding};
-ghost use Rattle.target_answer.specs.Frames.{frames_of, stored_size};
-ghost use Rattle.target_answer.specs.Headers.{all_bytes, bytes_of, is_layout, is_spec};
-ghost use Rattle.target_answer.specs.Image.{units_from};
-ghost use Rattle.target_answer.specs.Passing.{is_one};
+ghost use Rattle.rig_api.specs.Frames.{frames_of, stored_size};
+ghost use Rattle.rig_api.specs.Headers.{all_bytes, bytes_of, is_layout, is_spec};
+ghost use Rattle.rig_api.specs.Image.{units_from};
+ghost use Rattle.rig_api.specs.Passing.{is_one};
 ghost use Rattle.flip_sweep.specs.Verdicts.{first_spoilt, first_spoilt_from, new_finding};
 
 use crate::verdict::Verdict;
 use pi_guard::crc16;
 use pi_tuple::{Check, Checks, PiType, TUPLE, Tuple, finds, ref_tag};
-use target_answer::{UnitSpec, stored_size};
+use rig_api::{UnitSpec, stored_size};
 
 fn is_one(ty: PiType) -> bool
     ensures { result ≡ is_one ty }

@@ -4,12 +4,12 @@ ghost use Rattle.std.specs.Prelude.{◌≡◌, ◌+◌, ◌≤◌, ◌<◌, ◌^
 ghost use Rattle.dix_base.specs.Told.{Appended, AppendedSome, Rose};
 ghost use Rattle.report_text.specs.Writing.{Wrote};
 ghost use Rattle.run_command.specs.Working.{IsSound};
-ghost use Rattle.target_answer.specs.Headers.{is_layout};
+ghost use Rattle.rig_api.specs.Headers.{is_layout};
 ghost use Rattle.flip_sweep.specs.Flips.{AreSites, IsSite, sites_of};
 ghost use Rattle.flip_sweep.specs.Ground.{IsGround, swept_in};
 ghost use Rattle.flip_sweep.specs.Rows.{IsSmall, all_counted, first_line, last_line, next_open, none_yet, row, row_before, stretch};
 ghost use Rattle.flip_sweep.specs.Swept.{CauseUnswept, SweepEnds, all_rows, counts_of, counts_with, rows_at, sweep_text, unseen_in, verdict_at, verdicts_at};
-ghost use Rattle.target_answer.specs.declared.TheConstants.{MOST_FRAME};
+ghost use Rattle.rig_api.specs.declared.TheConstants.{MOST_FRAME};
 
 use crate::copying::with_faults;
 use crate::counts::Counts;
@@ -27,7 +27,7 @@ use pi_tuple::TUPLE;
 use report_text::write_all;
 use script_text::{LineList, Script};
 use std::alloc::{AllocError, Global};
-use target_answer::UnitSpec;
+use rig_api::UnitSpec;
 
 /// Why a sweep that was begun wasn't ended.
 #[derive(Clone, Copy, Debug, PartialEq, Eq)]

@@ -1,7 +1,7 @@
 //! What a flip comes to.
 
 ghost use Rattle.std.specs.Prelude.{◌≡◌, ◌<◌, ◌^◌, length, true};
-ghost use Rattle.target_answer.specs.Headers.{image_size, is_layout};
+ghost use Rattle.rig_api.specs.Headers.{image_size, is_layout};
 ghost use Rattle.flip_sweep.specs.Comes.{seen_of};
 ghost use Rattle.flip_sweep.specs.Verdicts.{is_same_verdict, verdict_of};
 
@@ -11,7 +11,7 @@ use crate::same::{are_same_pages, are_same_replies, is_same_check, is_same_why};
 use crate::spoilt::first_spoilt;
 use bio_core::Why;
 use pi_tuple::Check;
-use target_answer::UnitSpec;
+use rig_api::UnitSpec;
 
 /// What a flip comes to, beside the run as it is.
 #[derive(Clone, Copy, Debug, PartialEq, Eq)]

@@ -6,10 +6,10 @@ use Rattle.pi_tuple.specs.declared.checks.PiType.{PiType}
 use Rattle.pi_tuple.specs.declared.checks.PiType.TheVariants.{One}
 use Rattle.pi_tuple.specs.declared.tuple.Tuple.{Tuple}
 use Rattle.pi_tuple.proofs.TupleLaws.{tag_below}
-use Rattle.target_answer.specs.Headers.{is_layout}
-use Rattle.target_answer.specs.Image.{formatted, fresh, units_in}
-use Rattle.target_answer.specs.Target.{Stored}
-use Rattle.target_answer.specs.declared.units.UnitSpec.{UnitSpec}
+use Rattle.rig_api.specs.Headers.{is_layout}
+use Rattle.rig_api.specs.Image.{formatted, fresh, units_in}
+use Rattle.rig_api.specs.Target.{Stored}
+use Rattle.rig_api.specs.declared.units.UnitSpec.{UnitSpec}
 use Rattle.rig_api.specs.Telling.{own_units}
 use Rattle.rig_discovery.specs.Discovery.{info_of}
 use Rattle.volume_table.specs.Places.{place_in, volume_len}

@@ -1,7 +1,7 @@
 -- What a call on a mirror says where no store call failed, one lemma for each. The count of faults of a store in memory stays at 0.
 use Rattle.std.proofs.Common.{◌≡◌, ℕ, List, Some, arith}
 use Rattle.dix_base.specs.Told.{Calm}
-use Rattle.target_answer.specs.Target.{Stored}
+use Rattle.rig_api.specs.Target.{Stored}
 use Rattle.script_text.specs.declared.script.Script.{Script}
 use Rattle.dix_run.specs.Passed.{HasServedMirror, HasMirrored, Mirrored, OnIntactLegs}
 use Rattle.dix_run.proofs.Passed.{calm-names-none, known-told}

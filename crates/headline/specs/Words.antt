@@ -1,5 +1,5 @@
 use Rattle.std.specs.Prelude.{ℕ, ◌≡◌, Bool, true, false, List, [], ◌∷◌, Option, codes}
-use Rattle.target_answer.specs.Target.{Stored}
+use Rattle.rig_api.specs.Target.{Stored}
 use Rattle.rig_api.specs.Telling.{IsStanding, Standing, units_told}
 use Rattle.script_text.specs.declared.script.Script.{Script}
 use Rattle.call_verdict.specs.declared.status.Status.{Status}

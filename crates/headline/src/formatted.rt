@@ -6,9 +6,9 @@ ghost use Rattle.rig_api.specs.Head.{head_fault, head_of, units_of};
 ghost use Rattle.rig_api.specs.State.{RigState};
 ghost use Rattle.rig_discovery.specs.Discovery.{info_of};
 ghost use Rattle.image_laws.specs.Passed.{WasAsked, devices_of};
-ghost use Rattle.target_answer.specs.Headers.{is_layout};
-ghost use Rattle.target_answer.specs.Image.{formatted};
-ghost use Rattle.target_answer.specs.declared.units.UnitSpec.{UnitSpec as AnyUnit};
+ghost use Rattle.rig_api.specs.Headers.{is_layout};
+ghost use Rattle.rig_api.specs.Image.{formatted};
+ghost use Rattle.rig_api.specs.declared.units.UnitSpec.{UnitSpec as AnyUnit};
 ghost use Rattle.headline.specs.Fresh.{TellsFresh};
 ghost use Rattle.volume_table.specs.declared.device.DeviceInfo.{DeviceInfo as AnyDevice};
 

@@ -5,12 +5,12 @@ use Rattle.std.proofs.Math.Seq.{take-add}
 use Rattle.std.proofs.Math.Nat.{mul_comm}
 use Rattle.std.specs.Prelude.{Result, Ok, Err, OnOk}
 use Rattle.dix_base.specs.Told.{Apart, Becomes, HasLength, IsRead, over}
-use Rattle.target_answer.specs.Frames.{frames_of, joined, placed, stored_size}
-use Rattle.target_answer.specs.Headers.{all_bytes, bytes_of, image_size}
-use Rattle.target_answer.specs.Image.{unit_from, units_from, units_in}
-use Rattle.target_answer.specs.Target.{Stored}
-use Rattle.target_answer.specs.declared.units.UnitSpec.{UnitSpec}
-use Rattle.target_answer.proofs.FrameLaws.{frames_length}
+use Rattle.rig_api.specs.Frames.{frames_of, joined, placed, stored_size}
+use Rattle.rig_api.specs.Headers.{all_bytes, bytes_of, image_size}
+use Rattle.rig_api.specs.Image.{unit_from, units_from, units_in}
+use Rattle.rig_api.specs.Target.{Stored}
+use Rattle.rig_api.specs.declared.units.UnitSpec.{UnitSpec}
+use Rattle.rig_api.proofs.FrameLaws.{frames_length}
 use Rattle.target_model.specs.Served.{AllLong}
 use Rattle.target_model.proofs.Bytes.{frames_back, frames_part, joined_frames, long_both, long_drop, long_frames, long_take, over_back, placed_length, unit_over}
 use Rattle.rig_api.specs.Telling.{holding, no_spec, unit_at}

@@ -1,9 +1,9 @@
 use Rattle.std.specs.Prelude.{ℕ, ◌≡◌, ◌-◌, List, length, take, drop, Option, Some, None}
 use Rattle.dix_base.specs.Told.{Becomes}
-use Rattle.target_answer.specs.Frames.{frames_of, placed}
-use Rattle.target_answer.specs.Image.{units_in}
-use Rattle.target_answer.specs.Target.{Stored}
-use Rattle.target_answer.specs.declared.units.UnitSpec.{UnitSpec}
+use Rattle.rig_api.specs.Frames.{frames_of, placed}
+use Rattle.rig_api.specs.Image.{units_in}
+use Rattle.rig_api.specs.Target.{Stored}
+use Rattle.rig_api.specs.declared.units.UnitSpec.{UnitSpec}
 use Rattle.target_model.specs.Served.{AllLong}
 use Rattle.rig_api.specs.Telling.{unit_at, with_blocks}
 use Rattle.image_rig.specs.LayoutPlaces.{block_len}

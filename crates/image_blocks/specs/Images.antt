@@ -1,6 +1,6 @@
 use Rattle.std.specs.Prelude.{ℕ, ◌≡◌, List, Option, Result, IfOk}
-use Rattle.target_answer.specs.Headers.{image_size}
-use Rattle.target_answer.specs.declared.units.UnitSpec.{UnitSpec}
+use Rattle.rig_api.specs.Headers.{image_size}
+use Rattle.rig_api.specs.declared.units.UnitSpec.{UnitSpec}
 use Rattle.rig_api.specs.Head.{HasJudged, Head, IsFaultOf, units_of}
 use Rattle.rig_api.specs.declared.rig.RigFault.{RigFault}
 use Rattle.image_blocks.specs.declared.image.Image.{Image}

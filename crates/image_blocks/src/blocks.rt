@@ -3,7 +3,7 @@
 ghost use Rattle.std.specs.Prelude.{◌≡◌, ◌+◌, ◌*◌, ◌≤◌, OnOk, length};
 ghost use Rattle.dix_base.specs.Stores.{IsCounted, WasRead, WasWritten};
 ghost use Rattle.dix_base.specs.Told.{Apart, Becomes};
-ghost use Rattle.target_answer.specs.Headers.{image_size};
+ghost use Rattle.rig_api.specs.Headers.{image_size};
 ghost use Rattle.image_rig.specs.LayoutPlaces.{block_len, block_place};
 ghost use Rattle.image_blocks.specs.Blocks.{AreLeft, ArePut, HasStretch, blocks_of};
 ghost use Rattle.image_blocks.specs.Images.{units_open};
@@ -13,7 +13,7 @@ use crate::image::Image;
 use crate::stretch::Stretch;
 use dix_base::{Failed, Store};
 use image_rig::place_of;
-use target_answer::stored_size;
+use rig_api::stored_size;
 
 /// The byte of the image at which a stretch begins.
 fn place_in(image: &Image, at: Stretch) -> u64

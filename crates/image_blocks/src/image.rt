@@ -1,10 +1,10 @@
 //! An image that was opened and judged.
 
 ghost use Rattle.std.specs.Prelude.{◌≡◌, true};
-ghost use Rattle.target_answer.specs.Headers.{is_layout};
+ghost use Rattle.rig_api.specs.Headers.{is_layout};
 
 use arrayvec::ArrayVec;
-use target_answer::UnitSpec;
+use rig_api::UnitSpec;
 
 /// The units of an image whose head is right.
 #[derive(Drop)]

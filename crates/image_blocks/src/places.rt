@@ -1,15 +1,15 @@
 //! Places in an image, judged against its units.
 
 ghost use Rattle.std.specs.Prelude.{◌≡◌, ◌≤◌, ◌<◌, IfOk, List, length};
-ghost use Rattle.target_answer.specs.declared.units.UnitSpec.{UnitSpec};
+ghost use Rattle.rig_api.specs.declared.units.UnitSpec.{UnitSpec};
 ghost use Rattle.image_rig.specs.LayoutPlaces.{block_len};
 ghost use Rattle.image_blocks.specs.Images.{units_open};
 ghost use Rattle.image_blocks.specs.Places.{IsStretch, behind_in, front_in, has_blocks, part_in, whole_in};
-ghost use Rattle.target_answer.specs.declared.TheConstants.{MOST_FRAME};
+ghost use Rattle.rig_api.specs.declared.TheConstants.{MOST_FRAME};
 
 use crate::image::Image;
 use crate::stretch::{PlaceFault, Stretch};
-use target_answer::{UnitSpec, stored_size};
+use rig_api::{UnitSpec, stored_size};
 
 /// All blocks of a unit.
 pub fn whole_of(image: &Image, dev: u32) -> Result<Stretch, PlaceFault>

@@ -5,11 +5,11 @@ use Rattle.std.proofs.lemmas.Bool.{leb-true}
 use Rattle.std.proofs.Math.Seq.{take-add}
 use Rattle.std.proofs.lemmas.List.{length-drop, take-append-drop, take_all}
 use Rattle.std.proofs.lemmas.Option.{same_Some}
-use Rattle.target_answer.specs.Frames.{frames_of, joined, stored_size}
-use Rattle.target_answer.specs.Headers.{all_bytes, bytes_of}
-use Rattle.target_answer.specs.Image.{units_from, units_in}
-use Rattle.target_answer.specs.Target.{Stored}
-use Rattle.target_answer.specs.declared.units.UnitSpec.{UnitSpec}
+use Rattle.rig_api.specs.Frames.{frames_of, joined, stored_size}
+use Rattle.rig_api.specs.Headers.{all_bytes, bytes_of}
+use Rattle.rig_api.specs.Image.{units_from, units_in}
+use Rattle.rig_api.specs.Target.{Stored}
+use Rattle.rig_api.specs.declared.units.UnitSpec.{UnitSpec}
 use Rattle.rig_api.specs.Head.{Head, head_fault, units_of}
 use Rattle.rig_api.specs.Telling.{IsStanding, Standing, StandsOn, specs_of, units_told}
 use Rattle.rig_api.proofs.HeadLaws.{image_long, right_layout}

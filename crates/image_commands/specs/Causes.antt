@@ -1,8 +1,8 @@
 use Rattle.std.specs.Prelude.{ℕ, ◌≡◌, ◌≤◌, ◌⊎◌, false, List, [], Some, None, is_some}
 use Rattle.dix_base.specs.Told.{Becomes, Calm, Rose}
-use Rattle.target_answer.specs.Image.{formatted}
-use Rattle.target_answer.specs.Target.{Stored}
-use Rattle.target_answer.specs.declared.units.UnitSpec.{UnitSpec}
+use Rattle.rig_api.specs.Image.{formatted}
+use Rattle.rig_api.specs.Target.{Stored}
+use Rattle.rig_api.specs.declared.units.UnitSpec.{UnitSpec}
 use Rattle.rig_api.specs.Head.{IsHeadOf, head_fault, units_of, version_in}
 use Rattle.rig_api.specs.Telling.{IsMigrated, KeepsBlocks, KeepsUnits, LeavesShort, Opened, migrated_count, units_told}
 use Rattle.rig_api.specs.State.{RigState}

@@ -1,13 +1,12 @@
 //! Formatting an image.
 
 ghost use Rattle.std.specs.Prelude.{◌≡◌, MatchResult, true};
-ghost use Rattle.target_answer.specs.Headers.{is_layout};
+ghost use Rattle.rig_api.specs.Headers.{is_layout};
 ghost use Rattle.image_commands.specs.Causes.{CauseUnformatted, WasFormatted};
 
 use call_refusal::Refusal;
-use rig_api::Rig;
+use rig_api::{Rig, UnitSpec};
 use std::alloc::Global;
-use target_answer::UnitSpec;
 
 /// Makes the image of this name the formatted one of these units, 1 to 8 that an image may have.
 /// After a fault of the rig the image may be anything; after want of memory it is as it was, or isn't opened.

@@ -2,11 +2,11 @@
 use Rattle.std.proofs.Common.{◌≡◌, ℕ, ◌+◌, List, [], ◌∷◌, ◌++◌, length, take, drop, None, refl, sym, ap, ◌∙◌, arith}
 use Rattle.std.proofs.Math.Seq.{take-add}
 use Rattle.std.proofs.lemmas.List.{length-drop, take-append-drop, take_all}
-use Rattle.target_answer.specs.Frames.{frames_of, joined, stored_size}
-use Rattle.target_answer.specs.Headers.{all_bytes, bytes_of}
-use Rattle.target_answer.specs.Image.{units_from}
-use Rattle.target_answer.specs.declared.units.UnitSpec.{UnitSpec}
-use Rattle.target_answer.proofs.FrameLaws.{joined_append}
+use Rattle.rig_api.specs.Frames.{frames_of, joined, stored_size}
+use Rattle.rig_api.specs.Headers.{all_bytes, bytes_of}
+use Rattle.rig_api.specs.Image.{units_from}
+use Rattle.rig_api.specs.declared.units.UnitSpec.{UnitSpec}
+use Rattle.rig_api.proofs.FrameLaws.{joined_append}
 use Rattle.rig_api.specs.Head.{head_fault, head_of, units_of}
 use Rattle.dix_adapter.specs.Ways.{blocks_told}
 use Rattle.image_rig.proofs.Heads.{right_head, right_units}

@@ -1,6 +1,6 @@
 -- What a call's records say where no store call failed, one lemma for each. The count of faults of a store in memory stays at 0.
 use Rattle.std.proofs.Common.{◌≡◌, inl, inr, ℕ, List, Some, arith}
-use Rattle.target_answer.specs.Target.{Stored}
+use Rattle.rig_api.specs.Target.{Stored}
 use Rattle.volume_table.specs.Tables.{Table}
 use Rattle.volume_table.specs.declared.device.DeviceInfo.{DeviceInfo}
 use Rattle.stack_ops.specs.declared.reply.Reply.{Reply}

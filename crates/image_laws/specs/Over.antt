@@ -1,6 +1,6 @@
 -- What a script does to an image whose bytes are known. The schedule, which says in what order commands are sent, merged and answered, is part of the script's text; no sentence here hangs on it, nor on the script's limits.
 use Rattle.std.specs.Prelude.{ℕ, ◌≡◌, List, ◌++◌, take, None, Ok}
-use Rattle.target_answer.specs.Frames.{joined}
+use Rattle.rig_api.specs.Frames.{joined}
 use Rattle.rig_api.specs.Telling.{own_units}
 use Rattle.dix_adapter.specs.Ways.{blocks_told}
 use Rattle.stack_ops.specs.declared.reply.Reply.{Reply}

@@ -6,10 +6,10 @@ use Rattle.std.proofs.lemmas.Bool.{and_parts, eqb-true}
 use Rattle.dix_base.specs.Told.{Apart, Becomes, HasLength, over}
 use Rattle.fault_schedule.specs.Altered.{byte_at, xored_from}
 use Rattle.fault_schedule.proofs.Xored.{length-xored}
-use Rattle.target_answer.specs.Headers.{image_size, is_layout}
-use Rattle.target_answer.specs.Image.{units_in}
-use Rattle.target_answer.specs.Target.{Stored}
-use Rattle.target_answer.specs.declared.units.UnitSpec.{UnitSpec}
+use Rattle.rig_api.specs.Headers.{image_size, is_layout}
+use Rattle.rig_api.specs.Image.{units_in}
+use Rattle.rig_api.specs.Target.{Stored}
+use Rattle.rig_api.specs.declared.units.UnitSpec.{UnitSpec}
 use Rattle.target_model.proofs.Bytes.{becomes_some, over_back, told_length, size_most}
 use Rattle.rig_api.specs.Head.{Head, units_of}
 use Rattle.rig_api.specs.Telling.{block_at, can_change, changed, frame_size, has_address, no_spec, source_of, unit_at, with_block}

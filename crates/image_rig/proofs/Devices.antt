@@ -9,11 +9,11 @@ use Rattle.dix_base.specs.Told.{Apart, Becomes, Calm}
 use Rattle.dix_base.proofs.Counts.{never_rose}
 use Rattle.fault_schedule.specs.declared.Label.{Label}
 use Rattle.fault_schedule.specs.declared.fault.FaultLine.{FaultLine}
-use Rattle.target_answer.specs.Frames.{stored_size}
-use Rattle.target_answer.specs.Headers.{all_bytes, bytes_of, image_size, is_layout, is_spec}
-use Rattle.target_answer.specs.Image.{unit_from, units_in}
-use Rattle.target_answer.specs.Target.{Answer, Stop, Stored, target_answer}
-use Rattle.target_answer.specs.declared.units.UnitSpec.{UnitSpec}
+use Rattle.rig_api.specs.Frames.{stored_size}
+use Rattle.rig_api.specs.Headers.{all_bytes, bytes_of, image_size, is_layout, is_spec}
+use Rattle.rig_api.specs.Image.{unit_from, units_in}
+use Rattle.rig_api.specs.Target.{Answer, Stop, Stored, target_answer}
+use Rattle.rig_api.specs.declared.units.UnitSpec.{UnitSpec}
 use Rattle.target_model.specs.Served.{IsSize, IsUnit, Served, unit_in, with_unit}
 use Rattle.rig_api.specs.Head.{Head, head_fault, head_of, units_of}
 use Rattle.target_model.specs.declared.unit.LogicalUnit.{LogicalUnit}

@@ -3,11 +3,11 @@ use Rattle.std.proofs.Common.{◌≡◌, ℕ, zero, suc, ◌+◌, ◌<◌, ◌�
 use Rattle.std.specs.List.{list_all}
 use Rattle.std.proofs.lemmas.List.{take_all, take-take, take-replicate}
 use Rattle.pi_tuple.specs.declared.checks.PiType.{PiType}
-use Rattle.target_answer.specs.Frames.{joined, stored_size}
-use Rattle.target_answer.specs.Headers.{header, is_first, is_spec, version_for}
-use Rattle.target_answer.specs.Image.{all_fresh, formatted, fresh, fresh_bytes, fresh_from}
-use Rattle.target_answer.specs.declared.units.UnitSpec.{UnitSpec}
-use Rattle.target_answer.proofs.FrameLaws.{stored_least}
+use Rattle.rig_api.specs.Frames.{joined, stored_size}
+use Rattle.rig_api.specs.Headers.{header, is_first, is_spec, version_for}
+use Rattle.rig_api.specs.Image.{all_fresh, formatted, fresh, fresh_bytes, fresh_from}
+use Rattle.rig_api.specs.declared.units.UnitSpec.{UnitSpec}
+use Rattle.rig_api.proofs.FrameLaws.{stored_least}
 use Rattle.image_rig.specs.Small.{is_small}
 
 and_assoc : (a b c : Bool) → (a && (b && c)) ≡ ((a && b) && c)

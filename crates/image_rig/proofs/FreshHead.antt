@@ -9,13 +9,13 @@ use Rattle.std.proofs.lemmas.List.{drop_at, length-replicate, take_at}
 use Rattle.std.proofs.lemmas.Bool.{eqb-true, and_parts}
 use Rattle.std.proofs.lemmas.Slice.Eq.{bytes_eq-Decides}
 use Rattle.pi_tuple.specs.declared.checks.PiType.{PiType}
-use Rattle.target_answer.specs.Frames.{joined, stored_size}
-use Rattle.target_answer.specs.Headers.{all_bytes, bytes_of, entry_of, header, image_size, is_first, is_header, is_layout, is_spec, magic_of, spec_of, specs_from, specs_in, version_for, version_of}
-use Rattle.target_answer.specs.Image.{all_fresh, formatted, fresh, fresh_bytes, fresh_from}
-use Rattle.target_answer.specs.declared.units.UnitSpec.{UnitSpec}
-use Rattle.target_answer.specs.declared.units.Version.{Version}
-use Rattle.target_answer.specs.declared.units.Version.TheVariants.{First, Second}
-use Rattle.target_answer.proofs.FreshBlocks.{fresh_long}
+use Rattle.rig_api.specs.Frames.{joined, stored_size}
+use Rattle.rig_api.specs.Headers.{all_bytes, bytes_of, entry_of, header, image_size, is_first, is_header, is_layout, is_spec, magic_of, spec_of, specs_from, specs_in, version_for, version_of}
+use Rattle.rig_api.specs.Image.{all_fresh, formatted, fresh, fresh_bytes, fresh_from}
+use Rattle.rig_api.specs.declared.units.UnitSpec.{UnitSpec}
+use Rattle.rig_api.specs.declared.units.Version.{Version}
+use Rattle.rig_api.specs.declared.units.Version.TheVariants.{First, Second}
+use Rattle.rig_api.proofs.FreshBlocks.{fresh_long}
 use Rattle.rig_api.specs.Head.{fault_of_header, fault_under, head_fault, head_of, specs_under, units_of}
 use Rattle.rig_api.specs.declared.rig.RigFault.TheVariants.{BadLength}
 use Rattle.image_rig.proofs.Heads.{layout_parts}

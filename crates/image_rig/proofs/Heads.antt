@@ -5,7 +5,7 @@ use Rattle.std.specs.List.{list_all}
 use Rattle.std.proofs.Common.{◌⊎◌, inl, inr}
 use Rattle.pi_tuple.specs.declared.checks.PiType.{PiType}
 use Rattle.pi_tuple.specs.declared.checks.PiType.TheVariants.{Zero, One, Two, Three}
-use Rattle.target_answer.specs.Frames.{stored_size}
+use Rattle.rig_api.specs.Frames.{stored_size}
 use Rattle.std.specs.Prelude.{Result, Ok, Err, IsErrOf, min}
 use Rattle.dix_base.specs.Stores.{StoreState, WasOpened, WasRead}
 use Rattle.dix_base.specs.Told.{HasLength, IsRead}
@@ -17,9 +17,9 @@ use Rattle.rig_api.specs.Telling.{Opened, OpenedBy, Standing, no_spec}
 use Rattle.rig_api.specs.Head.{HasJudged, IsHeadOf, Head, head_fault, fault_of_header, fault_under, units_of, specs_under, version_in}
 use Rattle.rig_api.specs.declared.rig.RigFault.{RigFault}
 use Rattle.rig_api.specs.declared.rig.RigFault.TheVariants.{BadMagic, BadHeader, BadLength, Failed, Memory}
-use Rattle.target_answer.specs.Headers.{all_bytes, bytes_of, image_size, is_header, is_layout, is_spec, specs_in}
-use Rattle.target_answer.specs.declared.units.UnitSpec.{UnitSpec}
-use Rattle.target_answer.specs.declared.units.Version.{Version}
+use Rattle.rig_api.specs.Headers.{all_bytes, bytes_of, image_size, is_header, is_layout, is_spec, specs_in}
+use Rattle.rig_api.specs.declared.units.UnitSpec.{UnitSpec}
+use Rattle.rig_api.specs.declared.units.Version.{Version}
 use Rattle.small_laws.proofs.Tests.{and_first, and_second}
 
 -- a head without a fault is of a version, has a header of it, and the length of that header's image

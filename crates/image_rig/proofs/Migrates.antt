@@ -9,11 +9,11 @@ use Rattle.std.proofs.lemmas.Bool.{and_parts}
 use Rattle.dix_base.specs.Told.{Apart, Becomes, over}
 use Rattle.pi_tuple.specs.declared.checks.PiType.{PiType}
 use Rattle.pi_tuple.specs.declared.checks.PiType.TheVariants.{Zero, One, Two, Three}
-use Rattle.target_answer.specs.Frames.{joined}
-use Rattle.target_answer.specs.Headers.{entry_of, exponent_of, header, is_layout, is_spec, magic_of, number_of, size_of, spec_of, specs_from, specs_in, type_of, version_of}
-use Rattle.target_answer.specs.Image.{migrated, units_from, units_in}
-use Rattle.target_answer.specs.declared.units.UnitSpec.{UnitSpec}
-use Rattle.target_answer.specs.declared.units.Version.TheVariants.{Second}
+use Rattle.rig_api.specs.Frames.{joined}
+use Rattle.rig_api.specs.Headers.{entry_of, exponent_of, header, is_layout, is_spec, magic_of, number_of, size_of, spec_of, specs_from, specs_in, type_of, version_of}
+use Rattle.rig_api.specs.Image.{migrated, units_from, units_in}
+use Rattle.rig_api.specs.declared.units.UnitSpec.{UnitSpec}
+use Rattle.rig_api.specs.declared.units.Version.TheVariants.{Second}
 use Rattle.rig_api.specs.Head.{Head, IsHeadOf, head_of, specs_under, units_of, version_in}
 use Rattle.rig_api.specs.Telling.{KeepsBlocks, KeepsUnits, own_units}
 use Rattle.image_rig.proofs.Heads.{layout_parts}

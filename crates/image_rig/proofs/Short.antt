@@ -3,12 +3,12 @@ use Rattle.std.proofs.Common.{◌≡◌, ℕ, zero, suc, ◌+◌, ◌<◌, ◌�
 use Rattle.std.proofs.lemmas.List.{length-take, take-append-le}
 use Rattle.dix_base.specs.Told.{Appended, Becomes}
 use Rattle.pi_tuple.specs.declared.checks.PiType.{PiType}
-use Rattle.target_answer.specs.Frames.{joined}
-use Rattle.target_answer.specs.Headers.{header, image_size, is_layout, is_spec, version_for, version_of}
-use Rattle.target_answer.specs.Image.{all_fresh, formatted, fresh, fresh_bytes, fresh_from}
-use Rattle.target_answer.specs.declared.units.UnitSpec.{UnitSpec}
-use Rattle.target_answer.proofs.FrameLaws.{stored_least}
-use Rattle.target_answer.proofs.FreshBlocks.{fresh_long}
+use Rattle.rig_api.specs.Frames.{joined}
+use Rattle.rig_api.specs.Headers.{header, image_size, is_layout, is_spec, version_for, version_of}
+use Rattle.rig_api.specs.Image.{all_fresh, formatted, fresh, fresh_bytes, fresh_from}
+use Rattle.rig_api.specs.declared.units.UnitSpec.{UnitSpec}
+use Rattle.rig_api.proofs.FrameLaws.{stored_least}
+use Rattle.rig_api.proofs.FreshBlocks.{fresh_long}
 use Rattle.rig_api.specs.Head.{head_fault, head_of, specs_under, units_of}
 use Rattle.rig_api.specs.Telling.{IsShortOf, LeavesShort}
 use Rattle.rig_api.proofs.HeadLaws.{image_long}

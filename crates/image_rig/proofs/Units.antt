@@ -2,11 +2,11 @@
 use Rattle.std.proofs.Common.{◌≡◌, ℕ, zero, suc, ◌+◌, ◌-◌, ◌*◌, ◌<◌, ◌≤◌, true, List, [], ◌∷◌, ◌++◌, length, get_or, set, take, drop, refl, sym, ap, ◌∙◌, arith, rules}
 use Rattle.std.proofs.lemmas.List.{places, same_lists, take-take, drop-take, drop-drop, length-drop, take_at, drop_at}
 use Rattle.dix_base.specs.Told.{over}
-use Rattle.target_answer.specs.Frames.{frames_of, stored_size}
-use Rattle.target_answer.specs.Headers.{all_bytes, bytes_of, image_size}
-use Rattle.target_answer.specs.Image.{unit_from, units_from, units_in}
-use Rattle.target_answer.specs.Target.{Stored}
-use Rattle.target_answer.specs.declared.units.UnitSpec.{UnitSpec}
+use Rattle.rig_api.specs.Frames.{frames_of, stored_size}
+use Rattle.rig_api.specs.Headers.{all_bytes, bytes_of, image_size}
+use Rattle.rig_api.specs.Image.{unit_from, units_from, units_in}
+use Rattle.rig_api.specs.Target.{Stored}
+use Rattle.rig_api.specs.declared.units.UnitSpec.{UnitSpec}
 use Rattle.rig_api.specs.Telling.{block_at, has_address, holding, no_spec, no_unit, with_block}
 use Rattle.image_rig.specs.LayoutPlaces.{block_len, block_place}
 

@@ -1,7 +1,7 @@
 use Rattle.std.specs.Prelude.{ℕ, ◌≡◌, List, take, drop}
 use Rattle.dix_base.specs.Told.{over}
 use Rattle.fault_schedule.specs.Altered.{byte_at, xored_from}
-use Rattle.target_answer.specs.declared.units.UnitSpec.{UnitSpec}
+use Rattle.rig_api.specs.declared.units.UnitSpec.{UnitSpec}
 use Rattle.rig_api.specs.declared.change.Change.{Change}
 use Rattle.rig_api.specs.declared.change.Change.TheVariants.{Flip, Copy}
 use Rattle.image_rig.specs.LayoutPlaces.{block_len, block_place}

@@ -1,7 +1,7 @@
 use Rattle.std.specs.Prelude.{ℕ, ◌+◌, ◌-◌, ◌*◌, List, take, slice_index_or}
-use Rattle.target_answer.specs.Frames.{stored_size}
-use Rattle.target_answer.specs.Headers.{all_bytes}
-use Rattle.target_answer.specs.declared.units.UnitSpec.{UnitSpec}
+use Rattle.rig_api.specs.Frames.{stored_size}
+use Rattle.rig_api.specs.Headers.{all_bytes}
+use Rattle.rig_api.specs.declared.units.UnitSpec.{UnitSpec}
 use Rattle.rig_api.specs.Telling.{no_spec}
 
 -- where a unit's blocks begin in the image

@@ -1,6 +1,6 @@
 use Rattle.std.specs.Prelude.{ℕ, Bool, ◌&&◌, eqb, List, slice_index_or}
-use Rattle.target_answer.specs.Frames.{stored_size}
-use Rattle.target_answer.specs.declared.units.UnitSpec.{UnitSpec}
+use Rattle.rig_api.specs.Frames.{stored_size}
+use Rattle.rig_api.specs.declared.units.UnitSpec.{UnitSpec}
 use Rattle.target_model.specs.declared.unit.LogicalUnit.{LogicalUnit}
 use Rattle.image_rig.specs.LayoutPlaces.{place_of}
 use Rattle.rig_api.specs.Telling.{has_address, no_spec}

@@ -1,5 +1,5 @@
 use Rattle.std.specs.Prelude.{Bool, eqb, ◌&&◌}
-use Rattle.target_answer.specs.declared.units.UnitSpec.{UnitSpec}
+use Rattle.rig_api.specs.declared.units.UnitSpec.{UnitSpec}
 
 -- a unit that version 1 can tell
 abbrev pub is_small : UnitSpec → Bool

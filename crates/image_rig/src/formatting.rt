@@ -4,16 +4,16 @@ ghost use Rattle.std.specs.Prelude.{◌≡◌, ◌+◌, ◌≤◌, ◌++◌, OnO
 ghost use Rattle.std.specs.List.{list_all};
 ghost use Rattle.dix_base.specs.Stores.{WasExtended};
 ghost use Rattle.dix_base.specs.Told.{Appended, Rose};
-ghost use Rattle.target_answer.specs.Frames.{joined, stored_size};
-ghost use Rattle.target_answer.specs.Headers.{is_layout, is_spec, version_for};
-ghost use Rattle.target_answer.specs.Image.{all_fresh, formatted, fresh};
+ghost use Rattle.rig_api.specs.Frames.{joined, stored_size};
+ghost use Rattle.rig_api.specs.Headers.{is_layout, is_spec, version_for};
+ghost use Rattle.rig_api.specs.Image.{all_fresh, formatted, fresh};
 ghost use Rattle.image_rig.specs.Short.{AppendedShort};
 ghost use Rattle.image_rig.specs.Small.{is_small};
 
 use dix_base::{Store, StoreFault};
 use pi_tuple::{PiType, make, own_tag};
 use std::alloc::Global;
-use target_answer::{MOST_FRAME, UnitSpec, Version, header, put_tuple, stored_size};
+use rig_api::{MOST_FRAME, UnitSpec, Version, header, put_tuple, stored_size};
 
 /// Puts the tuple of a formatted block behind zeros: guard 0, which is that of zeros, application tag 0,
 /// and the block's own reference tag.

@@ -1,14 +1,13 @@
 //! The head of an image: its length and its first bytes.
 
 ghost use Rattle.std.specs.Prelude.{◌≡◌, ◌≤◌, ◌+◌, ◌*◌, [], None, Some, eqb, if◌then◌else◌, true};
-ghost use Rattle.target_answer.specs.Headers.{bytes_of, image_size, is_header, is_layout, is_spec, specs_in};
+ghost use Rattle.rig_api.specs.Headers.{bytes_of, image_size, is_header, is_layout, is_spec, specs_in};
 ghost use Rattle.rig_api.specs.Head.{fault_of_header, head_fault, units_of, version_in};
 ghost use Rattle.image_rig.specs.Heads.{head_in};
 
 use crate::image_head::ImageHead;
 use arrayvec::ArrayVec;
-use rig_api::{RigFault, front};
-use target_answer::{UnitSpec, Version, is_header, specs_in, stored_size, version_of};
+use rig_api::{RigFault, UnitSpec, Version, front, is_header, specs_in, stored_size, version_of};
 
 impl ImageHead {
     /// The head of no image.

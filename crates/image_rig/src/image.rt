@@ -8,7 +8,7 @@ use crate::{ImageHead, Log};
 use arrayvec::ArrayVec;
 use dix_base::Store;
 use fault_schedule::Tamper;
-use target_answer::UnitSpec;
+use rig_api::UnitSpec;
 
 /// A rig over an image in a store. Once an image is opened, each of its units is a device.
 #[derive(Drop)]

@@ -1,12 +1,12 @@
 //! Where units and their blocks lie in an image.
 
 ghost use Rattle.std.specs.Prelude.{◌≡◌, ◌+◌, ◌-◌, ◌*◌, ◌<◌, ◌≤◌, length, slice_index_or, true};
-ghost use Rattle.target_answer.specs.Headers.{bytes_of, is_layout};
+ghost use Rattle.rig_api.specs.Headers.{bytes_of, is_layout};
 ghost use Rattle.rig_api.specs.Telling.{has_address, no_spec};
 ghost use Rattle.image_rig.specs.LayoutPlaces.{block_place, place_of};
 
 use crate::head::unit_bytes;
-use target_answer::{UnitSpec, stored_size};
+use rig_api::{UnitSpec, stored_size};
 
 /// The byte of the image at which a unit's first block begins.
 pub fn place_of(units: &[UnitSpec], dev: usize) -> u64

@@ -6,11 +6,11 @@ ghost use Rattle.dix_base.specs.Told.{Becomes, Rose};
 ghost use Rattle.rig_api.specs.Head.{IsHeadOf, head_fault, units_of, version_in};
 ghost use Rattle.rig_api.specs.Telling.{IsMigrated, KeepsBlocks, KeepsUnits, migrated_count};
 ghost use Rattle.image_rig.specs.Heads.{head_in};
-ghost use Rattle.target_answer.specs.Image.{migrated};
+ghost use Rattle.rig_api.specs.Image.{migrated};
 
 use crate::ImageHead;
 use dix_base::{Failed, Store};
-use target_answer::{UnitSpec, Version, header};
+use rig_api::{UnitSpec, Version, header};
 
 /// Writes the header of version 2 that tells these units.
 fn write_header<S: Store>(store: &mut S, units: &[UnitSpec]) -> Result<(), Failed>

@@ -4,7 +4,7 @@ ghost use Rattle.std.specs.Prelude.{◌≡◌, ◌+◌, ◌≤◌, ◌++◌, [],
 ghost use Rattle.cdb_codec.specs.Decoded.{decoded};
 ghost use Rattle.image_rig.specs.Logs.{logged, room_in};
 ghost use Rattle.rig_api.specs.Log.{HasRoom, capacity_len, entry_of, has_key, labels_len, moved_len};
-ghost use Rattle.target_answer.specs.Requests.{blocks_of};
+ghost use Rattle.rig_api.specs.Requests.{blocks_of};
 ghost use Rattle.pi_tuple.specs.declared.TheConstants.{LARGEST_BLOCK};
 
 use crate::log::Log;

@@ -7,14 +7,13 @@ ghost use Rattle.image_rig.specs.Changes.{IsChanged, altered_by};
 ghost use Rattle.image_rig.specs.LayoutPlaces.{block_len, block_place};
 ghost use Rattle.image_rig.specs.Places.{can_change_in};
 ghost use Rattle.rig_api.specs.Telling.{source_of};
-ghost use Rattle.target_answer.specs.Headers.{image_size, is_layout};
+ghost use Rattle.rig_api.specs.Headers.{image_size, is_layout};
 
 use crate::block_place;
 use crate::place::{can_change, source_place};
 use dix_base::{Failed, Store};
 use fault_schedule::xor_into;
-use rig_api::{Change, UnitSpec};
-use target_answer::{MOST_FRAME, stored_size};
+use rig_api::{Change, MOST_FRAME, UnitSpec, stored_size};
 
 fn alter(change: &Change, block: &mut [u8])
     ensures value { block.new ≡ altered_by change.now block.old }

@@ -1,15 +1,14 @@
 //! The units behind devices, and which changes of blocks can be made.
 
 ghost use Rattle.std.specs.Prelude.{◌≡◌, ◌<◌, length, slice_index_or, true, ◌&&◌, eqb};
-ghost use Rattle.target_answer.specs.Frames.{stored_size};
-ghost use Rattle.target_answer.specs.Headers.{is_layout};
+ghost use Rattle.rig_api.specs.Frames.{stored_size};
+ghost use Rattle.rig_api.specs.Headers.{is_layout};
 ghost use Rattle.rig_api.specs.Telling.{greatest, has_address, no_spec, source_of};
 ghost use Rattle.image_rig.specs.Changes.{source_place};
 ghost use Rattle.image_rig.specs.Places.{can_change_in, logical_of};
 
 use crate::{block_place, has_address, place_of};
-use rig_api::{Change, UnitSpec};
-use target_answer::stored_size;
+use rig_api::{Change, UnitSpec, stored_size};
 use target_model::LogicalUnit;
 
 fn has_source(units: &[UnitSpec], from: usize, at: u64, unit: UnitSpec) -> bool

@@ -3,7 +3,7 @@ use Rattle.std.proofs.Common.{◌≡◌, ℕ, ◌+◌, true, List, [], ◌∷◌
 use Rattle.std.proofs.lemmas.List.{length-take, take_all, drop_at}
 use Rattle.pi_tuple.specs.declared.checks.PiType.{PiType}
 use Rattle.pi_tuple.specs.declared.checks.PiType.TheVariants.{Zero, One, Two, Three}
-use Rattle.target_answer.specs.Frames.{joined, stored_size}
+use Rattle.rig_api.specs.Frames.{joined, stored_size}
 use Rattle.target_model.specs.Served.{AllLong}
 use Rattle.image_text.specs.declared.layout.Layout.{Layout}
 use Rattle.image_text.specs.declared.layout.Layout.TheVariants.{Interleaved, Plain, Tuples}

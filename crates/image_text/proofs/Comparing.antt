@@ -6,8 +6,8 @@ use Rattle.std.specs.Prelude.{min, Result, Ok, Err}
 use Rattle.dix_base.specs.Told.{Appended, AppendedSome, HasLength, Rose}
 use Rattle.dix_base.proofs.Appending.{appended_none, appended_both}
 use Rattle.report_text.proofs.Flow.{part_first, part_second, whole_is_part}
-use Rattle.target_answer.specs.Headers.{image_size}
-use Rattle.target_answer.specs.declared.units.UnitSpec.{UnitSpec}
+use Rattle.rig_api.specs.Headers.{image_size}
+use Rattle.rig_api.specs.declared.units.UnitSpec.{UnitSpec}
 use Rattle.image_text.specs.DiffText.{compared_line, count_differ, diff_first, diff_line, diff_lines, differences, differs}
 use Rattle.image_text.specs.ShowText.{one_if}
 use Rattle.image_text.specs.declared.diff.Pair.{Pair}

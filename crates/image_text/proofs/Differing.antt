@@ -3,7 +3,7 @@ use Rattle.std.proofs.Common.{ℕ, ◌≡◌, ◌+◌, ◌-◌, ◌<◌, Bool, t
 use Rattle.std.proofs.lemmas.Bool.{or_parts}
 use Rattle.std.proofs.lemmas.Slice.Eq.{bytes_eq-Decides}
 use Rattle.std.specs.Str.{bytes_eq}
-use Rattle.target_answer.specs.Frames.{frames_of, tuple_of}
+use Rattle.rig_api.specs.Frames.{frames_of, tuple_of}
 use Rattle.image_text.specs.DiffText.{count_differ, data_alone, data_differ, diff_line, diff_lines, differences, differs, have_tuples, tuples_differ}
 use Rattle.image_text.specs.Laws.{AllAgree, BlocksAgree, NothingDiffers}
 use Rattle.image_text.specs.ShowText.{one_if}

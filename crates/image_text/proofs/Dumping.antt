@@ -5,9 +5,9 @@ use Rattle.std.specs.Prelude.{min, Result, Ok, Err}
 use Rattle.dix_base.specs.Told.{Appended, AppendedSome, HasLength}
 use Rattle.dix_base.proofs.Appending.{appended_none, appended_both}
 use Rattle.report_text.proofs.Flow.{part_first, part_second, whole_is_part}
-use Rattle.target_answer.specs.Frames.{frames_of}
-use Rattle.target_answer.specs.Headers.{image_size}
-use Rattle.target_answer.specs.declared.units.UnitSpec.{UnitSpec}
+use Rattle.rig_api.specs.Frames.{frames_of}
+use Rattle.rig_api.specs.Headers.{image_size}
+use Rattle.rig_api.specs.declared.units.UnitSpec.{UnitSpec}
 use Rattle.target_model.proofs.Bytes.{rise}
 use Rattle.image_text.proofs.Frames.{next_frame, shorter}
 use Rattle.image_blocks.specs.declared.stretch.Stretch.{Stretch}

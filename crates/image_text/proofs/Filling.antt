@@ -2,7 +2,7 @@
 use Rattle.std.proofs.Common.{◌≡◌, ℕ, ◌+◌, ◌-◌, ◌≤◌, List, ◌++◌, length, take, drop, Option, sym, subst, arith, rules, length-append}
 use Rattle.std.proofs.lemmas.List.{length-drop, length-take, places, same_lists}
 use Rattle.dix_base.specs.Told.{Took}
-use Rattle.source_text.proofs.Taking.{took_more}
+use Rattle.dix_base.proofs.Taking.{took_more}
 
 -- a part of a buffer, as long as it is
 part_long : (got : ℕ) (into : List ℕ) → got ≤ length into → length (take (length into - got) (drop got into)) ≡ length into - got

@@ -1,7 +1,7 @@
 -- Frames of one length, one behind another: the first of them, and the others.
 use Rattle.std.proofs.Common.{ℕ, suc, zero, ◌≡◌, ◌+◌, ◌-◌, ◌*◌, ◌<◌, List, ◌∷◌, length, take, drop, refl, ap, ◌∙◌, arith}
 use Rattle.std.proofs.lemmas.List.{length-drop}
-use Rattle.target_answer.specs.Frames.{frames_of}
+use Rattle.rig_api.specs.Frames.{frames_of}
 
 -- the first of some frames, and the others
 pub next_frame : (len n : ℕ) (bytes : List ℕ) → 0 < n → frames_of len n bytes ≡ take len bytes ∷ frames_of len (n - 1) (drop len bytes)

@@ -3,12 +3,12 @@ use Rattle.std.proofs.Common.{◌≡◌, ℕ, zero, suc, ◌+◌, ◌-◌, ◌*�
 use Rattle.std.specs.Prelude.{min, Err}
 use Rattle.dix_base.specs.Told.{Took}
 use Rattle.rig_api.specs.Telling.{unit_at}
-use Rattle.target_answer.specs.Frames.{joined, stored_size}
-use Rattle.target_answer.specs.Headers.{all_bytes, bytes_of}
-use Rattle.target_answer.specs.Image.{units_from, units_in}
-use Rattle.target_answer.specs.Target.{Stored}
-use Rattle.target_answer.specs.declared.units.UnitSpec.{UnitSpec}
-use Rattle.target_answer.proofs.FrameLaws.{joined_append, frames_length}
+use Rattle.rig_api.specs.Frames.{joined, stored_size}
+use Rattle.rig_api.specs.Headers.{all_bytes, bytes_of}
+use Rattle.rig_api.specs.Image.{units_from, units_in}
+use Rattle.rig_api.specs.Target.{Stored}
+use Rattle.rig_api.specs.declared.units.UnitSpec.{UnitSpec}
+use Rattle.rig_api.proofs.FrameLaws.{joined_append, frames_length}
 use Rattle.target_model.specs.Served.{AllLong}
 use Rattle.target_model.proofs.Bytes.{long_both, rise}
 use Rattle.image_rig.specs.LayoutPlaces.{block_len}
@@ -21,7 +21,7 @@ use Rattle.image_text.specs.declared.dumps_fault.ImportFault.{ImportFault}
 use Rattle.image_text.specs.declared.dumps_fault.ImportFault.TheVariants.{Short, Long, Store, Source}
 use Rattle.image_text.specs.Dumps.{imported, piece_len}
 use Rattle.image_text.specs.Ends.{ArePieces, HasTaken, IsShort, IsUnread, IsUnstored, TakingEnds, behind_pieces, imported_in}
-use Rattle.source_text.proofs.Taking.{took_more, took_none}
+use Rattle.dix_base.proofs.Taking.{took_more, took_none}
 use Rattle.image_text.proofs.Putting.{put_twice, with_none}
 
 pub length_units : (us : List UnitSpec) (b : List ℕ) → length (units_from us b) ≡ length us

@@ -7,8 +7,8 @@ use Rattle.pi_tuple.specs.declared.checks.Check.{Check}
 use Rattle.pi_tuple.specs.declared.checks.PiType.{PiType}
 use Rattle.pi_tuple.specs.declared.checks.PiType.TheVariants.{Zero, One, Two, Three}
 use Rattle.pi_scrub.specs.Faults.{all_faults, faults_from, listed, stored_checks, stored_finding}
-use Rattle.target_answer.specs.Frames.{data_of, tuple_of}
-use Rattle.target_answer.specs.Target.{Stored}
+use Rattle.rig_api.specs.Frames.{data_of, tuple_of}
+use Rattle.rig_api.specs.Target.{Stored}
 use Rattle.image_text.specs.Laws.{ShowsWhatAScrubLists, told_at, told_from, told_of_all}
 use Rattle.image_text.specs.Sights.{by_finding, verdict_of}
 use Rattle.image_text.specs.declared.sight.Verdict.TheVariants.{Escape}

@@ -2,7 +2,7 @@
 use Rattle.std.proofs.Common.{◌≡◌, ℕ, ◌+◌, ◌-◌, ◌*◌, ◌<◌, List, ◌∷◌, ◌++◌, length, take, drop, refl, sym, ap, ◌∙◌, arith, append_assoc, length-append}
 use Rattle.std.proofs.lemmas.List.{drop-drop, length-drop, drop_at}
 use Rattle.pi_tuple.specs.declared.checks.PiType.{PiType}
-use Rattle.target_answer.specs.Frames.{frames_of, joined, stored_size}
+use Rattle.rig_api.specs.Frames.{frames_of, joined, stored_size}
 use Rattle.target_model.proofs.Bytes.{front_is}
 use Rattle.image_text.specs.declared.layout.Layout.{Layout}
 use Rattle.image_text.specs.Dumps.{imported, imported_block, piece_len}

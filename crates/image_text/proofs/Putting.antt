@@ -4,9 +4,9 @@ use Rattle.std.proofs.lemmas.List.{drop-drop, get_or-set_same, length-drop, leng
 use Rattle.std.proofs.Math.Seq.{take-add}
 use Rattle.pi_tuple.specs.declared.checks.PiType.{PiType}
 use Rattle.rig_api.specs.Telling.{holding, no_unit, unit_at}
-use Rattle.target_answer.specs.Frames.{placed}
-use Rattle.target_answer.specs.Target.{Stored}
-use Rattle.target_answer.specs.declared.units.UnitSpec.{UnitSpec}
+use Rattle.rig_api.specs.Frames.{placed}
+use Rattle.rig_api.specs.Target.{Stored}
+use Rattle.rig_api.specs.declared.units.UnitSpec.{UnitSpec}
 use Rattle.image_blocks.specs.declared.stretch.Stretch.{Stretch}
 use Rattle.image_blocks.specs.Blocks.{with_stretch}
 use Rattle.image_blocks.specs.Places.{behind_in, spec_of}

@@ -7,8 +7,8 @@ use Rattle.pi_tuple.specs.declared.checks.Check.{Check}
 use Rattle.pi_tuple.specs.declared.checks.PiType.{PiType}
 use Rattle.pi_scrub.specs.Faults.{faults_from, listed, stored_finding}
 use Rattle.report_text.proofs.Flow.{part_first, part_second, whole_is_part}
-use Rattle.target_answer.specs.Headers.{image_size}
-use Rattle.target_answer.specs.declared.units.UnitSpec.{UnitSpec}
+use Rattle.rig_api.specs.Headers.{image_size}
+use Rattle.rig_api.specs.declared.units.UnitSpec.{UnitSpec}
 use Rattle.image_text.specs.ShowText.{count_bad, count_unchecked, first_line, image_text, last_line, one_if}
 use Rattle.image_text.specs.Sights.{block_text, is_unchecked, verdict_of}
 use Rattle.image_text.specs.declared.show.Tally.{Tally}

@@ -4,18 +4,18 @@ use Rattle.std.proofs.lemmas.List.{length-append}
 use Rattle.pi_scrub.specs.Faults.{faults_from, listed, stored_checks, stored_finding}
 use Rattle.pi_tuple.specs.declared.checks.Check.{Check}
 use Rattle.pi_tuple.specs.declared.checks.PiType.{PiType}
-use Rattle.target_answer.specs.Frames.{frames_of}
+use Rattle.rig_api.specs.Frames.{frames_of}
 use Rattle.image_text.proofs.Frames.{next_frame}
 use Rattle.pi_guard.specs.Guards.{crc}
 use Rattle.pi_tuple.specs.Finds.{asked_of, first_of, is_escaped}
 use Rattle.pi_tuple.specs.Tuples.{ref_tag}
 use Rattle.pi_tuple.specs.declared.checks.PiType.TheVariants.{Zero, One, Two, Three}
-use Rattle.target_answer.specs.Frames.{data_of, tuple_of}
+use Rattle.rig_api.specs.Frames.{data_of, tuple_of}
 use Rattle.image_text.specs.Sights.{block_text, by_finding, is_at_fault, is_unchecked, verdict_of}
 use Rattle.image_text.specs.declared.sight.Verdict.{Verdict}
 use Rattle.image_text.specs.declared.sight.Verdict.TheVariants.{Escape}
 use Rattle.image_text.specs.UnitText.{unit_line, unit_lines}
-use Rattle.target_answer.specs.declared.units.UnitSpec.{UnitSpec}
+use Rattle.rig_api.specs.declared.units.UnitSpec.{UnitSpec}
 use Rattle.image_text.specs.ShowText.{count_bad, count_unchecked, image_text, one_if}
 
 pub next_lines : (only_bad : Bool) (dev : ℕ) (ty : PiType) (size lba len n : ℕ) (bytes : List ℕ) → 0 < n →

@@ -6,10 +6,10 @@ use Rattle.std.specs.Prelude.{min}
 use Rattle.dix_base.specs.Told.{IsAtEnd, Took}
 use Rattle.pi_tuple.specs.declared.checks.PiType.{PiType}
 use Rattle.pi_tuple.specs.declared.checks.PiType.TheVariants.{Zero, One, Two, Three}
-use Rattle.target_answer.specs.Frames.{frames_of, joined, stored_size}
-use Rattle.target_answer.specs.Image.{units_in}
-use Rattle.target_answer.specs.declared.units.UnitSpec.{UnitSpec}
-use Rattle.target_answer.proofs.FrameLaws.{frames_length}
+use Rattle.rig_api.specs.Frames.{frames_of, joined, stored_size}
+use Rattle.rig_api.specs.Image.{units_in}
+use Rattle.rig_api.specs.declared.units.UnitSpec.{UnitSpec}
+use Rattle.rig_api.proofs.FrameLaws.{frames_length}
 use Rattle.target_model.specs.Served.{AllLong}
 use Rattle.target_model.proofs.Bytes.{frames_back, joined_frames, long_frames}
 use Rattle.image_rig.specs.LayoutPlaces.{block_len, block_place}

@@ -1,7 +1,7 @@
 use Rattle.std.specs.Prelude.{ℕ, ◌≡◌, List, Option, Result, Ok, Err}
 use Rattle.dix_base.specs.Told.{Appended, AppendedSome, Rose}
-use Rattle.target_answer.specs.Headers.{image_size}
-use Rattle.target_answer.specs.declared.units.UnitSpec.{UnitSpec}
+use Rattle.rig_api.specs.Headers.{image_size}
+use Rattle.rig_api.specs.declared.units.UnitSpec.{UnitSpec}
 use Rattle.image_text.specs.DiffText.{count_differ, diff_lines, diff_text}
 use Rattle.image_text.specs.declared.diff.Pair.{Pair}
 use Rattle.image_blocks.specs.declared.stretch.Stretch.{Stretch}

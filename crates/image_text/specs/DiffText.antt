@@ -4,7 +4,7 @@ use Rattle.pi_tuple.specs.Finds.{has_ref_tag, is_zero}
 use Rattle.pi_tuple.specs.Tuples.{ref_tag}
 use Rattle.pi_tuple.specs.declared.checks.PiType.{PiType}
 use Rattle.pi_tuple.specs.declared.tuple.Tuple.{Tuple}
-use Rattle.target_answer.specs.Frames.{data_of, tuple_of}
+use Rattle.rig_api.specs.Frames.{data_of, tuple_of}
 use Rattle.image_text.specs.ShowText.{one_if}
 use Rattle.image_text.specs.declared.diff.WhatDiffers.{WhatDiffers}
 use Rattle.image_text.specs.declared.diff.Pair.{Pair}

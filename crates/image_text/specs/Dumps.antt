@@ -1,8 +1,8 @@
 use Rattle.std.specs.Prelude.{ℕ, ◌+◌, Bool, true, false, List, [], ◌∷◌, ◌++◌, drop}
 use Rattle.pi_tuple.specs.declared.checks.PiType.{PiType}
 use Rattle.pi_tuple.specs.declared.checks.PiType.TheVariants.{Zero, One, Two, Three}
-use Rattle.target_answer.specs.Frames.{data_of, stored_size}
-use Rattle.target_answer.specs.Passing.{with_own_tuple}
+use Rattle.rig_api.specs.Frames.{data_of, stored_size}
+use Rattle.rig_api.specs.Passing.{with_own_tuple}
 use Rattle.image_text.specs.declared.layout.Layout.{Layout}
 use Rattle.image_text.specs.declared.layout.Layout.TheVariants.{Interleaved, Plain, Tuples}
 use Rattle.pi_tuple.specs.declared.TheConstants.{TUPLE}

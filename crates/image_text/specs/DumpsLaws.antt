@@ -1,6 +1,6 @@
 use Rattle.std.specs.Prelude.{ℕ, ◌≡◌, true, List, length}
 use Rattle.pi_tuple.specs.declared.checks.PiType.{PiType}
-use Rattle.target_answer.specs.Frames.{joined, stored_size}
+use Rattle.rig_api.specs.Frames.{joined, stored_size}
 use Rattle.target_model.specs.Served.{AllLong}
 use Rattle.image_text.specs.declared.layout.Layout.{Layout}
 use Rattle.image_text.specs.Dumps.{dump_of, fits, imported, piece_len}

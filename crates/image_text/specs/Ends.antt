@@ -1,10 +1,10 @@
 use Rattle.std.specs.Prelude.{ℕ, ◌≡◌, ◌+◌, ◌*◌, ◌<◌, ◌≤◌, true, List, [], ◌∷◌, ◌++◌, length, Option, Result, Ok, Err}
 use Rattle.dix_base.specs.Told.{Apart, Appended, AppendedSome, Becomes, IsAtEnd, Rose, Took}
-use Rattle.target_answer.specs.Frames.{joined}
-use Rattle.target_answer.specs.Headers.{image_size}
-use Rattle.target_answer.specs.Image.{units_in}
-use Rattle.target_answer.specs.Target.{Stored}
-use Rattle.target_answer.specs.declared.units.UnitSpec.{UnitSpec}
+use Rattle.rig_api.specs.Frames.{joined}
+use Rattle.rig_api.specs.Headers.{image_size}
+use Rattle.rig_api.specs.Image.{units_in}
+use Rattle.rig_api.specs.Target.{Stored}
+use Rattle.rig_api.specs.declared.units.UnitSpec.{UnitSpec}
 use Rattle.target_model.specs.Served.{AllLong}
 use Rattle.image_rig.specs.LayoutPlaces.{block_len, block_place}
 use Rattle.image_blocks.specs.declared.stretch.Stretch.{Stretch}

@@ -4,8 +4,8 @@ use Rattle.pi_scrub.specs.Faults.{all_faults}
 use Rattle.pi_scrub.specs.declared.found.Found.{Found}
 use Rattle.pi_tuple.specs.declared.checks.PiType.{PiType}
 use Rattle.pi_tuple.specs.declared.tuple.Tuple.{Tuple}
-use Rattle.target_answer.specs.Frames.{data_of, tuple_of}
-use Rattle.target_answer.specs.Target.{Stored}
+use Rattle.rig_api.specs.Frames.{data_of, tuple_of}
+use Rattle.rig_api.specs.Target.{Stored}
 use Rattle.image_text.specs.DiffText.{count_differ, counted_tag, have_tuples}
 use Rattle.image_text.specs.declared.diff.Pair.{Pair}
 use Rattle.image_text.specs.Sights.{verdict_of}

@@ -1,6 +1,6 @@
 use Rattle.std.specs.Prelude.{ℕ, ◌≡◌, ◌+◌, Bool, List, Option, Result, Ok, Err}
 use Rattle.dix_base.specs.Told.{Appended, AppendedSome, Rose}
-use Rattle.target_answer.specs.declared.units.UnitSpec.{UnitSpec}
+use Rattle.rig_api.specs.declared.units.UnitSpec.{UnitSpec}
 use Rattle.image_text.specs.ShowText.{count_bad, count_unchecked, image_text, show_text}
 use Rattle.image_text.specs.declared.show.Tally.{Tally}
 use Rattle.image_blocks.specs.declared.stretch.Stretch.{Stretch}

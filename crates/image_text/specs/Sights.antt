@@ -9,8 +9,8 @@ use Rattle.pi_tuple.specs.declared.checks.PiType.{PiType}
 use Rattle.pi_tuple.specs.declared.tuple.Tuple.{Tuple}
 use Rattle.pi_scrub.specs.Faults.{stored_checks, stored_finding}
 use Rattle.report_text.specs.Report.{check_text}
-use Rattle.target_answer.specs.Frames.{data_of, tuple_of}
-use Rattle.target_answer.specs.Passing.{is_one}
+use Rattle.rig_api.specs.Frames.{data_of, tuple_of}
+use Rattle.rig_api.specs.Passing.{is_one}
 use Rattle.image_text.specs.declared.sight.Verdict.{Verdict}
 use Rattle.image_text.specs.declared.sight.Verdict.TheVariants.{NoTuple, Escape, AtFault, Good}
 

@@ -1,13 +1,13 @@
 //! The stored blocks of a place, line by line.
 
 ghost use Rattle.std.specs.Prelude.{◌≡◌, ◌+◌, ◌*◌, ◌^◌, ◌<◌, ◌≤◌, length, OnOk, Err};
-ghost use Rattle.target_answer.specs.Headers.{image_size};
+ghost use Rattle.rig_api.specs.Headers.{image_size};
 ghost use Rattle.image_rig.specs.LayoutPlaces.{block_len};
 ghost use Rattle.image_blocks.specs.Images.{units_open};
 ghost use Rattle.image_blocks.specs.Places.{IsStretch};
 ghost use Rattle.dix_base.specs.Stores.{WasRead};
 ghost use Rattle.image_text.specs.Shown.{ShowEnds, both, lines_of, text_of};
-ghost use Rattle.target_answer.specs.declared.TheConstants.{MOST_FRAME};
+ghost use Rattle.rig_api.specs.declared.TheConstants.{MOST_FRAME};
 
 use crate::{Tally, write_blocks, write_first, write_last};
 use dix_base::{Failed, Sink, Store};

@@ -3,7 +3,7 @@
 ghost use Rattle.std.specs.Prelude.{◌≡◌, ◌+◌, ◌*◌, ◌^◌, ◌<◌, ◌≤◌, ◌++◌, true, IfOk, length};
 ghost use Rattle.pi_tuple.specs.Tuples.{tuple_in};
 ghost use Rattle.report_text.specs.Writing.{Wrote};
-ghost use Rattle.target_answer.specs.Frames.{frames_of, stored_size};
+ghost use Rattle.rig_api.specs.Frames.{frames_of, stored_size};
 ghost use Rattle.image_text.specs.DiffText.{compared_line, content_text, count_differ, counted_tag, counted_text, diff_first, diff_line, diff_lines, differences, differs, field_text, fields_text, have_tuples, line_of, side_text, tuples_differ, values_text, what_text};
 
 use crate::line::add_hex;
@@ -13,7 +13,7 @@ use crate::unlike::{Unlike, unlike_of};
 use dix_base::{Failed, Sink};
 use pi_tuple::{PiType, Tuple, has_ref_tag, ref_tag};
 use report_text::{Line, add, add_number, write_all};
-use target_answer::UnitSpec;
+use rig_api::UnitSpec;
 
 /// Two units whose blocks are compared, with their numbers.
 #[derive(Clone, Copy)]

@@ -6,7 +6,7 @@ ghost use Rattle.image_blocks.specs.Images.{units_open};
 ghost use Rattle.image_blocks.specs.Places.{IsStretch};
 ghost use Rattle.dix_base.specs.Stores.{WasRead};
 ghost use Rattle.image_text.specs.Compared.{CanCompare, DiffEnds, counts, lines_of, pair_of, places, diff_of};
-ghost use Rattle.target_answer.specs.declared.TheConstants.{MOST_FRAME};
+ghost use Rattle.rig_api.specs.declared.TheConstants.{MOST_FRAME};
 
 use crate::fault::DiffFault;
 use crate::{Pair, write_compared, write_diff_first, write_differences};

@@ -2,15 +2,15 @@
 
 ghost use Rattle.std.specs.Prelude.{◌≡◌, ◌*◌, ◌≤◌, length, Err};
 ghost use Rattle.report_text.specs.Writing.{Wrote};
-ghost use Rattle.target_answer.specs.Frames.{frames_of, stored_size};
-ghost use Rattle.target_answer.specs.Headers.{image_size};
+ghost use Rattle.rig_api.specs.Frames.{frames_of, stored_size};
+ghost use Rattle.rig_api.specs.Headers.{image_size};
 ghost use Rattle.image_rig.specs.LayoutPlaces.{block_len};
 ghost use Rattle.image_blocks.specs.Images.{units_open};
 ghost use Rattle.image_blocks.specs.Places.{IsStretch};
 ghost use Rattle.dix_base.specs.Stores.{WasRead};
 ghost use Rattle.image_text.specs.Dumps.{dump_of, piece_of};
 ghost use Rattle.image_text.specs.Ends.{DumpEnds};
-ghost use Rattle.target_answer.specs.declared.TheConstants.{MOST_FRAME};
+ghost use Rattle.rig_api.specs.declared.TheConstants.{MOST_FRAME};
 
 use crate::layout::{Layout, stored_len};
 use dix_base::{Failed, Sink, Store};
@@ -18,7 +18,7 @@ use image_blocks::{
     Image, Stretch, WalkFault, behind_of, block_bytes, blocks_in, front_of, read_blocks,
 };
 use report_text::write_all;
-use target_answer::UnitSpec;
+use rig_api::UnitSpec;
 
 /// The piece of a stored block.
 fn piece_of(layout: Layout, unit: UnitSpec, block: &[u8]) -> &[u8]

@@ -1,11 +1,11 @@
 //! What of each block a dump holds.
 
 ghost use Rattle.std.specs.Prelude.{◌≡◌};
-ghost use Rattle.target_answer.specs.Frames.{stored_size};
+ghost use Rattle.rig_api.specs.Frames.{stored_size};
 ghost use Rattle.image_text.specs.Dumps.{fits, piece_len};
 
 use pi_tuple::{PiType, TUPLE};
-use target_answer::{UnitSpec, stored_size};
+use rig_api::{UnitSpec, stored_size};
 
 /// What of each block a dump holds.
 #[derive(Clone, Copy, Debug, PartialEq, Eq)]

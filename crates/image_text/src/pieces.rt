@@ -2,15 +2,15 @@
 
 ghost use Rattle.std.specs.Prelude.{◌≡◌, ◌+◌, ◌*◌, ◌^◌, ◌<◌, ◌≤◌, IfOk, List, OnErr, OnOk, ℕ, length, take, true};
 ghost use Rattle.dix_base.specs.Told.{IsAtEnd, Rose, Took};
-ghost use Rattle.target_answer.specs.Frames.{frames_of, joined, stored_size};
-ghost use Rattle.target_answer.specs.Passing.{with_own_tuple};
+ghost use Rattle.rig_api.specs.Frames.{frames_of, joined, stored_size};
+ghost use Rattle.rig_api.specs.Passing.{with_own_tuple};
 ghost use Rattle.image_text.specs.Dumps.{fits, imported, imported_block, piece_len};
 
 use crate::layout::{Layout, piece_len, stored_len};
 use dix_base::{Failed, Source};
 use pi_guard::crc16;
 use pi_tuple::{PiType, make, own_tag};
-use target_answer::{UnitSpec, put_tuple};
+use rig_api::{UnitSpec, put_tuple};
 
 /// Takes bytes until `into` is full or the source at its end, and says how many came.
 pub(crate) fn fill<S: Source>(source: &mut S, into: &mut [u8]) -> Result<usize, Failed>

@@ -2,14 +2,14 @@
 
 ghost use Rattle.std.specs.Prelude.{◌≡◌, ◌+◌, ◌*◌, ◌^◌, ◌<◌, IfOk, length};
 ghost use Rattle.report_text.specs.Writing.{Wrote};
-ghost use Rattle.target_answer.specs.Frames.{frames_of, stored_size};
+ghost use Rattle.rig_api.specs.Frames.{frames_of, stored_size};
 ghost use Rattle.image_text.specs.ShowText.{count_bad, count_unchecked, first_line, image_text, last_line, one_if};
 ghost use Rattle.image_text.specs.Sights.{block_text, is_at_fault, is_unchecked, verdict_of};
 
 use crate::sight::{Verdict, add_block, is_at_fault, is_unchecked};
 use dix_base::{Failed, Sink};
 use report_text::{Line, add, add_number, write_all};
-use target_answer::{UnitSpec, stored_size};
+use rig_api::{UnitSpec, stored_size};
 
 /// How many blocks are at fault, and how many aren't checked.
 #[derive(Clone, Copy, Debug, PartialEq, Eq)]

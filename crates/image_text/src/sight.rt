@@ -4,15 +4,15 @@ ghost use Rattle.std.specs.Prelude.{◌≡◌, ◌+◌, ◌≤◌, ◌++◌, len
 ghost use Rattle.pi_tuple.specs.Finds.{is_zero};
 ghost use Rattle.pi_tuple.specs.Tuples.{tuple_in};
 ghost use Rattle.pi_guard.specs.Guards.{crc};
-ghost use Rattle.target_answer.specs.Frames.{data_of, stored_size, tuple_of};
-ghost use Rattle.target_answer.specs.Passing.{is_one};
+ghost use Rattle.rig_api.specs.Frames.{data_of, stored_size, tuple_of};
+ghost use Rattle.rig_api.specs.Passing.{is_one};
 ghost use Rattle.image_text.specs.Sights.{block_line, have_text, is_at_fault, is_unchecked, ref_text, sight_text, tuple_text, verdict_by, verdict_of, verdict_text, want_text};
 
 use crate::line::add_hex;
 use pi_guard::crc16;
 use pi_tuple::{Check, Checks, PiType, TUPLE, Tuple, finds, is_escape, ref_tag};
 use report_text::{Line, add, add_number};
-use target_answer::UnitSpec;
+use rig_api::UnitSpec;
 
 /// What is found of a stored block.
 #[derive(Clone, Copy, Debug, PartialEq, Eq)]

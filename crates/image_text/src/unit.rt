@@ -2,14 +2,14 @@
 
 ghost use Rattle.std.specs.Prelude.{◌≡◌, ◌+◌, ◌≤◌, ◌++◌, length};
 ghost use Rattle.report_text.specs.Writing.{Wrote};
-ghost use Rattle.target_answer.specs.Headers.{number_of};
+ghost use Rattle.rig_api.specs.Headers.{number_of};
 ghost use Rattle.image_text.specs.UnitText.{unit_line, unit_lines, unit_word, units_text};
 
 use crate::show::write_first;
 use dix_base::{Failed, Sink};
 use pi_tuple::PiType;
 use report_text::{Line, add, add_number, write_all};
-use target_answer::UnitSpec;
+use rig_api::UnitSpec;
 
 fn number_of(ty: PiType) -> u64
     ensures { result ≡ number_of ty }

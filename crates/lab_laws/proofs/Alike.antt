@@ -10,8 +10,8 @@ use Rattle.bio_core.specs.declared.fate.Why.TheVariants as why
 use Rattle.stack_ops.specs.declared.reply.BadBlock.{BadBlock}
 use Rattle.stack_ops.specs.declared.reply.Reply.{Reply}
 use Rattle.stack_ops.specs.declared.reply.Reply.TheVariants as reply
-use Rattle.target_answer.specs.Image.{units_from}
-use Rattle.target_answer.specs.declared.units.UnitSpec.{UnitSpec}
+use Rattle.rig_api.specs.Image.{units_from}
+use Rattle.rig_api.specs.declared.units.UnitSpec.{UnitSpec}
 use Rattle.script_laws.specs.Keeping.{Each}
 use Rattle.flip_sweep.specs.Comes.{CameTo}
 use Rattle.flip_sweep.specs.Verdicts.{are_same_blocks, are_same_replies, first_spoilt, is_same, is_same_block, is_same_check, is_same_reply, is_same_why, verdict_of}

@@ -13,7 +13,7 @@ use Rattle.fault_schedule.specs.Altered.{named}
 use Rattle.fault_schedule.specs.declared.fault.Crossing.TheVariants.{AdapterToHost, MediumToTarget, TargetToAdapter, TargetToMedium}
 use Rattle.fault_schedule.specs.declared.fault.FaultLine.{FaultLine}
 use Rattle.integrity_payload.specs.declared.payload.Owner.{Owner}
-use Rattle.target_answer.specs.Frames.{data_of, frame_of, tuple_of}
+use Rattle.rig_api.specs.Frames.{data_of, frame_of, tuple_of}
 use Rattle.block_path.specs.WayIn.{WayIn, adapter_finds_in, mapped_back, owner_finds, owner_says, received, way_in}
 use Rattle.walk_laws.specs.Detectable.{bears, crossed}
 use Rattle.walk_laws.specs.Settings.{Block, Setting, route}

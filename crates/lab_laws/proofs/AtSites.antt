@@ -9,7 +9,7 @@ use Rattle.integrity_payload.specs.declared.payload.Owner.TheVariants.{Block as 
 use Rattle.page_pool.specs.declared.segs.Seg.{Seg}
 use Rattle.stack_ops.specs.declared.op.Op.{Op}
 use Rattle.stack_ops.specs.declared.op.Op.TheVariants.{Fetch, FetchPi, Fill, Overwrite, Put, Seal, Show, Wait, Write, WritePi}
-use Rattle.target_answer.specs.declared.units.UnitSpec.{UnitSpec}
+use Rattle.rig_api.specs.declared.units.UnitSpec.{UnitSpec}
 use Rattle.volume_table.specs.Places.{place_in, volume_len}
 use Rattle.block_path.specs.Acts.{State}
 use Rattle.walk_laws.specs.CalmRun.{AllFit, Fits, LiesInImage}

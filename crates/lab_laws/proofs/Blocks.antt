@@ -9,8 +9,8 @@ use Rattle.pi_tuple.specs.declared.checks.PiType.{PiType}
 use Rattle.pi_tuple.specs.declared.checks.PiType.TheVariants.{Zero, One, Two, Three}
 use Rattle.pi_tuple.specs.declared.tuple.Tuple.{Tuple}
 use Rattle.pi_tuple.proofs.TupleLaws.{own_below, own_is}
-use Rattle.target_answer.specs.Frames.{frame_of}
-use Rattle.target_answer.specs.Passing.{with_own_tuple}
+use Rattle.rig_api.specs.Frames.{frame_of}
+use Rattle.rig_api.specs.Passing.{with_own_tuple}
 use Rattle.walk_laws.specs.PlainMap.{as_expected}
 use Rattle.walk_laws.specs.UnderMap.{IsClean}
 use Rattle.walk_laws.proofs.TupleFrames.{Small, data_is, tuple_is}

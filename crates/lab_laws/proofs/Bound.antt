@@ -10,9 +10,9 @@ use Rattle.fault_schedule.specs.declared.fault.FaultKind.TheVariants.{Flip}
 use Rattle.fault_schedule.specs.declared.fault.FaultLine.{FaultLine}
 use Rattle.stack_ops.specs.declared.op.Op.{Op}
 use Rattle.stack_ops.specs.Ops.{is_overwrite}
-use Rattle.target_answer.specs.Frames.{tuple_of}
-use Rattle.target_answer.specs.Image.{formatted}
-use Rattle.target_answer.specs.Target.{Stored}
+use Rattle.rig_api.specs.Frames.{tuple_of}
+use Rattle.rig_api.specs.Image.{formatted}
+use Rattle.rig_api.specs.Target.{Stored}
 use Rattle.rig_api.specs.Telling.{own_units}
 use Rattle.rig_discovery.specs.Discovery.{Ends, info_of}
 use Rattle.volume_table.specs.Places.{place_in, volume_len}

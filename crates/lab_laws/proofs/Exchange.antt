@@ -1,7 +1,7 @@
 -- What one exchange with a unit that is told puts on record is the unit's answer, as it is put again by its vector.
 use Rattle.std.proofs.Common.{ℕ, List, [], replicate, Some, None, sym, ap, ◌∙◌}
-use Rattle.target_answer.specs.Frames.{joined}
-use Rattle.target_answer.specs.Target.{Answer}
+use Rattle.rig_api.specs.Frames.{joined}
+use Rattle.rig_api.specs.Target.{Answer}
 use Rattle.rig_api.specs.Log.{moved_of}
 use Rattle.rig_api.specs.Telling.{answer_of, at_front, with_blocks}
 use Rattle.record_laws.specs.Answered.{room_of}

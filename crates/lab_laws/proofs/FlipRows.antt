@@ -5,9 +5,9 @@ use Rattle.hex.specs.Hex.{decode_pairs}
 use Rattle.pi_guard.specs.declared.GuardKind.TheVariants.{Crc}
 use Rattle.pi_tuple.specs.declared.checks.PiType.TheVariants.{One}
 use Rattle.stack_ops.specs.declared.op.Op.TheVariants.{Fetch, Fill, Write}
-use Rattle.target_answer.specs.Headers.{is_layout}
-use Rattle.target_answer.specs.Image.{formatted}
-use Rattle.target_answer.specs.declared.units.UnitSpec.{UnitSpec}
+use Rattle.rig_api.specs.Headers.{is_layout}
+use Rattle.rig_api.specs.Image.{formatted}
+use Rattle.rig_api.specs.declared.units.UnitSpec.{UnitSpec}
 use Rattle.rig_discovery.specs.Discovery.{info_of}
 use Rattle.volume_table.specs.Faults.{table_fault}
 use Rattle.volume_table.specs.declared.device.DeviceInfo.{DeviceInfo}

@@ -19,7 +19,7 @@ use Rattle.integrity_payload.specs.Payloads.{all_asked}
 use Rattle.fault_schedule.specs.Altered.{xored_from}
 use Rattle.fault_schedule.proofs.Xored.{get-xored, length-xored}
 use Rattle.guard_laws.proofs.Flips.{xor_kept}
-use Rattle.target_answer.specs.Frames.{data_of, tuple_of}
+use Rattle.rig_api.specs.Frames.{data_of, tuple_of}
 use Rattle.block_path.proofs.Cells.{AllBelow}
 use Rattle.walk_laws.proofs.TupleFrames.{below_at, below_drop, below_replicate, below_take, spelled}
 use Rattle.run_laws.proofs.Found.{bears_both, expected, passed}

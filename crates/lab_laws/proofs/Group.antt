@@ -12,8 +12,8 @@ use Rattle.fault_schedule.specs.declared.fault.Crossing.TheVariants.{AdapterToTa
 use Rattle.fault_schedule.specs.declared.fault.FaultLine.{FaultLine}
 use Rattle.bio_core.specs.Bios.{Block}
 use Rattle.bio_core.specs.declared.request.Io.{Io}
-use Rattle.target_answer.specs.Frames.{joined}
-use Rattle.target_answer.specs.Passing.{to_medium}
+use Rattle.rig_api.specs.Frames.{joined}
+use Rattle.rig_api.specs.Passing.{to_medium}
 use Rattle.block_path.specs.declared.route.Route.{Route}
 use Rattle.block_path.specs.Routes.{by_target, passage, target}
 use Rattle.block_path.specs.WayOut.{WayOut, at_device, from_adapter, to_wire}

@@ -13,7 +13,7 @@ use Rattle.fault_schedule.specs.declared.fault.FaultLine.{FaultLine}
 use Rattle.integrity_payload.specs.declared.payload.Owner.{Owner}
 use Rattle.integrity_payload.specs.Payloads.{all_asked}
 use Rattle.bio_core.specs.declared.fate.Why.{Why}
-use Rattle.target_answer.specs.Frames.{data_of, tuple_of}
+use Rattle.rig_api.specs.Frames.{data_of, tuple_of}
 use Rattle.volume_table.specs.Places.{place_in, volume_len}
 use Rattle.block_path.specs.Acts.{State, act, tell}
 use Rattle.block_path.specs.Blocks.{fetched_cell, own_cell, own_frame, stored_cell, tuple_after, written_by}

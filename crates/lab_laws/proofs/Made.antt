@@ -8,14 +8,14 @@ use Rattle.std.specs.List.{list_all}
 use Rattle.pi_tuple.specs.Finds.{is_zero, own_tag}
 use Rattle.pi_tuple.specs.declared.checks.PiType.{PiType}
 use Rattle.pi_tuple.specs.declared.checks.PiType.TheVariants.{Zero, One, Two, Three}
-use Rattle.target_answer.specs.Frames.{frame_of, placed, stored_size}
-use Rattle.target_answer.specs.Headers.{all_bytes, is_spec}
-use Rattle.target_answer.specs.Image.{fresh, fresh_from, units_in}
-use Rattle.target_answer.specs.Passing.{with_own_tuple}
-use Rattle.target_answer.specs.Target.{Stored}
-use Rattle.target_answer.specs.declared.units.UnitSpec.{UnitSpec}
-use Rattle.target_answer.proofs.FreshBlocks.{fresh_many}
-use Rattle.target_answer.proofs.FrameLaws.{frames_length}
+use Rattle.rig_api.specs.Frames.{frame_of, placed, stored_size}
+use Rattle.rig_api.specs.Headers.{all_bytes, is_spec}
+use Rattle.rig_api.specs.Image.{fresh, fresh_from, units_in}
+use Rattle.rig_api.specs.Passing.{with_own_tuple}
+use Rattle.rig_api.specs.Target.{Stored}
+use Rattle.rig_api.specs.declared.units.UnitSpec.{UnitSpec}
+use Rattle.rig_api.proofs.FreshBlocks.{fresh_many}
+use Rattle.rig_api.proofs.FrameLaws.{frames_length}
 use Rattle.target_model.specs.Served.{AllLong}
 use Rattle.rig_api.specs.Head.{head_of, units_of}
 use Rattle.rig_api.specs.Telling.{holding, no_unit, own_units, unit_at}

@@ -5,8 +5,8 @@ use Rattle.std.proofs.lemmas.Bool.{and_parts, false≢true}
 use Rattle.integrity_payload.specs.declared.payload.Owner.TheVariants.{Block as OfBlock, App as OfApp}
 use Rattle.stack_ops.specs.declared.op.Op.{Op}
 use Rattle.stack_ops.specs.declared.op.Op.TheVariants.{Fetch, FetchPi, Fill, Overwrite, Put, Seal, Show, Wait, Write, WritePi}
-use Rattle.target_answer.specs.Image.{formatted}
-use Rattle.target_answer.specs.Target.{Stored}
+use Rattle.rig_api.specs.Image.{formatted}
+use Rattle.rig_api.specs.Target.{Stored}
 use Rattle.rig_api.specs.Telling.{own_units}
 use Rattle.rig_discovery.specs.Discovery.{info_of}
 use Rattle.volume_table.specs.Places.{place_in, volume_len}

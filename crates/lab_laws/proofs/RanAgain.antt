@@ -8,13 +8,13 @@ use Rattle.dix_base.specs.Told.{Calm}
 use Rattle.cdb_codec.specs.Decoded.{decoded}
 use Rattle.cdb_codec.specs.declared.command.Cdb.{Cdb}
 use Rattle.cdb_codec.specs.declared.command.CdbFault.{CdbFault}
-use Rattle.target_answer.specs.Frames.{joined, sent_size}
-use Rattle.target_answer.specs.Image.{units_in}
-use Rattle.target_answer.specs.Requests.{request_of}
-use Rattle.target_answer.specs.declared.request.Request.{Request}
-use Rattle.target_answer.specs.declared.request.Request.TheVariants.{Read, ReadCapacity, Verify, Write}
-use Rattle.target_answer.specs.declared.units.UnitSpec.{UnitSpec}
-use Rattle.target_answer.specs.Target.{Answer, Stored}
+use Rattle.rig_api.specs.Frames.{joined, sent_size}
+use Rattle.rig_api.specs.Image.{units_in}
+use Rattle.rig_api.specs.Requests.{request_of}
+use Rattle.rig_api.specs.declared.request.Request.{Request}
+use Rattle.rig_api.specs.declared.request.Request.TheVariants.{Read, ReadCapacity, Verify, Write}
+use Rattle.rig_api.specs.declared.units.UnitSpec.{UnitSpec}
+use Rattle.rig_api.specs.Target.{Answer, Stored}
 use Rattle.rig_api.specs.Head.{IsHeadOf, head_of, units_of}
 use Rattle.rig_api.specs.Log.{LogEntry, entry_of, moved_by, moved_of, moved_under}
 use Rattle.rig_api.specs.State.{RigState}
@@ -26,7 +26,7 @@ use Rattle.image_laws.proofs.Passed.{known_from}
 use Rattle.stack_core.specs.Mediums.{medium_lines}
 use Rattle.stack_core.proofs.NoMedium.{none_named}
 use Rattle.script_text.specs.declared.script.Script.{Script}
-use Rattle.source_text.specs.Reading.{most_bytes}
+use Rattle.dix_base.specs.Reading.{most_bytes}
 use Rattle.image_laws.specs.Passed.{Facts, HasRun, Finished}
 use Rattle.vector_lines.specs.Printed.{is_sender, out_of, sends}
 use Rattle.vector_lines.specs.Texts.{list_in}

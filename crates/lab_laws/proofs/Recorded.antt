@@ -16,10 +16,10 @@ use Rattle.cdb_codec.specs.Decoded.{decoded}
 use Rattle.cdb_codec.specs.declared.command.Cdb.{Cdb}
 use Rattle.cdb_codec.specs.declared.command.CdbFault.{CdbFault}
 use Rattle.cdb_codec.specs.declared.command.Rw.{Rw}
-use Rattle.target_answer.specs.Frames.{frames_of, sent_size}
-use Rattle.target_answer.specs.Requests.{request_of}
-use Rattle.target_answer.specs.declared.request.Request.{Request}
-use Rattle.target_answer.specs.declared.request.Request.TheVariants.{Read, ReadCapacity, Verify, Write}
+use Rattle.rig_api.specs.Frames.{frames_of, sent_size}
+use Rattle.rig_api.specs.Requests.{request_of}
+use Rattle.rig_api.specs.declared.request.Request.{Request}
+use Rattle.rig_api.specs.declared.request.Request.TheVariants.{Read, ReadCapacity, Verify, Write}
 use Rattle.rig_api.specs.Log.{LogEntry}
 use Rattle.stack_ops.specs.declared.op.Op.{Op}
 use Rattle.stack_ops.specs.declared.reply.BadBlock.{BadBlock}

@@ -8,13 +8,13 @@ use Rattle.fault_schedule.specs.declared.fault.Crossing.TheVariants.{AdapterToTa
 use Rattle.cdb_codec.specs.Decoded.{decoded}
 use Rattle.cdb_codec.specs.declared.command.Cdb.{Cdb}
 use Rattle.cdb_codec.specs.declared.command.CdbFault.{CdbFault}
-use Rattle.target_answer.specs.Frames.{frames_of, joined, sent_size}
-use Rattle.target_answer.specs.Passing.{accepted, crossed, found_in, from_medium, released, to_medium}
-use Rattle.target_answer.specs.Requests.{request_of}
-use Rattle.target_answer.specs.declared.passage.Passage.{Passage}
-use Rattle.target_answer.specs.declared.request.Request.{Request}
-use Rattle.target_answer.specs.declared.request.Request.TheVariants.{Read, ReadCapacity, Verify, Write}
-use Rattle.target_answer.specs.Target.{Answer, Stored, answer_unless, carried_out, each, medium_address, passage, read_end, refusal, refusals_of, sending, shape_of, stored_from, storing, target_answer, wire_address, write_end, first_of}
+use Rattle.rig_api.specs.Frames.{frames_of, joined, sent_size}
+use Rattle.rig_api.specs.Passing.{accepted, crossed, found_in, from_medium, released, to_medium}
+use Rattle.rig_api.specs.Requests.{request_of}
+use Rattle.rig_api.specs.declared.passage.Passage.{Passage}
+use Rattle.rig_api.specs.declared.request.Request.{Request}
+use Rattle.rig_api.specs.declared.request.Request.TheVariants.{Read, ReadCapacity, Verify, Write}
+use Rattle.rig_api.specs.Target.{Answer, Stored, answer_unless, carried_out, each, medium_address, passage, read_end, refusal, refusals_of, sending, shape_of, stored_from, storing, target_answer, wire_address, write_end, first_of}
 use Rattle.rig_api.specs.Log.{LogEntry, moved_of}
 use Rattle.rig_api.specs.Telling.{Standing, at_front, spec_at, unit_at, with_blocks}
 use Rattle.rig_api.specs.declared.rig.Outcome.{Outcome}

@@ -4,12 +4,12 @@ use Rattle.std.proofs.lemmas.List.{drop-set-add, drop_at, get_or-drop, get_or-ta
 use Rattle.pi_tuple.specs.declared.checks.Check.{Check}
 use Rattle.pi_tuple.specs.declared.checks.PiType.{PiType}
 use Rattle.pi_scrub.specs.Faults.{stored_finding}
-use Rattle.target_answer.specs.Frames.{frames_of, joined, stored_size}
-use Rattle.target_answer.specs.Headers.{bytes_of}
-use Rattle.target_answer.specs.Image.{units_from}
-use Rattle.target_answer.specs.Target.{Stored}
-use Rattle.target_answer.specs.declared.units.UnitSpec.{UnitSpec}
-use Rattle.target_answer.proofs.FrameLaws.{joined_append}
+use Rattle.rig_api.specs.Frames.{frames_of, joined, stored_size}
+use Rattle.rig_api.specs.Headers.{bytes_of}
+use Rattle.rig_api.specs.Image.{units_from}
+use Rattle.rig_api.specs.Target.{Stored}
+use Rattle.rig_api.specs.declared.units.UnitSpec.{UnitSpec}
+use Rattle.rig_api.proofs.FrameLaws.{joined_append}
 use Rattle.rig_discovery.specs.Discovery.{info_of}
 use Rattle.volume_table.specs.Tables.{IsOn}
 use Rattle.dix_adapter.specs.Ways.{cell_in}

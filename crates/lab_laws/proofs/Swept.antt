@@ -9,8 +9,8 @@ use Rattle.stack_ops.specs.declared.op.Op.TheVariants.{Fetch, FetchPi, Fill, Ove
 use Rattle.script_lines.specs.declared.line.Spot.{Spot}
 use Rattle.script_lines.specs.declared.line.Spot.TheVariants.{Host, Wire, Medium}
 use Rattle.bio_core.specs.declared.fate.Why.{Why}
-use Rattle.target_answer.specs.Image.{formatted}
-use Rattle.target_answer.specs.Target.{Stored}
+use Rattle.rig_api.specs.Image.{formatted}
+use Rattle.rig_api.specs.Target.{Stored}
 use Rattle.rig_api.specs.Telling.{own_units}
 use Rattle.volume_table.specs.Places.{place_in, volume_len}
 use Rattle.dix_adapter.specs.Ways.{blocks_told}

@@ -20,9 +20,9 @@ use Rattle.pi_tuple.specs.declared.checks.Check.TheVariants.{AppTag, Guard, RefT
 use Rattle.pi_tuple.proofs.TupleLaws.{tag_below, same_fields}
 use Rattle.cdb_codec.specs.Rule.{is_two}
 use Rattle.integrity_payload.specs.Payloads.{all_asked}
-use Rattle.target_answer.specs.Frames.{data_of, frame_of, tuple_of}
-use Rattle.target_answer.specs.declared.passage.Passage.{Passage}
-use Rattle.target_answer.specs.Passing.{accepted, asked_of as checked_of, found_in, to_medium, unless, wanted_of, with_own_tuple}
+use Rattle.rig_api.specs.Frames.{data_of, frame_of, tuple_of}
+use Rattle.rig_api.specs.declared.passage.Passage.{Passage}
+use Rattle.rig_api.specs.Passing.{accepted, asked_of as checked_of, found_in, to_medium, unless, wanted_of, with_own_tuple}
 use Rattle.block_path.specs.declared.route.Route.{Route}
 use Rattle.block_path.specs.Routes.{host_size, is_crc, passage, wire_lba, with_guard}
 use Rattle.block_path.specs.WayOut.{adapter_finds_out, sent}

@@ -13,12 +13,12 @@ use Rattle.cdb_codec.specs.Rule.{fits_10, in_10, in_16, in_32, is_two, tagged, u
 use Rattle.cdb_codec.specs.declared.choice.Dir2.{Dir2}
 use Rattle.cdb_codec.specs.declared.choice.Dir2.TheVariants.{In, Out}
 use Rattle.cdb_codec.proofs.Inverse.{decoded_form}
-use Rattle.target_answer.specs.Frames.{sent_size}
-use Rattle.target_answer.specs.Image.{units_in}
-use Rattle.target_answer.specs.Passing.{to_medium}
-use Rattle.target_answer.specs.Requests.{request_of}
-use Rattle.target_answer.specs.Target.{Stored}
-use Rattle.target_answer.specs.declared.units.UnitSpec.{UnitSpec}
+use Rattle.rig_api.specs.Frames.{sent_size}
+use Rattle.rig_api.specs.Image.{units_in}
+use Rattle.rig_api.specs.Passing.{to_medium}
+use Rattle.rig_api.specs.Requests.{request_of}
+use Rattle.rig_api.specs.Target.{Stored}
+use Rattle.rig_api.specs.declared.units.UnitSpec.{UnitSpec}
 use Rattle.rig_api.specs.Head.{IsHeadOf, units_of}
 use Rattle.rig_api.specs.Log.{LogEntry}
 use Rattle.rig_api.specs.Telling.{IsStanding, Standing, specs_of, units_told}

@@ -15,9 +15,9 @@ use Rattle.bio_core.specs.declared.fate.Why.TheVariants.{Target}
 use Rattle.stack_ops.specs.declared.op.Op.{Op}
 use Rattle.stack_ops.specs.declared.reply.Reply.{Reply}
 use Rattle.stack_ops.specs.declared.reply.Reply.TheVariants.{Bad, Medium, Shown, Silent, Whole as AllWhole}
-use Rattle.target_answer.specs.Frames.{data_of, joined, tuple_of}
-use Rattle.target_answer.specs.Image.{units_from}
-use Rattle.target_answer.specs.declared.units.UnitSpec.{UnitSpec}
+use Rattle.rig_api.specs.Frames.{data_of, joined, tuple_of}
+use Rattle.rig_api.specs.Image.{units_from}
+use Rattle.rig_api.specs.declared.units.UnitSpec.{UnitSpec}
 use Rattle.rig_discovery.specs.Discovery.{info_of}
 use Rattle.volume_table.specs.Places.{place_in, volume_len}
 use Rattle.volume_table.specs.Tables.{IsOn}

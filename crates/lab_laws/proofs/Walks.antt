@@ -10,8 +10,8 @@ use Rattle.pi_tuple.specs.declared.tuple.Tuple.{Tuple}
 use Rattle.fault_schedule.specs.declared.fault.FaultLine.{FaultLine}
 use Rattle.integrity_payload.specs.declared.payload.Owner.{Owner}
 use Rattle.bio_core.specs.declared.fate.Why.{Why}
-use Rattle.target_answer.specs.Frames.{frame_of}
-use Rattle.target_answer.specs.Passing.{to_medium}
+use Rattle.rig_api.specs.Frames.{frame_of}
+use Rattle.rig_api.specs.Passing.{to_medium}
 use Rattle.block_path.specs.declared.route.Route.{Route}
 use Rattle.block_path.specs.Acts.{State, act, tell}
 use Rattle.block_path.specs.Blocks.{ActAnswer, Sent, own_frame, own_tuple, read_by, written_by}

@@ -13,8 +13,8 @@ use Rattle.fault_schedule.specs.declared.fault.FaultLine.{FaultLine}
 use Rattle.integrity_payload.specs.Payloads.{all_asked}
 use Rattle.integrity_payload.specs.declared.payload.Owner.{Owner}
 use Rattle.bio_core.specs.declared.fate.Why.TheVariants.{Adapter, Target}
-use Rattle.target_answer.specs.Frames.{data_of, tuple_of}
-use Rattle.target_answer.specs.Passing.{found_in, from_medium, then_crossed, to_medium, unless}
+use Rattle.rig_api.specs.Frames.{data_of, tuple_of}
+use Rattle.rig_api.specs.Passing.{found_in, from_medium, then_crossed, to_medium, unless}
 use Rattle.block_path.specs.Blocks.{fetched_cell, stored_cell}
 use Rattle.block_path.specs.Routes.{by_target, medium_lba, moved, passage, wire_lba}
 use Rattle.block_path.specs.WayIn.{Delivers, Spoils, Stops, WayIn, adapter_finds_in, at_host, delivered_unless, from_device, from_wire, mapped_back, owner_finds, owner_says, received, verified, way_in}

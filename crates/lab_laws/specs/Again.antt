@@ -9,9 +9,9 @@ use Rattle.bio_core.specs.declared.fate.Fate.{Fate}
 use Rattle.bio_core.specs.declared.request.Dir.TheVariants.{Read, Write}
 use Rattle.bio_core.specs.declared.request.Io.{Io}
 use Rattle.sense_codes.specs.Written.{written}
-use Rattle.target_answer.specs.Frames.{joined, stored_size}
-use Rattle.target_answer.specs.Image.{units_in}
-use Rattle.target_answer.specs.Target.{Answer, Stored}
+use Rattle.rig_api.specs.Frames.{joined, stored_size}
+use Rattle.rig_api.specs.Image.{units_in}
+use Rattle.rig_api.specs.Target.{Answer, Stored}
 use Rattle.rig_api.specs.Log.{LogEntry, entry_of, moved_of}
 use Rattle.rig_api.specs.State.{Exchanged, RigState}
 use Rattle.rig_api.specs.Telling.{Standing, answer_of, at_front, spec_at, specs_of, unit_at, with_blocks}
@@ -30,7 +30,7 @@ use Rattle.vector_runs.specs.ListText.{list_text}
 use Rattle.vector_runs.specs.Played.{HasListed, HasPlayed}
 use Rattle.vector_runs.specs.RecordText.{vectors_text}
 use Rattle.vector_runs.specs.declared.playing.Played.TheVariants as played
-use Rattle.source_text.specs.declared.TheConstants.{MOST_BYTES}
+use Rattle.dix_base.specs.declared.reading.TheConstants.{MOST_BYTES}
 
 -- Vectors that are done again as a list.
 

@@ -1,9 +1,9 @@
 use Rattle.std.specs.Prelude.{ℕ, ◌≡◌, ◌<◌, ◌⊎◌, true, false, List, [], length, map, Option, Some, None, Ok}
 use Rattle.pi_tuple.specs.Finds.{is_zero}
-use Rattle.target_answer.specs.Headers.{is_layout}
-use Rattle.target_answer.specs.Image.{formatted, fresh_from, units_in}
-use Rattle.target_answer.specs.Target.{Stored}
-use Rattle.target_answer.specs.declared.units.UnitSpec.{UnitSpec}
+use Rattle.rig_api.specs.Headers.{is_layout}
+use Rattle.rig_api.specs.Image.{formatted, fresh_from, units_in}
+use Rattle.rig_api.specs.Target.{Stored}
+use Rattle.rig_api.specs.declared.units.UnitSpec.{UnitSpec}
 use Rattle.target_model.specs.Served.{AllLong}
 use Rattle.rig_api.specs.Head.{head_fault, head_of}
 use Rattle.rig_api.specs.Telling.{own_units, unit_at}

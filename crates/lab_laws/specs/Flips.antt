@@ -9,8 +9,8 @@ use Rattle.script_lines.specs.declared.line.Spot.TheVariants.{Host, Wire, Medium
 use Rattle.stack_ops.specs.declared.op.Op.{Op}
 use Rattle.stack_ops.specs.declared.op.Op.TheVariants as op
 use Rattle.stack_ops.specs.declared.reply.Reply.{Reply}
-use Rattle.target_answer.specs.Headers.{is_layout}
-use Rattle.target_answer.specs.Image.{formatted}
+use Rattle.rig_api.specs.Headers.{is_layout}
+use Rattle.rig_api.specs.Image.{formatted}
 use Rattle.walk_laws.specs.UnderMap.{NoEscape}
 use Rattle.stack_ops.specs.Ops.{first_virt}
 use Rattle.run_premises.specs.Forms.{escapes_none, op_of}

@@ -10,12 +10,12 @@ use Rattle.bio_core.specs.declared.request.Dir.{Dir}
 use Rattle.bio_core.specs.declared.request.Dir.TheVariants.{Read as In, Write as Out}
 use Rattle.bio_core.specs.declared.request.Io.{Io}
 use Rattle.cdb_codec.specs.Decoded.{decoded}
-use Rattle.target_answer.specs.Frames.{joined, sent_size}
-use Rattle.target_answer.specs.Passing.{to_medium}
-use Rattle.target_answer.specs.Requests.{request_of}
-use Rattle.target_answer.specs.declared.request.Request.{Request}
-use Rattle.target_answer.specs.declared.request.Request.TheVariants.{Read, ReadCapacity, Verify, Write}
-use Rattle.target_answer.specs.Target.{Stored}
+use Rattle.rig_api.specs.Frames.{joined, sent_size}
+use Rattle.rig_api.specs.Passing.{to_medium}
+use Rattle.rig_api.specs.Requests.{request_of}
+use Rattle.rig_api.specs.declared.request.Request.{Request}
+use Rattle.rig_api.specs.declared.request.Request.TheVariants.{Read, ReadCapacity, Verify, Write}
+use Rattle.rig_api.specs.Target.{Stored}
 use Rattle.rig_api.specs.Log.{LogEntry}
 use Rattle.block_path.specs.declared.route.Route.{Route}
 use Rattle.block_path.specs.Acts.{State, act, tell}

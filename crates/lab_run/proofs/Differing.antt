@@ -22,7 +22,7 @@ use Rattle.lab_run.specs.declared.command.Command.TheVariants.{Diff}
 use Rattle.lab_run.specs.declared.place.PlaceWord.{PlaceWord}
 use Rattle.rig_api.specs.Head.{head_of, units_of}
 use Rattle.rig_api.specs.State.{RigState}
-use Rattle.target_answer.specs.declared.units.UnitSpec.{UnitSpec}
+use Rattle.rig_api.specs.declared.units.UnitSpec.{UnitSpec}
 use Rattle.target_model.proofs.Bytes.{rise as rose_since}
 use Rattle.unit_words.specs.Words.{image_in}
 use Rattle.lab_run.specs.Breaking.{EndsBy}

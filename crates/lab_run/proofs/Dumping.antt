@@ -28,9 +28,9 @@ use Rattle.lab_run.specs.declared.place.PlaceWord.{PlaceWord}
 use Rattle.pi_tuple.specs.declared.checks.PiType.{PiType}
 use Rattle.rig_api.specs.Head.{head_of, units_of}
 use Rattle.rig_api.specs.State.{RigState}
-use Rattle.target_answer.specs.Frames.{joined}
-use Rattle.target_answer.specs.Image.{units_in}
-use Rattle.target_answer.specs.declared.units.UnitSpec.{UnitSpec}
+use Rattle.rig_api.specs.Frames.{joined}
+use Rattle.rig_api.specs.Image.{units_in}
+use Rattle.rig_api.specs.declared.units.UnitSpec.{UnitSpec}
 use Rattle.target_model.specs.Served.{AllLong}
 use Rattle.target_model.proofs.Bytes.{rise as rose_since}
 use Rattle.unit_words.specs.Words.{image_in}

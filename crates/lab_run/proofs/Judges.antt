@@ -19,8 +19,8 @@ use Rattle.script_text.specs.Language.{lines_read, nothing_read, script_in}
 use Rattle.script_text.specs.declared.fault.ScriptFault.{ScriptFault}
 use Rattle.script_text.specs.declared.script.Script.{Script}
 use Rattle.script_words.specs.Cuts.{lines_of}
-use Rattle.source_text.specs.Reading.{IsOver, IsWhole, TookAtMost, most_bytes}
-use Rattle.source_text.proofs.Taking.{most_is}
+use Rattle.dix_base.specs.Reading.{IsOver, IsWhole, TookAtMost, most_bytes}
+use Rattle.dix_base.proofs.Taking.{most_is}
 use Rattle.lab_run.specs.Calls.{Facts, on_input}
 use Rattle.lab_run.specs.Commands.{Came}
 use Rattle.lab_run.specs.Judging.{CauseUnread, IsSaid, Judged, Judges, Says, WasJudged, judge_work, judged_status, judged_text}

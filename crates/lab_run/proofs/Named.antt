@@ -10,8 +10,8 @@ use Rattle.lab_run.specs.declared.command.Command.TheVariants.{Help, Version, Sh
 use Rattle.image_text.specs.declared.layout.Layout.{Layout}
 use Rattle.lab_run.specs.declared.place.PlaceWord.{PlaceWord}
 use Rattle.script_words.specs.Hexes.{byte_in}
-use Rattle.target_answer.specs.Headers.{is_layout}
-use Rattle.target_answer.specs.declared.units.UnitSpec.{UnitSpec}
+use Rattle.rig_api.specs.Headers.{is_layout}
+use Rattle.rig_api.specs.declared.units.UnitSpec.{UnitSpec}
 
 -- If it is a sweep, it can be done.
 abbrev IsGood : Option Command → Type 0

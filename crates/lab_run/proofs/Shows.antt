@@ -19,7 +19,7 @@ use Rattle.lab_run.specs.declared.command.Command.TheVariants.{ShowBlocks, ShowU
 use Rattle.lab_run.specs.declared.place.PlaceWord.{PlaceWord}
 use Rattle.rig_api.specs.State.{RigState}
 use Rattle.rig_api.specs.declared.rig.RigFault.{RigFault}
-use Rattle.target_answer.specs.declared.units.UnitSpec.{UnitSpec}
+use Rattle.rig_api.specs.declared.units.UnitSpec.{UnitSpec}
 use Rattle.target_model.proofs.Bytes.{rise as rose_since}
 use Rattle.unit_words.specs.Words.{image_in}
 use Rattle.lab_run.specs.Calls.{Facts, on_first}

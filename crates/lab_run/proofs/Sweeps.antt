@@ -24,9 +24,9 @@ use Rattle.script_text.specs.declared.fault.ScriptFault.{ScriptFault}
 use Rattle.script_text.specs.declared.script.Script.{Script}
 use Rattle.run_command.proofs.Completing.{untaken_for_memory}
 use Rattle.run_command.specs.Verdict.{CauseUntaken, Facts as Call, HasRead, devices_of, table_over}
-use Rattle.source_text.proofs.Taking.{whole_text}
-use Rattle.target_answer.specs.Image.{formatted}
-use Rattle.target_answer.specs.declared.units.UnitSpec.{UnitSpec}
+use Rattle.dix_base.proofs.Taking.{whole_text}
+use Rattle.rig_api.specs.Image.{formatted}
+use Rattle.rig_api.specs.declared.units.UnitSpec.{UnitSpec}
 use Rattle.volume_table.specs.Faults.{table_fault}
 use Rattle.volume_table.specs.declared.fault.VolumeFault.{VolumeFault}
 use Rattle.volume_table.specs.declared.fault.VolumeFault.TheVariants.{At}

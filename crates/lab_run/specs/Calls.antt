@@ -6,7 +6,7 @@ use Rattle.image_blocks.specs.declared.stretch.Stretch.{Stretch}
 use Rattle.lab_run.specs.declared.place.PlaceWord.{PlaceWord}
 use Rattle.lab_run.specs.declared.place.PlaceWord.TheVariants.{Device, Blocks}
 use Rattle.rig_api.specs.State.{RigState}
-use Rattle.target_answer.specs.declared.units.UnitSpec.{UnitSpec}
+use Rattle.rig_api.specs.declared.units.UnitSpec.{UnitSpec}
 
 -- What a call of the program speaks of.
 

@@ -13,7 +13,7 @@ use Rattle.image_text.specs.declared.fault.DiffFault.TheVariants as compare
 use Rattle.lab_run.specs.declared.place.PlaceWord.{PlaceWord}
 use Rattle.rig_api.specs.Head.{head_fault, head_of, units_of}
 use Rattle.rig_api.specs.declared.rig.RigFault.{RigFault}
-use Rattle.target_answer.specs.declared.units.UnitSpec.{UnitSpec}
+use Rattle.rig_api.specs.declared.units.UnitSpec.{UnitSpec}
 use Rattle.lab_run.specs.Breaking.{EndsBy, cut_status, cut_text}
 use Rattle.lab_run.specs.Calls.{Facts, second_in, stretch_in}
 use Rattle.lab_run.specs.Images.{BadHeadOf, CauseNotOpened, HasFirst, HasNoFirst, HasNoPlace, HasPlace, IsBadHead, IsNoPlace}

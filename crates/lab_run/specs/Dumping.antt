@@ -16,9 +16,9 @@ use Rattle.image_blocks.specs.declared.fault.WalkFault.TheVariants as walk
 use Rattle.image_text.specs.declared.layout.Layout.{Layout}
 use Rattle.lab_run.specs.declared.place.PlaceWord.{PlaceWord}
 use Rattle.rig_api.specs.Head.{head_fault, head_of, units_of}
-use Rattle.target_answer.specs.Headers.{image_size}
-use Rattle.target_answer.specs.Image.{units_in}
-use Rattle.target_answer.specs.declared.units.UnitSpec.{UnitSpec}
+use Rattle.rig_api.specs.Headers.{image_size}
+use Rattle.rig_api.specs.Image.{units_in}
+use Rattle.rig_api.specs.declared.units.UnitSpec.{UnitSpec}
 use Rattle.unit_words.specs.Words.{image_in}
 use Rattle.lab_run.specs.Breaking.{EndsBy, cut_status, cut_text}
 use Rattle.lab_run.specs.Calls.{Facts, stretch_in}

@@ -1,6 +1,6 @@
 use Rattle.std.specs.Prelude.{ℕ, true, false, eqb, if◌then◌else◌, List, [], ◌∷◌, codes, Option, Some, None}
 use Rattle.std.specs.Str.{bytes_eq}
-use Rattle.target_answer.specs.declared.units.UnitSpec.{UnitSpec}
+use Rattle.rig_api.specs.declared.units.UnitSpec.{UnitSpec}
 use Rattle.unit_words.specs.Words.{is_name, laid_out, units_in}
 use Rattle.script_words.specs.Hexes.{byte_in}
 use Rattle.lab_run.specs.Layouts.{layout_in}

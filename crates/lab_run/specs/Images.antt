@@ -12,8 +12,8 @@ use Rattle.lab_run.specs.declared.place.PlaceWord.{PlaceWord}
 use Rattle.rig_api.specs.Head.{Head, IsHeadOf, head_fault, head_of, units_of}
 use Rattle.rig_api.specs.Telling.{Opened}
 use Rattle.rig_api.specs.declared.rig.RigFault.{RigFault}
-use Rattle.target_answer.specs.Headers.{image_size}
-use Rattle.target_answer.specs.declared.units.UnitSpec.{UnitSpec}
+use Rattle.rig_api.specs.Headers.{image_size}
+use Rattle.rig_api.specs.declared.units.UnitSpec.{UnitSpec}
 use Rattle.unit_words.specs.Words.{image_in}
 use Rattle.lab_run.specs.Calls.{Facts, stretch_in}
 use Rattle.lab_run.specs.Keeping.{ReadsOnce}

@@ -9,7 +9,7 @@ use Rattle.fault_marks.specs.Texts.{marked_text, right_text}
 use Rattle.script_text.specs.Language.{script_in}
 use Rattle.script_text.specs.declared.fault.ScriptFault.{ScriptFault}
 use Rattle.script_text.specs.declared.script.Script.{Script}
-use Rattle.source_text.specs.Reading.{IsWhole, TookAtMost, most_bytes}
+use Rattle.dix_base.specs.Reading.{IsWhole, TookAtMost, most_bytes}
 use Rattle.lab_run.specs.Calls.{Facts}
 use Rattle.lab_run.specs.Telling.{RefusesInput}
 use Rattle.lab_run.specs.Texts.{lab}

@@ -11,7 +11,7 @@ use Rattle.image_text.specs.declared.show.Tally.{Tally}
 use Rattle.image_blocks.specs.declared.fault.WalkFault.{WalkFault}
 use Rattle.image_blocks.specs.declared.fault.WalkFault.TheVariants as walk
 use Rattle.lab_run.specs.declared.place.PlaceWord.{PlaceWord}
-use Rattle.target_answer.specs.declared.units.UnitSpec.{UnitSpec}
+use Rattle.rig_api.specs.declared.units.UnitSpec.{UnitSpec}
 use Rattle.lab_run.specs.Breaking.{EndsBy, cut_status, cut_text}
 use Rattle.lab_run.specs.Calls.{Facts}
 use Rattle.lab_run.specs.Images.{CauseNotOpened, HasFirst, HasNoFirst, HasOpened, IsBadHead, IsNoPlace, IsPlace, IsRightHead}

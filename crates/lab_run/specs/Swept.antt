@@ -9,8 +9,8 @@ use Rattle.script_text.specs.Language.{script_in}
 use Rattle.script_text.specs.declared.fault.ScriptFault.{ScriptFault}
 use Rattle.script_text.specs.declared.script.Script.{Script}
 use Rattle.run_command.specs.Verdict.{CauseUntaken, HasRead, devices_of, table_over}
-use Rattle.target_answer.specs.Image.{formatted}
-use Rattle.target_answer.specs.declared.units.UnitSpec.{UnitSpec}
+use Rattle.rig_api.specs.Image.{formatted}
+use Rattle.rig_api.specs.declared.units.UnitSpec.{UnitSpec}
 use Rattle.volume_table.specs.Faults.{table_fault}
 use Rattle.call_verdict.specs.Verdicts.{RunsOrWants, Work, done_status}
 use Rattle.call_verdict.specs.declared.status.Status.{Status}

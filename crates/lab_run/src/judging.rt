@@ -15,11 +15,10 @@ ghost use Rattle.lab_run.specs.Judging.{Judges, Says};
 use crate::refusal::Refusal;
 use call_refusal::{Refusal as Stop, TOO_LONG};
 use call_verdict::{Status, finish};
-use dix_base::{Sink, Source};
+use dix_base::{Sink, Source, Unread, read_all};
 use fault_marks::{marked_text, right_text};
 use script_laws::a_read_script_keeps_the_rules;
 use script_text::{Script, ScriptFault, ScriptKind, read_script};
-use source_text::{Unread, read_all};
 use std::alloc::{AllocError, Global};
 
 /// What is said of a text, and the status that goes with it.

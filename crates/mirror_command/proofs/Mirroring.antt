@@ -5,7 +5,7 @@ use Rattle.dix_base.specs.Told.{AreOctets, Calm}
 use Rattle.rig_api.specs.Telling.{IsStanding, Standing, units_told}
 use Rattle.rig_api.specs.State.{RigState}
 use Rattle.rig_discovery.specs.Discovery.{info_of}
-use Rattle.target_answer.specs.Target.{Stored}
+use Rattle.rig_api.specs.Target.{Stored}
 use Rattle.run_command.proofs.Passed.{blocks_octets, known_from, one_left, still_told, sizes-found, told-shapes, told-stored, is_told}
 use Rattle.volume_table.specs.declared.device.DeviceInfo.{DeviceInfo}
 use Rattle.script_text.specs.declared.script.Script.{Script}

@@ -1,7 +1,7 @@
 -- Over a rig that tells its blocks no block is listed as refused or short: neither by a request on a leg, nor by the op of which it is.
 use Rattle.std.proofs.Common.{◌≡◌, ℕ, ◌*◌, ◌⊎◌, inl, inr, List, [], ◌∷◌, Some, get_or, refl, sym, subst}
 use Rattle.std.specs.Prelude.{All}
-use Rattle.target_answer.specs.Target.{Stored}
+use Rattle.rig_api.specs.Target.{Stored}
 use Rattle.rig_api.specs.Log.{LogEntry}
 use Rattle.rig_api.specs.Telling.{block_at, changed, with_block}
 use Rattle.rig_api.specs.declared.change.Change.{Change}

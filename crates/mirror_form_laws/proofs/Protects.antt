@@ -17,8 +17,8 @@ use Rattle.fault_schedule.specs.declared.fault.Crossing.TheVariants.{AdapterToTa
 use Rattle.fault_schedule.proofs.Unaltered.{altered_none}
 use Rattle.integrity_payload.specs.Payloads.{all_asked}
 use Rattle.integrity_payload.specs.declared.payload.Owner.{Owner}
-use Rattle.target_answer.specs.Frames.{data_of, tuple_of}
-use Rattle.target_answer.specs.Passing.{accepted, found_in, from_medium, released, then_crossed, to_medium, unless}
+use Rattle.rig_api.specs.Frames.{data_of, tuple_of}
+use Rattle.rig_api.specs.Passing.{accepted, found_in, from_medium, released, then_crossed, to_medium, unless}
 use Rattle.block_path.specs.Routes.{by_target, is_crc, moved, passage, target, with_guard}
 use Rattle.bio_core.specs.declared.fate.Why.TheVariants.{Adapter}
 use Rattle.block_path.specs.WayIn.{Delivers, Spoils, Stops, WayIn, at_host, from_device, from_wire, verified, way_in}

@@ -9,7 +9,7 @@ use Rattle.pi_tuple.specs.Tuples.{ref_tag}
 use Rattle.integrity_payload.specs.declared.payload.Owner.{Owner}
 use Rattle.integrity_payload.specs.declared.payload.Owner.TheVariants.{Block as OfBlock, App as OfApp}
 use Rattle.fault_schedule.specs.declared.fault.Crossing.TheVariants.{AdapterToTarget, HostToAdapter}
-use Rattle.target_answer.specs.Passing.{found_in}
+use Rattle.rig_api.specs.Passing.{found_in}
 use Rattle.block_path.specs.Blocks.{fetched_cell, own_frame}
 use Rattle.block_path.specs.Routes.{passage}
 use Rattle.block_path.specs.WayOut.{adapter_finds_out, mapped_out, sent}
@@ -19,7 +19,7 @@ use Rattle.stack_ops.specs.declared.reply.Reply.{Reply}
 use Rattle.stack_ops.specs.declared.reply.Reply.TheVariants.{Silent}
 use Rattle.volume_table.specs.Places.{place_in, volume_len}
 use Rattle.volume_table.specs.declared.device.DeviceInfo.{DeviceInfo}
-use Rattle.target_answer.specs.Frames.{data_of, tuple_of}
+use Rattle.rig_api.specs.Frames.{data_of, tuple_of}
 use Rattle.block_path.specs.Acts.{State, act}
 use Rattle.block_path.specs.Serial.{plain}
 use Rattle.walk_laws.specs.Detectable.{crossed, detectable, found, if_passed, shows_at_medium, shows_in, shows_out, step_shows}

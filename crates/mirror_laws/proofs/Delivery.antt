@@ -11,7 +11,7 @@ use Rattle.integrity_payload.specs.declared.payload.Owner.{Owner}
 use Rattle.bio_core.specs.declared.fate.Why.{Why}
 use Rattle.volume_table.specs.Places.{volume_len}
 use Rattle.volume_table.specs.declared.device.DeviceInfo.{DeviceInfo}
-use Rattle.target_answer.specs.Frames.{data_of, tuple_of}
+use Rattle.rig_api.specs.Frames.{data_of, tuple_of}
 use Rattle.block_path.specs.Acts.{State, act, effect, tell}
 use Rattle.block_path.specs.Blocks.{fetched_cell}
 use Rattle.block_path.specs.Serial.{plain, plain_tells}

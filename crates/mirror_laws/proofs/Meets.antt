@@ -9,7 +9,7 @@ use Rattle.page_pool.specs.Places.{run}
 use Rattle.fault_schedule.specs.Altered.{shift_of}
 use Rattle.fault_schedule.specs.declared.fault.Crossing.{Crossing}
 use Rattle.fault_schedule.specs.declared.fault.Crossing.TheVariants.{AdapterToHost, AdapterToTarget, HostToAdapter, MediumToTarget, TargetToAdapter, TargetToMedium}
-use Rattle.target_answer.specs.Passing.{found_in, from_medium, to_medium}
+use Rattle.rig_api.specs.Passing.{found_in, from_medium, to_medium}
 use Rattle.volume_table.specs.declared.device.DeviceInfo.{DeviceInfo}
 use Rattle.volume_table.specs.Places.{place_in}
 use Rattle.block_path.specs.WayIn.{from_wire}

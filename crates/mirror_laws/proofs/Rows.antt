@@ -11,7 +11,7 @@ use Rattle.bio_core.specs.declared.fate.Why.TheVariants.{Adapter, Short}
 use Rattle.stack_ops.specs.declared.op.Op.{Op}
 use Rattle.stack_ops.specs.declared.op.Op.TheVariants.{Fetch, Put, Show, Write}
 use Rattle.stack_ops.specs.declared.reply.Reply.TheVariants.{Bad, Shown, Silent, Whole}
-use Rattle.target_answer.specs.Passing.{found_in, from_medium, to_medium}
+use Rattle.rig_api.specs.Passing.{found_in, from_medium, to_medium}
 use Rattle.volume_table.specs.declared.entry.Entry.TheVariants.{Linear}
 use Rattle.block_path.specs.Acts.{State}
 use Rattle.block_path.specs.Routes.{target}

@@ -14,7 +14,7 @@ use Rattle.rig_api.specs.declared.change.Change.{Change}
 use Rattle.rig_api.specs.declared.change.Change.TheVariants.{Copy, Flip}
 use Rattle.stack_ops.specs.declared.op.Op.{Op}
 use Rattle.stack_ops.specs.declared.op.Op.TheVariants.{Fetch, FetchPi, Fill, Overwrite, Put, Seal, Show, Wait, Write, WritePi}
-use Rattle.target_answer.specs.Frames.{frame_of, stored_size}
+use Rattle.rig_api.specs.Frames.{frame_of, stored_size}
 use Rattle.volume_table.specs.Places.{volume_len}
 use Rattle.block_path.specs.declared.route.Route.{Route}
 use Rattle.block_path.specs.Acts.{State, act, tell}

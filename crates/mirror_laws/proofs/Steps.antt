@@ -15,7 +15,7 @@ use Rattle.integrity_payload.specs.declared.payload.Owner.{Owner}
 use Rattle.bio_core.specs.declared.fate.Why.{Why}
 use Rattle.volume_table.specs.Places.{place_in, volume_len}
 use Rattle.volume_table.specs.declared.device.DeviceInfo.{DeviceInfo}
-use Rattle.target_answer.specs.Frames.{tuple_of}
+use Rattle.rig_api.specs.Frames.{tuple_of}
 use Rattle.block_path.specs.Acts.{State, act, tell}
 use Rattle.block_path.specs.Blocks.{own_frame, own_tuple, written_by}
 use Rattle.block_path.specs.Serial.{plain}

@@ -13,8 +13,8 @@ use Rattle.fault_schedule.specs.declared.fault.Crossing.{Crossing}
 use Rattle.fault_schedule.specs.declared.fault.Crossing.TheVariants.{AdapterToHost, AdapterToTarget, HostToAdapter, MediumToTarget, TargetToAdapter, TargetToMedium}
 use Rattle.integrity_payload.specs.Payloads.{all_asked}
 use Rattle.bio_core.specs.declared.fate.Why.{Why}
-use Rattle.target_answer.specs.Frames.{data_of, tuple_of}
-use Rattle.target_answer.specs.Passing.{found_in, then_crossed, to_medium, unless}
+use Rattle.rig_api.specs.Frames.{data_of, tuple_of}
+use Rattle.rig_api.specs.Passing.{found_in, then_crossed, to_medium, unless}
 use Rattle.block_path.specs.Routes.{by_target, passage, wire_lba}
 use Rattle.block_path.specs.WayIn.{received}
 use Rattle.block_path.specs.WayOut.{Fails, Refuses, Stores, WayOut, adapter_finds_out, at_device, from_adapter, mapped_out, sent, to_wire, way_out}

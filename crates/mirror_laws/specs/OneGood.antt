@@ -13,7 +13,7 @@ use Rattle.stack_ops.specs.declared.op.Op.TheVariants.{Fetch, FetchPi, Fill, Ove
 use Rattle.stack_ops.specs.declared.reply.Reply.TheVariants.{Silent, Whole}
 use Rattle.volume_table.specs.Places.{place_in, volume_len}
 use Rattle.volume_table.specs.declared.device.DeviceInfo.{DeviceInfo}
-use Rattle.target_answer.specs.Frames.{data_of, tuple_of}
+use Rattle.rig_api.specs.Frames.{data_of, tuple_of}
 use Rattle.block_path.specs.Acts.{State}
 use Rattle.block_path.specs.Moves.{AreCells}
 use Rattle.block_path.specs.Serial.{plain}

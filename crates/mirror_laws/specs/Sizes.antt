@@ -2,7 +2,7 @@ use Rattle.std.specs.Prelude.{ℕ, ◌≡◌, ◌+◌, ◌*◌, ◌<◌, ◌≤�
 use Rattle.page_pool.specs.Places.{total}
 use Rattle.stack_ops.specs.declared.op.Op.{Op}
 use Rattle.stack_ops.specs.declared.op.Op.TheVariants.{Fetch, FetchPi, Fill, Overwrite, Put, Seal, Show, Wait, Write, WritePi}
-use Rattle.target_answer.specs.Frames.{stored_size}
+use Rattle.rig_api.specs.Frames.{stored_size}
 use Rattle.volume_table.specs.Places.{volume_len}
 use Rattle.block_path.specs.Routes.{target}
 use Rattle.walk_laws.specs.ScriptWalk.{source_of}

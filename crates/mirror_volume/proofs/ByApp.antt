@@ -8,7 +8,7 @@ use Rattle.pi_tuple.specs.declared.checks.Check.{Check}
 use Rattle.fault_schedule.specs.declared.fault.FaultLine.{FaultLine}
 use Rattle.integrity_payload.specs.declared.payload.Owner.TheVariants.{App as OfApp, Block as OfBlock}
 use Rattle.bio_core.specs.declared.fate.Why.{Why}
-use Rattle.target_answer.specs.Passing.{from_medium}
+use Rattle.rig_api.specs.Passing.{from_medium}
 use Rattle.block_path.specs.Acts.{State, act, tell}
 use Rattle.block_path.specs.Blocks.{fetched_cell, read_by}
 use Rattle.block_path.specs.Routes.{Device, by_target, passage, target}

@@ -3,7 +3,7 @@ use Rattle.std.proofs.Common.{◌≡◌, ◌<◌, ℕ, zero, suc, ◌+◌, List,
 use Rattle.std.proofs.lemmas.List.{take_at}
 use Rattle.std.proofs.Math.Seq.{take-length}
 use Rattle.page_pool.specs.declared.segs.Seg.{Seg}
-use Rattle.target_answer.specs.Target.{Stored}
+use Rattle.rig_api.specs.Target.{Stored}
 use Rattle.page_pool.specs.Cells.{gather}
 use Rattle.block_path.specs.Acts.{State}
 use Rattle.block_path.specs.Serial.{plain}

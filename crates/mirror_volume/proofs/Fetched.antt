@@ -11,7 +11,7 @@ use Rattle.page_pool.specs.Walking.{AllStandIn}
 use Rattle.page_pool.proofs.Celled.{wrote-cells}
 use Rattle.page_pool.proofs.Spreads.{range-all}
 use Rattle.range_gate.specs.Cells.{cells_of}
-use Rattle.target_answer.specs.Target.{Stored}
+use Rattle.rig_api.specs.Target.{Stored}
 use Rattle.volume_table.specs.declared.device.DeviceInfo.{DeviceInfo}
 use Rattle.volume_table.specs.Tables.{Table}
 use Rattle.dix_adapter.specs.Ways.{blocks_told, shapes_of}

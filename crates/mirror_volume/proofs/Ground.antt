@@ -1,6 +1,6 @@
 -- What the walk of a mirror asks of its setting, over units that tell their blocks.
 use Rattle.std.proofs.Common.{List, map, refl, subst, arith}
-use Rattle.target_answer.specs.Target.{Stored}
+use Rattle.rig_api.specs.Target.{Stored}
 use Rattle.rig_discovery.specs.Discovery.{info_of}
 use Rattle.volume_table.specs.declared.device.DeviceInfo.{DeviceInfo}
 use Rattle.volume_table.specs.Places.{place_in}

@@ -5,8 +5,8 @@ use Rattle.page_pool.specs.Pages.{AreWhole}
 use Rattle.rig_api.specs.Telling.{IsStanding, block_at, changed, units_told, with_block}
 use Rattle.rig_api.specs.State.{RigState}
 use Rattle.rig_discovery.specs.Discovery.{info_of}
-use Rattle.target_answer.specs.Target.{Stored}
-use Rattle.target_answer.specs.declared.units.UnitSpec.{UnitSpec}
+use Rattle.rig_api.specs.Target.{Stored}
+use Rattle.rig_api.specs.declared.units.UnitSpec.{UnitSpec}
 use Rattle.volume_table.specs.declared.device.DeviceInfo.{DeviceInfo}
 use Rattle.volume_table.specs.Tables.{Table}
 use Rattle.dix_adapter.specs.Ways.{shapes_of}

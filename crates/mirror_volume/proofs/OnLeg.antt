@@ -18,8 +18,8 @@ use Rattle.stack_ops.specs.declared.op.Op.{Op}
 use Rattle.stack_ops.specs.declared.op.Op.TheVariants.{Write}
 use Rattle.stack_ops.specs.declared.reply.Reply.{Reply}
 use Rattle.stack_ops.specs.declared.reply.Reply.TheVariants.{Silent}
-use Rattle.target_answer.specs.Target.{Stored}
-use Rattle.target_answer.specs.Frames.{stored_size}
+use Rattle.rig_api.specs.Target.{Stored}
+use Rattle.rig_api.specs.Frames.{stored_size}
 use Rattle.rig_api.specs.Log.{LogEntry}
 use Rattle.rig_discovery.specs.Discovery.{info_of}
 use Rattle.volume_table.specs.Places.{place_in}

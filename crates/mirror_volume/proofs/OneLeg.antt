@@ -7,8 +7,8 @@ use Rattle.page_pool.specs.Cells.{flat}
 use Rattle.bio_core.specs.declared.fate.Why.{Why}
 use Rattle.rig_api.specs.Log.{LogEntry}
 use Rattle.rig_discovery.specs.Discovery.{info_of}
-use Rattle.target_answer.specs.Target.{Stored, shape_of}
-use Rattle.target_answer.specs.declared.units.UnitSpec.{UnitSpec}
+use Rattle.rig_api.specs.Target.{Stored, shape_of}
+use Rattle.rig_api.specs.declared.units.UnitSpec.{UnitSpec}
 use Rattle.stack_ops.specs.declared.reply.Reply.{Reply}
 use Rattle.volume_table.specs.Tables.{MadeFor, Table}
 use Rattle.dix_adapter.specs.Ways.{blocks_told, shapes_of}

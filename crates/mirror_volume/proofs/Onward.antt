@@ -3,8 +3,8 @@ use Rattle.std.proofs.Common.{◌≡◌, ◌<◌, ℕ, ◌+◌, ◌-◌, false, 
 use Rattle.std.proofs.lemmas.List.{length-take-le, length_push, take_more}
 use Rattle.page_pool.specs.Pages.{AreWhole}
 use Rattle.rig_discovery.specs.Discovery.{info_of}
-use Rattle.target_answer.specs.Target.{Stored}
-use Rattle.target_answer.specs.declared.units.UnitSpec.{UnitSpec}
+use Rattle.rig_api.specs.Target.{Stored}
+use Rattle.rig_api.specs.declared.units.UnitSpec.{UnitSpec}
 use Rattle.volume_table.specs.declared.device.DeviceInfo.{DeviceInfo}
 use Rattle.dix_adapter.specs.Ways.{blocks_told, shapes_of}
 use Rattle.block_path.specs.Serial.{plain}

@@ -17,7 +17,7 @@ use Rattle.rig_api.specs.Telling.{block_at, changed as changed_told, unit_at, wi
 use Rattle.rig_api.specs.declared.change.Change.{Change}
 use Rattle.rig_api.specs.declared.change.Change.TheVariants.{Copy, Flip}
 use Rattle.rig_discovery.specs.Discovery.{info_of}
-use Rattle.target_answer.specs.Target.{Stored}
+use Rattle.rig_api.specs.Target.{Stored}
 use Rattle.volume_table.specs.declared.device.DeviceInfo.{DeviceInfo}
 use Rattle.volume_table.specs.Tables.{IsOn, Table}
 use Rattle.dix_adapter.specs.Ways.{blocks_told, cell_in, shapes_of}

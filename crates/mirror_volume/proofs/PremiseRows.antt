@@ -8,8 +8,8 @@ use Rattle.pi_guard.specs.Guards.{crc, ip}
 use Rattle.pi_tuple.specs.declared.checks.PiType.TheVariants.{One}
 use Rattle.fault_schedule.specs.declared.fault.Crossing.TheVariants.{AdapterToHost, AdapterToTarget, HostToAdapter, MediumToTarget, TargetToAdapter, TargetToMedium}
 use Rattle.page_pool.specs.Places.{run}
-use Rattle.target_answer.specs.Image.{fresh}
-use Rattle.target_answer.specs.Passing.{found_in, from_medium, to_medium}
+use Rattle.rig_api.specs.Image.{fresh}
+use Rattle.rig_api.specs.Passing.{found_in, from_medium, to_medium}
 use Rattle.block_path.specs.WayIn.{from_wire}
 use Rattle.block_path.specs.WayOut.{to_wire}
 use Rattle.dix_adapter.specs.Ways.{blocks_told}

@@ -16,7 +16,7 @@ use Rattle.fault_schedule.specs.declared.fault.FaultLine.{FaultLine}
 use Rattle.integrity_payload.specs.declared.payload.Owner.{Owner}
 use Rattle.bio_core.specs.declared.fate.Why.{Why}
 use Rattle.bio_core.specs.declared.request.Dir.TheVariants.{Read, Write}
-use Rattle.target_answer.specs.Passing.{accepted, found_in, from_medium, released, then_crossed, to_medium, unless}
+use Rattle.rig_api.specs.Passing.{accepted, found_in, from_medium, released, then_crossed, to_medium, unless}
 use Rattle.block_path.specs.declared.mode.Mode.{Mode}
 use Rattle.block_path.specs.declared.operation.Operation.{Operation}
 use Rattle.block_path.specs.declared.operation.Operation.TheVariants.{Normal, ReadInsert, ReadPass, ReadStrip, WriteInsert, WritePass, WriteStrip}

@@ -1,8 +1,8 @@
 -- A repair over a rig that tells its blocks.
 use Rattle.std.proofs.Common.{ℕ, ◌≡◌, List, length, map, Option, ap, subst, sym, ◌∙◌}
 use Rattle.std.specs.Prelude.{is_some}
-use Rattle.target_answer.specs.Target.{Stored}
-use Rattle.target_answer.specs.declared.units.UnitSpec.{UnitSpec}
+use Rattle.rig_api.specs.Target.{Stored}
+use Rattle.rig_api.specs.declared.units.UnitSpec.{UnitSpec}
 use Rattle.rig_api.specs.Telling.{IsStanding, Standing, units_told}
 use Rattle.rig_api.specs.State.{RigState}
 use Rattle.rig_discovery.specs.Discovery.{info_of}

@@ -1,6 +1,6 @@
 -- Runs on the legs: none, one, and some after others.
 use Rattle.std.proofs.Common.{ℕ, ◌≡◌, ◌+◌, ◌≤◌, List, [], ◌∷◌, ◌++◌, length, min, inl, refl, sym, ap, subst, ◌∙◌, append_assoc, append-nil, arith}
-use Rattle.target_answer.specs.Target.{Stored}
+use Rattle.rig_api.specs.Target.{Stored}
 use Rattle.script_text.specs.declared.script.Script.{Script}
 use Rattle.mirror_volume.specs.LegsPassed.{Ran, RoseBy, medium_lines, Stack}
 use Rattle.mirror_volume.proofs.LegsPassed.{known_from}

@@ -1,7 +1,7 @@
 -- A new mirror stands at the beginning of its walk.
 use Rattle.std.proofs.Common.{◌≡◌, List, [], replicate, refl}
 use Rattle.page_pool.specs.Pages.{IsBlank}
-use Rattle.target_answer.specs.Target.{Stored}
+use Rattle.rig_api.specs.Target.{Stored}
 use Rattle.volume_table.specs.declared.device.DeviceInfo.{DeviceInfo}
 use Rattle.script_text.specs.declared.script.Script.{Script}
 use Rattle.mirror_volume.proofs.LegsPassed.{blank-cells}

@@ -4,7 +4,7 @@ use Rattle.std.proofs.lemmas.List.{drop-take, drop_at, length-drop, length-repli
 use Rattle.page_pool.specs.declared.segs.Seg.{Seg}
 use Rattle.page_pool.specs.Cells.{flat}
 use Rattle.range_gate.specs.Cells.{cells_of, in_turn}
-use Rattle.target_answer.specs.Target.{Stored}
+use Rattle.rig_api.specs.Target.{Stored}
 use Rattle.rig_api.specs.Log.{LogEntry}
 use Rattle.rig_discovery.specs.Discovery.{info_of}
 use Rattle.stack_ops.specs.declared.reply.Reply.{Reply}

@@ -10,8 +10,8 @@ use Rattle.page_pool.proofs.Celled.{read-cells}
 use Rattle.page_pool.proofs.Placing.{length-places_in}
 use Rattle.page_pool.proofs.Spreads.{range-all}
 use Rattle.range_gate.specs.Cells.{cells_of}
-use Rattle.target_answer.specs.Target.{Stored}
-use Rattle.target_answer.specs.declared.units.UnitSpec.{UnitSpec}
+use Rattle.rig_api.specs.Target.{Stored}
+use Rattle.rig_api.specs.declared.units.UnitSpec.{UnitSpec}
 use Rattle.volume_table.specs.declared.device.DeviceInfo.{DeviceInfo}
 use Rattle.volume_table.specs.Tables.{Table}
 use Rattle.dix_adapter.specs.Ways.{blocks_told, shapes_of}

@@ -6,7 +6,7 @@ use Rattle.stack_ops.specs.declared.reply.Reply.TheVariants.{Silent, Whole}
 use Rattle.walk_laws.specs.Steps.{body_of}
 use Rattle.mirror_volume.specs.OnOps.{Sides}
 use Rattle.page_pool.specs.declared.segs.Seg.{Seg}
-use Rattle.target_answer.specs.Target.{Stored}
+use Rattle.rig_api.specs.Target.{Stored}
 use Rattle.dix_adapter.specs.Ways.{blocks_told, shapes_of}
 use Rattle.block_path.specs.Acts.{State}
 use Rattle.stack_ops.specs.declared.op.Op.{Op}

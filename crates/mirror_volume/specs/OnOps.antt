@@ -18,7 +18,7 @@ use Rattle.dix_base.specs.Told.{Calm, Rose}
 use Rattle.rig_api.specs.declared.change.Change.{Change}
 use Rattle.rig_api.specs.Telling.{block_at, changed, with_block}
 use Rattle.rig_api.specs.State.{RigState}
-use Rattle.target_answer.specs.Target.{Stored}
+use Rattle.rig_api.specs.Target.{Stored}
 use Rattle.volume_table.specs.declared.device.DeviceInfo.{DeviceInfo}
 use Rattle.volume_table.specs.Tables.{Table}
 use Rattle.mirror_volume.specs.LegsPassed.{table_of}

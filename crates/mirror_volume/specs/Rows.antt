@@ -3,9 +3,9 @@ use Rattle.pi_guard.specs.declared.GuardKind.TheVariants.{Crc}
 use Rattle.pi_tuple.specs.declared.checks.PiType.TheVariants.{One}
 use Rattle.fault_schedule.specs.declared.fault.Crossing.TheVariants.{HostToAdapter}
 use Rattle.fault_schedule.specs.declared.fault.FaultKind.TheVariants.{Flip}
-use Rattle.target_answer.specs.Image.{fresh}
-use Rattle.target_answer.specs.Target.{Stored}
-use Rattle.target_answer.specs.declared.units.UnitSpec.{UnitSpec}
+use Rattle.rig_api.specs.Image.{fresh}
+use Rattle.rig_api.specs.Target.{Stored}
+use Rattle.rig_api.specs.declared.units.UnitSpec.{UnitSpec}
 use Rattle.rig_discovery.specs.Discovery.{info_of}
 use Rattle.stack_ops.specs.declared.op.Op.TheVariants.{Fetch, Write}
 use Rattle.volume_table.specs.declared.device.DeviceInfo.{DeviceInfo}

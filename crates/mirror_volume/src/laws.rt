@@ -5,7 +5,7 @@ ghost use Rattle.page_pool.specs.declared.segs.Seg.{Seg as AnySeg};
 ghost use Rattle.stack_ops.specs.declared.op.Op.{Op as AnyOp};
 ghost use Rattle.stack_ops.specs.declared.op.Op.TheVariants.{Fetch};
 ghost use Rattle.stack_ops.specs.declared.reply.Reply.{Reply as AnyReply};
-ghost use Rattle.target_answer.specs.Target.{Stored};
+ghost use Rattle.rig_api.specs.Target.{Stored};
 ghost use Rattle.volume_table.specs.declared.device.DeviceInfo.{DeviceInfo as AnyDevice};
 ghost use Rattle.script_text.specs.declared.script.Script.{Script as AnyScript};
 ghost use Rattle.mirror_laws.specs.declared.marks.Marks.{Marks as AnyMarks};

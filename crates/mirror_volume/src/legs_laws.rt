@@ -1,6 +1,6 @@
 ghost use Rattle.std.specs.Prelude.{ℕ, ◌≡◌, ◌+◌, ◌*◌, ◌/◌, List, length, map, None};
-ghost use Rattle.target_answer.specs.Target.{Stored};
-ghost use Rattle.target_answer.specs.declared.units.UnitSpec.{UnitSpec};
+ghost use Rattle.rig_api.specs.Target.{Stored};
+ghost use Rattle.rig_api.specs.declared.units.UnitSpec.{UnitSpec};
 ghost use Rattle.rig_api.specs.Log.{LogEntry};
 ghost use Rattle.rig_discovery.specs.Discovery.{info_of};
 ghost use Rattle.stack_ops.specs.declared.reply.Reply.{Reply as AnyReply};

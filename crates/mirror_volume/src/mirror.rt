@@ -4,7 +4,7 @@ ghost use Rattle.std.specs.Prelude.{IfErr, IfOk, IsTrue, List, Ok, [], false, is
 ghost use Rattle.mirror_volume.specs.Helds.{none_mended, so_far};
 ghost use Rattle.mirror_volume.specs.Plans.{IsMirror, sides_of};
 ghost use Rattle.mirror_volume.specs.Running.{CanGoOn, CanRun, DidNext, HasRunOnLegs};
-ghost use Rattle.target_answer.specs.Target.{Stored};
+ghost use Rattle.rig_api.specs.Target.{Stored};
 ghost use Rattle.mirror_volume.specs.OnOps.{RanOp, whole_request};
 ghost use Rattle.mirror_volume.specs.Mending.{IsRepairOf, RepairBy, stretches_in};
 ghost use Rattle.mirror_volume.specs.Standing.{IsBoundMirror, RepairsAsWalk, StandsAt, op_at};

@@ -2,7 +2,7 @@
 
 ghost use Rattle.std.specs.Prelude.{ℕ, ◌≡◌, ◌+◌, ◌<◌, List, [], ◌∷◌, ◌++◌, length, map};
 ghost use Rattle.page_pool.specs.Pages.{AreWhole};
-ghost use Rattle.target_answer.specs.Target.{Stored};
+ghost use Rattle.rig_api.specs.Target.{Stored};
 ghost use Rattle.rig_discovery.specs.Discovery.{info_of};
 ghost use Rattle.dix_adapter.specs.Ways.{shapes_of};
 ghost use Rattle.stack_ops.specs.declared.reply.Reply.{Reply as AnyReply};

@@ -25,9 +25,9 @@ use Rattle.integrity_payload.specs.Payloads.{all_asked}
 use Rattle.integrity_payload.specs.declared.payload.Owner.{Owner}
 use Rattle.integrity_payload.specs.declared.payload.Owner.TheVariants.{Block as OfBlock, App as OfApp}
 use Rattle.ref_remap.specs.Remapped.{remapped}
-use Rattle.target_answer.specs.Frames.{data_of, frame_of, tuple_of}
-use Rattle.target_answer.specs.Passing.{asked_of, found_in, from_medium, is_one, then_crossed, to_medium, unless, wanted_of, with_own_tuple}
-use Rattle.target_answer.specs.declared.passage.Passage.{Passage}
+use Rattle.rig_api.specs.Frames.{data_of, frame_of, tuple_of}
+use Rattle.rig_api.specs.Passing.{asked_of, found_in, from_medium, is_one, then_crossed, to_medium, unless, wanted_of, with_own_tuple}
+use Rattle.rig_api.specs.declared.passage.Passage.{Passage}
 use Rattle.block_path.specs.declared.mode.Mode.{Mode}
 use Rattle.block_path.specs.declared.route.Route.{Route}
 use Rattle.block_path.specs.Routes.{by_target, host_type, is_crc, moved, passage, passes_tuples, target, with_guard}

@@ -10,7 +10,7 @@ use Rattle.fault_schedule.specs.declared.fault.Crossing.{Crossing}
 use Rattle.fault_schedule.specs.declared.fault.Crossing.TheVariants.{HostToAdapter, AdapterToTarget, TargetToMedium, MediumToTarget, TargetToAdapter, AdapterToHost}
 use Rattle.fault_schedule.specs.AnyOrder.{xored-same}
 use Rattle.pi_tuple.specs.declared.checks.Check.{Check}
-use Rattle.target_answer.specs.Passing.{then_crossed}
+use Rattle.rig_api.specs.Passing.{then_crossed}
 use Rattle.block_path.proofs.Cells.{AllBelow}
 use Rattle.walk_laws.specs.Settings.{Block}
 use Rattle.mode_map.specs.Finders.{flip_of, flipped}

@@ -18,8 +18,8 @@ use Rattle.fault_schedule.specs.declared.fault.FaultLine.{FaultLine}
 use Rattle.fault_schedule.proofs.Unaltered.{altered_none}
 use Rattle.integrity_payload.specs.declared.payload.Owner.{Owner}
 use Rattle.ref_remap.specs.Remapped.{remapped}
-use Rattle.target_answer.specs.Frames.{data_of, frame_of, tuple_of}
-use Rattle.target_answer.specs.Passing.{accepted, from_medium, released, then_crossed, to_medium, unless}
+use Rattle.rig_api.specs.Frames.{data_of, frame_of, tuple_of}
+use Rattle.rig_api.specs.Passing.{accepted, from_medium, released, then_crossed, to_medium, unless}
 use Rattle.block_path.specs.declared.route.Route.{Route}
 use Rattle.block_path.specs.Routes.{by_target, passage, target}
 use Rattle.block_path.specs.WayIn.{Delivers, adapter_finds_in, at_host, delivered_unless, from_device, from_wire, mapped_back, owner_finds, received, verified, way_in}

@@ -5,10 +5,10 @@ use Rattle.std.proofs.lemmas.Bool.Decides.{nat_tests}
 use Rattle.std.proofs.lemmas.List.{take_all}
 use Rattle.dix_base.specs.Told.{Calm}
 use Rattle.dix_base.proofs.Counts.{never_rose}
-use Rattle.source_text.specs.Reading.{most_bytes}
-use Rattle.source_text.proofs.Taking.{most_is, over_long, whole_text}
+use Rattle.dix_base.specs.Reading.{most_bytes}
+use Rattle.dix_base.proofs.Taking.{most_is, over_long, whole_text}
 use Rattle.rig_api.specs.Head.{head_fault, head_of, units_of}
-use Rattle.target_answer.specs.Image.{units_in}
+use Rattle.rig_api.specs.Image.{units_in}
 use Rattle.rig_api.specs.Telling.{Standing, specs_of, units_told}
 use Rattle.rig_api.specs.State.{RigState}
 use Rattle.rig_api.proofs.HeadLaws.{headed}

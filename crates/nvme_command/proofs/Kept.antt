@@ -3,12 +3,12 @@ use Rattle.std.proofs.Common.{◌≡◌, ℕ, eqb, true, false, List, [], ◌∷
 use Rattle.std.specs.Prelude.{is_some, map}
 use Rattle.std.proofs.lemmas.Bool.{cases_Bool, eqb-true}
 use Rattle.std.proofs.lemmas.List.{length-replicate, take_at}
-use Rattle.target_answer.specs.Target.{Stored}
+use Rattle.rig_api.specs.Target.{Stored}
 use Rattle.rig_api.specs.Log.{Room}
 use Rattle.rig_api.specs.State.{RigState}
-use Rattle.target_answer.specs.Headers.{bytes_of}
-use Rattle.target_answer.specs.Image.{unit_from, units_from, units_in}
-use Rattle.target_answer.specs.declared.units.UnitSpec.{UnitSpec}
+use Rattle.rig_api.specs.Headers.{bytes_of}
+use Rattle.rig_api.specs.Image.{unit_from, units_from, units_in}
+use Rattle.rig_api.specs.declared.units.UnitSpec.{UnitSpec}
 use Rattle.rig_api.specs.Telling.{Standing, specs_of, units_told}
 use Rattle.rig_discovery.specs.Discovery.{info_of}
 use Rattle.rig_discovery.proofs.Telling.{shape_is}

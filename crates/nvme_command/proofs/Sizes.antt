@@ -4,8 +4,8 @@ use Rattle.std.specs.Prelude.{slice_index_or}
 use Rattle.std.specs.List.{list_all}
 use Rattle.std.proofs.lemmas.List.{take_all}
 use Rattle.std.proofs.lemmas.Bool.{and_from}
-use Rattle.target_answer.specs.Headers.{is_spec}
-use Rattle.target_answer.specs.declared.units.UnitSpec.{UnitSpec}
+use Rattle.rig_api.specs.Headers.{is_spec}
+use Rattle.rig_api.specs.declared.units.UnitSpec.{UnitSpec}
 use Rattle.rig_api.specs.Head.{head_fault, units_of}
 use Rattle.rig_api.specs.Log.{LogEntry}
 use Rattle.rig_api.specs.Telling.{Standing, no_spec, spec_at, specs_of}
@@ -14,7 +14,7 @@ use Rattle.volume_table.specs.declared.device.DeviceInfo.{DeviceInfo}
 use Rattle.rig_discovery.specs.Discovery.{LookAnswer, HasFound, all_told, told, with_info}
 use Rattle.rig_discovery.proofs.Telling.{all_at, last_true}
 use Rattle.rig_discovery.proofs.ToldSizes.{told_size}
-use Rattle.target_answer.specs.Target.{Stored}
+use Rattle.rig_api.specs.Target.{Stored}
 use Rattle.image_commands.specs.Passed.{HasDevices as Discovered}
 use Rattle.nvme_front.specs.Answers.{HasNamespaces}
 use Rattle.nvme_front.specs.Refusals.{has_size}

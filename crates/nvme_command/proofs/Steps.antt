@@ -4,7 +4,7 @@ use Rattle.std.specs.Prelude.{map, not}
 use Rattle.std.proofs.lemmas.List.{take-append-drop, take_more}
 use Rattle.dix_base.specs.Told.{Calm}
 use Rattle.dix_base.proofs.Counts.{never_rose}
-use Rattle.target_answer.specs.Target.{Stop, Stored}
+use Rattle.rig_api.specs.Target.{Stop, Stored}
 use Rattle.rig_api.specs.Telling.{HasCause, unit_at}
 use Rattle.rig_api.specs.State.{RigState}
 use Rattle.volume_table.specs.declared.device.DeviceInfo.{DeviceInfo}

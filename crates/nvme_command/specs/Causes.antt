@@ -1,7 +1,7 @@
 use Rattle.std.specs.Prelude.{ℕ, ◌≡◌, ◌⊎◌, Bool, List, [], length, Option, Some, None, Ok, Err}
 use Rattle.dix_base.specs.Told.{Calm, Rose}
-use Rattle.source_text.specs.Reading.{IsOver, IsWhole}
-use Rattle.target_answer.specs.Target.{Stored}
+use Rattle.dix_base.specs.Reading.{IsOver, IsWhole}
+use Rattle.rig_api.specs.Target.{Stored}
 use Rattle.rig_api.specs.Head.{units_of}
 use Rattle.rig_api.specs.Telling.{units_told}
 use Rattle.rig_api.specs.State.{RigState}

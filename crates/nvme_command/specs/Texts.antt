@@ -5,7 +5,7 @@ use Rattle.script_lines.specs.declared.kind.ScriptKind.TheVariants.{LongLine, Me
 use Rattle.nvme_command.specs.Lines.{line_form}
 use Rattle.nvme_command.specs.declared.line.NvmLine.{NvmLine}
 use Rattle.script_text.specs.declared.fault.ScriptFault.{ScriptFault}
-use Rattle.source_text.specs.declared.TheConstants.{LONGEST_LINE, MOST_BYTES}
+use Rattle.dix_base.specs.declared.reading.TheConstants.{LONGEST_LINE, MOST_BYTES}
 
 -- A text of NVM commands, line by line. A line without words, or whose first word begins with #, is skipped.
 

@@ -7,12 +7,11 @@ use crate::fitting::misfit;
 use crate::session::{Done, do_lines};
 use crate::{NvmLine, front_of, read_lines};
 use call_refusal::Refusal;
-use dix_base::Source;
+use dix_base::{Source, read_all};
 use fault_schedule::FaultList;
 use image_commands::open_image;
 use nvme_front::NvmFront;
 use rig_api::Rig;
-use source_text::read_all;
 use std::alloc::Global;
 
 /// Reads the source to its end, and its lines.

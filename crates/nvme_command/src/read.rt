@@ -9,7 +9,7 @@ use crate::line::{NvmLine, line_of};
 use script_lines::{ScriptKind, Words};
 use script_text::ScriptFault;
 use script_words::{is_plain, next_line, next_word};
-use source_text::{LONGEST_LINE, MOST_BYTES};
+use dix_base::{LONGEST_LINE, MOST_BYTES};
 use std::alloc::Global;
 
 /// A text has at most this many lines with words.

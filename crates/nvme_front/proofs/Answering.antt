@@ -4,13 +4,13 @@ use Rattle.std.specs.Prelude.{if◌then◌else◌, replicate, slice_index_or}
 use Rattle.std.proofs.lemmas.Bool.{cases_Bool, eqb-true}
 use Rattle.pi_tuple.specs.Finds.{is_zero}
 use Rattle.pi_tuple.specs.Tuples.{ref_tag}
-use Rattle.target_answer.specs.Passing.{is_one}
+use Rattle.rig_api.specs.Passing.{is_one}
 use Rattle.pi_tuple.specs.declared.checks.PiType.{PiType}
 use Rattle.cdb_codec.specs.Forms.{Fits, form}
 use Rattle.sense_codes.specs.declared.Sense.{Sense}
 use Rattle.fault_schedule.specs.declared.fault.FaultLine.{FaultLine}
-use Rattle.target_answer.specs.Frames.{joined, stored_size}
-use Rattle.target_answer.specs.Target.{Answer, Stop, Stored, target_answer}
+use Rattle.rig_api.specs.Frames.{joined, stored_size}
+use Rattle.rig_api.specs.Target.{Answer, Stop, Stored, target_answer}
 use Rattle.rig_api.specs.Telling.{IsAnswer, answer_of, unit_at}
 use Rattle.rig_api.specs.declared.rig.Outcome.{Outcome}
 use Rattle.rig_api.proofs.UnitLaws.{fills}

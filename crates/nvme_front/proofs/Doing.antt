@@ -5,7 +5,7 @@ use Rattle.std.proofs.lemmas.Bool.{eqb-true}
 use Rattle.dix_base.specs.Told.{Rose}
 use Rattle.cdb_codec.specs.Forms.{form}
 use Rattle.sense_codes.specs.declared.Sense.{Sense}
-use Rattle.target_answer.specs.Target.{Stop, Stored}
+use Rattle.rig_api.specs.Target.{Stop, Stored}
 use Rattle.rig_api.specs.Log.{IsMedium, IsMediumSense, entry_of}
 use Rattle.rig_api.specs.Telling.{IsAnswer, IsStanding, answer_of, spec_at, unit_at, units_told}
 use Rattle.rig_api.specs.declared.rig.Outcome.{Outcome}

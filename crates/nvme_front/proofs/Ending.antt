@@ -13,13 +13,13 @@ use Rattle.cdb_codec.specs.declared.command.Rw.{Rw}
 use Rattle.cdb_codec.proofs.Inverse.{decoded_form}
 use Rattle.sense_codes.specs.declared.Sense.{Sense}
 use Rattle.fault_schedule.specs.declared.fault.FaultLine.{FaultLine}
-use Rattle.target_answer.specs.Frames.{data_of, frames_of, joined, sent_size}
-use Rattle.target_answer.specs.Passing.{found_in, from_medium, to_medium, unless}
-use Rattle.target_answer.specs.Requests.{is_foreign, request_of}
-use Rattle.target_answer.specs.Target.{Answer, Stop, Stored, answer_unless, bytes_of, carried_out, check_sense, each, first_of, first_sense, has_blocks, illegal, medium_address, medium_sense, passage, passed, read_by, read_end, refusal, refusals_of, refused, shape_of, stored_from, target_answer, whole, wire_address, write_end, written_by}
-use Rattle.target_answer.specs.declared.request.Request.TheVariants.{Read, Write}
-use Rattle.target_answer.specs.declared.units.UnitSpec.{UnitSpec}
-use Rattle.target_answer.proofs.FrameLaws.{frames_length, unless_crossed}
+use Rattle.rig_api.specs.Frames.{data_of, frames_of, joined, sent_size}
+use Rattle.rig_api.specs.Passing.{found_in, from_medium, to_medium, unless}
+use Rattle.rig_api.specs.Requests.{is_foreign, request_of}
+use Rattle.rig_api.specs.Target.{Answer, Stop, Stored, answer_unless, bytes_of, carried_out, check_sense, each, first_of, first_sense, has_blocks, illegal, medium_address, medium_sense, passage, passed, read_by, read_end, refusal, refusals_of, refused, shape_of, stored_from, target_answer, whole, wire_address, write_end, written_by}
+use Rattle.rig_api.specs.declared.request.Request.TheVariants.{Read, Write}
+use Rattle.rig_api.specs.declared.units.UnitSpec.{UnitSpec}
+use Rattle.rig_api.proofs.FrameLaws.{frames_length, unless_crossed}
 use Rattle.rig_api.specs.declared.rig.Outcome.{Outcome}
 use Rattle.nvme_front.specs.Answers.{outcome_of}
 use Rattle.nvme_front.specs.Completions.{by_end, completed, is_internal, out_of_range, read_error, success, write_fault}

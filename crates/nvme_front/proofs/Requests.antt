@@ -9,10 +9,10 @@ use Rattle.cdb_codec.specs.Rule.{fits_10, in_10, in_16, in_32, is_two, untagged}
 use Rattle.cdb_codec.specs.declared.command.Rw.{Rw}
 use Rattle.cdb_codec.specs.declared.choice.Dir2.TheVariants.{In, Out}
 use Rattle.cdb_codec.proofs.Inverse.{decoded_form}
-use Rattle.target_answer.specs.Frames.{sent_size, stored_size}
-use Rattle.target_answer.specs.Requests.{blocks_in, blocks_of, is_foreign, request_of, transferred}
-use Rattle.target_answer.specs.declared.request.Request.{Request}
-use Rattle.target_answer.specs.declared.request.Request.TheVariants.{Read, Write}
+use Rattle.rig_api.specs.Frames.{sent_size, stored_size}
+use Rattle.rig_api.specs.Requests.{blocks_in, blocks_of, is_foreign, request_of, transferred}
+use Rattle.rig_api.specs.declared.request.Request.{Request}
+use Rattle.rig_api.specs.declared.request.Request.TheVariants.{Read, Write}
 use Rattle.rig_api.specs.Log.{capacity_by, capacity_len, capacity_under}
 use Rattle.nvme_front.specs.Commands.{is_write}
 use Rattle.nvme_front.specs.Translation.{protect_for, scsi_command, tagged}

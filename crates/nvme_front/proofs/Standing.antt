@@ -1,11 +1,11 @@
 -- The blocks of a told unit have one length.
 use Rattle.std.proofs.Common.{◌≡◌, ◌<◌, ◌≤◌, ℕ, zero, suc, ◌+◌, ◌*◌, List, [], ◌∷◌, length, drop, ap, subst, arith, inl, inr, Option, Some, None}
 use Rattle.std.proofs.lemmas.List.{length-drop, length-take-le, take_all}
-use Rattle.target_answer.specs.Frames.{frames_of, stored_size}
-use Rattle.target_answer.specs.Headers.{all_bytes, bytes_of}
-use Rattle.target_answer.specs.Image.{units_from, units_in}
-use Rattle.target_answer.specs.Target.{Stored}
-use Rattle.target_answer.specs.declared.units.UnitSpec.{UnitSpec}
+use Rattle.rig_api.specs.Frames.{frames_of, stored_size}
+use Rattle.rig_api.specs.Headers.{all_bytes, bytes_of}
+use Rattle.rig_api.specs.Image.{units_from, units_in}
+use Rattle.rig_api.specs.Target.{Stored}
+use Rattle.rig_api.specs.declared.units.UnitSpec.{UnitSpec}
 use Rattle.rig_api.specs.Head.{units_of}
 use Rattle.rig_api.specs.Telling.{IsStanding, Standing, StandsOn, specs_of, unit_at, units_told}
 use Rattle.rig_api.proofs.HeadLaws.{image_long}

@@ -1,8 +1,8 @@
 use Rattle.std.specs.Prelude.{ℕ, ◌≡◌, ◌-◌, List, [], ◌∷◌, ◌++◌, length, map, Option, Some}
 use Rattle.cdb_codec.specs.Forms.{form}
 use Rattle.fault_schedule.specs.declared.fault.FaultLine.{FaultLine}
-use Rattle.target_answer.specs.Frames.{joined}
-use Rattle.target_answer.specs.Target.{Answer, Stop, Stored, target_answer}
+use Rattle.rig_api.specs.Frames.{joined}
+use Rattle.rig_api.specs.Target.{Answer, Stop, Stored, target_answer}
 use Rattle.rig_api.specs.Log.{LogEntry, entry_of}
 use Rattle.rig_api.specs.Telling.{Standing, spec_at, with_blocks}
 use Rattle.rig_api.specs.declared.rig.Outcome.{Outcome}

@@ -3,7 +3,7 @@ use Rattle.pi_guard.specs.Guards.{crc}
 use Rattle.pi_tuple.specs.Finds.{has_ref_tag, is_zero}
 use Rattle.pi_tuple.specs.Tuples.{tuple_bytes}
 use Rattle.pi_tuple.specs.declared.checks.PiType.{PiType}
-use Rattle.target_answer.specs.Frames.{stored_size}
+use Rattle.rig_api.specs.Frames.{stored_size}
 use Rattle.nvme_front.specs.Commands.{is_write}
 use Rattle.nvme_front.specs.Completions.{is_success}
 use Rattle.nvme_front.specs.Refusals.{has_meta}

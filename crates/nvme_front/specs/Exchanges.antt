@@ -2,7 +2,7 @@ use Rattle.std.specs.Prelude.{ℕ, ◌≡◌, ◌*◌, true, List, [], length}
 use Rattle.rig_api.specs.State.{Exchanged, RigState}
 use Rattle.rig_api.specs.declared.rig.Outcome.{Outcome}
 use Rattle.cdb_codec.specs.Forms.{Fits, form}
-use Rattle.target_answer.specs.Frames.{stored_size}
+use Rattle.rig_api.specs.Frames.{stored_size}
 use Rattle.volume_table.specs.declared.device.DeviceInfo.{DeviceInfo}
 use Rattle.nvme_front.specs.Buffers.{body_after, meta_after, room_for, sent_by}
 use Rattle.nvme_front.specs.Commands.{is_write}

@@ -3,7 +3,7 @@ use Rattle.pi_tuple.specs.Finds.{is_zero}
 use Rattle.pi_tuple.specs.Tuples.{ref_tag}
 use Rattle.pi_tuple.specs.declared.checks.PiType.{PiType}
 use Rattle.pi_tuple.specs.declared.checks.PiType.TheVariants.{Zero, One, Two, Three}
-use Rattle.target_answer.specs.Passing.{is_one}
+use Rattle.rig_api.specs.Passing.{is_one}
 use Rattle.volume_table.specs.declared.device.DeviceInfo.{DeviceInfo}
 use Rattle.nvme_front.specs.Commands.{is_read, is_write}
 use Rattle.nvme_front.specs.Completions.{out_of_range}

@@ -1,6 +1,6 @@
 use Rattle.std.specs.Prelude.{ℕ, ◌≡◌, ◌-◌, true, false, List, Option, Some, None, is_some}
 use Rattle.dix_base.specs.Told.{Calm, Rose}
-use Rattle.target_answer.specs.Target.{Stop, Stored}
+use Rattle.rig_api.specs.Target.{Stop, Stored}
 use Rattle.rig_api.specs.State.{RigState}
 use Rattle.rig_api.specs.Telling.{HasCause, frame_size, unit_at}
 use Rattle.volume_table.specs.declared.device.DeviceInfo.{DeviceInfo}

@@ -2,7 +2,7 @@
 
 ghost use Rattle.std.specs.Prelude.{◌≡◌, ◌+◌, ◌*◌, ◌<◌, ◌≤◌, ◌++◌, ◌^◌, true, false, length, take, drop};
 ghost use Rattle.pi_tuple.specs.Finds.{is_zero};
-ghost use Rattle.target_answer.specs.Frames.{stored_size};
+ghost use Rattle.rig_api.specs.Frames.{stored_size};
 ghost use Rattle.nvme_front.specs.Buffers.{body_after, frames_out, made_tag, meta_after, parts, room_for, sent_by, tuple_for};
 ghost use Rattle.nvme_front.specs.Commands.{is_write};
 ghost use Rattle.nvme_front.specs.Refusals.{has_meta, meta_len};
@@ -11,7 +11,7 @@ ghost use Rattle.pi_tuple.specs.declared.TheConstants.{LARGEST_BLOCK};
 use crate::{Completion, NvmCommand};
 use pi_guard::crc16;
 use pi_tuple::{PiType, TUPLE, has_ref_tag, make};
-use target_answer::stored_size;
+use rig_api::stored_size;
 
 /// Puts these bytes behind those in front of this place, and answers where they end.
 fn put(into: &mut [u8], at: usize, piece: &[u8]) -> usize

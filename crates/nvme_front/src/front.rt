@@ -5,7 +5,7 @@ ghost use Rattle.std.specs.List.{list_all};
 ghost use Rattle.rig_api.specs.Log.{HasRoom, capacity_len};
 ghost use Rattle.rig_api.specs.Telling.{greatest_size};
 ghost use Rattle.rig_api.specs.State.{Exchanged, Stays};
-ghost use Rattle.target_answer.specs.Requests.{blocks_of};
+ghost use Rattle.rig_api.specs.Requests.{blocks_of};
 ghost use Rattle.nvme_front.specs.Answers.{HasNamespaces};
 ghost use Rattle.nvme_front.specs.Results.{AnswersCalm, IsAnswered};
 ghost use Rattle.nvme_front.specs.Exchanges.{ExchangeDone};

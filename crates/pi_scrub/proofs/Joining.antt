@@ -6,7 +6,7 @@ use Rattle.dix_base.specs.Told.{Calm, Rose}
 use Rattle.dix_base.proofs.Counts.{calm_first, calm_then}
 use Rattle.sense_codes.specs.declared.Sense.{Sense}
 use Rattle.pi_tuple.specs.declared.checks.PiType.{PiType}
-use Rattle.target_answer.specs.Target.{Stored}
+use Rattle.rig_api.specs.Target.{Stored}
 use Rattle.rig_api.specs.Log.{LogEntry, IsMedium}
 use Rattle.rig_api.specs.Telling.{unit_at}
 use Rattle.rig_api.specs.declared.rig.Outcome.{Outcome}

@@ -14,9 +14,9 @@ use Rattle.cdb_codec.specs.declared.command.Rw.{Rw}
 use Rattle.cdb_codec.proofs.Inverse.{decoded_form}
 use Rattle.sense_codes.specs.declared.Sense.{Sense}
 use Rattle.fault_schedule.specs.declared.fault.FaultLine.{FaultLine}
-use Rattle.target_answer.specs.Passing.{found_in, from_medium, unless}
-use Rattle.target_answer.specs.Target.{Answer, Stop, Stored, answer_unless, each, first_sense, keeping, passage, passed, read_by, refusal, shape_of, stored_from, target_answer, whole}
-use Rattle.target_answer.proofs.FrameLaws.{unless_crossed}
+use Rattle.rig_api.specs.Passing.{found_in, from_medium, unless}
+use Rattle.rig_api.specs.Target.{Answer, Stop, Stored, answer_unless, each, first_sense, keeping, passage, passed, read_by, refusal, shape_of, stored_from, target_answer, whole}
+use Rattle.rig_api.proofs.FrameLaws.{unless_crossed}
 use Rattle.rig_api.specs.Telling.{IsAnswer, Standing, answer_of, unit_at, units_told, with_blocks}
 use Rattle.rig_api.specs.declared.rig.Outcome.{Outcome}
 use Rattle.rig_api.proofs.UnitLaws.{own_blocks}

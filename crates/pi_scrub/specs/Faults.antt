@@ -5,9 +5,9 @@ use Rattle.pi_tuple.specs.Tuples.{ref_tag}
 use Rattle.pi_tuple.specs.declared.checks.Check.{Check}
 use Rattle.pi_tuple.specs.declared.checks.Checks.{Checks}
 use Rattle.pi_tuple.specs.declared.checks.PiType.{PiType}
-use Rattle.target_answer.specs.Frames.{data_of, tuple_of}
-use Rattle.target_answer.specs.Passing.{is_one}
-use Rattle.target_answer.specs.Target.{Stored}
+use Rattle.rig_api.specs.Frames.{data_of, tuple_of}
+use Rattle.rig_api.specs.Passing.{is_one}
+use Rattle.rig_api.specs.Target.{Stored}
 use Rattle.bio_core.specs.declared.fate.Why.TheVariants.{Target}
 use Rattle.pi_scrub.specs.declared.found.Found.{Found}
 

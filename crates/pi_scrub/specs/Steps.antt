@@ -2,7 +2,7 @@ use Rattle.std.specs.Prelude.{ℕ, ◌≡◌, ◌+◌, ◌-◌, ◌≤◌, List,
 use Rattle.std.specs.Global.{Vec}
 use Rattle.dix_base.specs.Told.{Calm, Rose}
 use Rattle.pi_tuple.specs.declared.checks.PiType.{PiType}
-use Rattle.target_answer.specs.Target.{Stored}
+use Rattle.rig_api.specs.Target.{Stored}
 use Rattle.rig_api.specs.Log.{LogEntry, IsMedium}
 use Rattle.rig_api.specs.Telling.{unit_at}
 use Rattle.rig_api.specs.declared.rig.Outcome.{Outcome}

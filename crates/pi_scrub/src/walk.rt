@@ -4,7 +4,7 @@ ghost use Rattle.std.specs.Prelude.{◌≡◌, ◌+◌, ◌<◌, ◌++◌, [], L
 ghost use Rattle.dix_base.specs.Told.{Calm};
 ghost use Rattle.rig_api.specs.Telling.{unit_at};
 ghost use Rattle.rig_api.specs.State.{Stays};
-ghost use Rattle.target_answer.specs.Target.{Stored};
+ghost use Rattle.rig_api.specs.Target.{Stored};
 ghost use Rattle.pi_scrub.specs.Faults.{all_faults, faults_of};
 ghost use Rattle.pi_scrub.specs.Looks.{LookedPlace, all_places, info_at, places};
 ghost use Rattle.pi_scrub.specs.Scrubbed.{HasDevices, Looked};

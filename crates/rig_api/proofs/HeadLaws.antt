@@ -6,9 +6,9 @@ use Rattle.std.proofs.Math.Seq.{take-length}
 use Rattle.std.specs.Prelude.{if◌then◌else◌}
 use Rattle.rig_api.specs.declared.rig.RigFault.TheVariants.{BadLength}
 use Rattle.std.proofs.lemmas.Bool.{eqb-true, cases_Bool}
-use Rattle.target_answer.specs.declared.units.Version.{Version}
-use Rattle.target_answer.specs.Headers.{image_size, is_header, specs_in, is_layout}
-use Rattle.target_answer.proofs.HeaderLaws.{header_layout}
+use Rattle.rig_api.specs.declared.units.Version.{Version}
+use Rattle.rig_api.specs.Headers.{image_size, is_header, specs_in, is_layout}
+use Rattle.rig_api.proofs.HeaderLaws.{header_layout}
 
 pub headed : (h : Head) (image : List ℕ) (told : Option (List ℕ)) → told ≡ Some image → IsHeadOf h told → h ≡ head_of image
 headed h image told e i = rw e at i

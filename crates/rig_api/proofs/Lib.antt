@@ -4,3 +4,9 @@ pub mod Passed
 pub mod RoomLaws
 pub mod State
 pub mod UnitLaws
+mod Rows
+mod UnitLemmas
+pub mod FreshBlocks
+pub mod FrameLaws
+pub mod FewFrames
+pub mod HeaderLaws

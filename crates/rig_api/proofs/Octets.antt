@@ -4,11 +4,11 @@ use Rattle.std.proofs.Common.{subst}
 use Rattle.std.proofs.lemmas.Option.{same_Some}
 use Rattle.std.proofs.lemmas.List.Elements.{All-nil, All-cons, All-take, All-drop}
 use Rattle.dix_base.specs.Told.{AreOctets}
-use Rattle.target_answer.specs.Frames.{frames_of, stored_size}
-use Rattle.target_answer.specs.Headers.{bytes_of}
-use Rattle.target_answer.specs.Image.{units_from}
-use Rattle.target_answer.specs.Target.{Stored}
-use Rattle.target_answer.specs.declared.units.UnitSpec.{UnitSpec}
+use Rattle.rig_api.specs.Frames.{frames_of, stored_size}
+use Rattle.rig_api.specs.Headers.{bytes_of}
+use Rattle.rig_api.specs.Image.{units_from}
+use Rattle.rig_api.specs.Target.{Stored}
+use Rattle.rig_api.specs.declared.units.UnitSpec.{UnitSpec}
 use Rattle.rig_api.specs.Telling.{Standing, specs_of, units_told}
 
 frames_octets : (len n : ℕ) (bytes : List ℕ) → All (λ x. x < 256) bytes → All (All (λ x. x < 256)) (frames_of len n bytes)

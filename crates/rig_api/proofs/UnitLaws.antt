@@ -1,6 +1,6 @@
 -- A unit that gets its own blocks is as it was; a buffer that is filled whole.
 use Rattle.std.proofs.Common.{List, ℕ, ◌≡◌, [], refl, ◌∷◌, zero, suc, ap, length, ◌++◌, arith, ◌∙◌, append-nil}
-use Rattle.target_answer.specs.Target.{Stored}
+use Rattle.rig_api.specs.Target.{Stored}
 use Rattle.rig_api.specs.Telling.{with_blocks, unit_at, at_front}
 use Rattle.std.proofs.lemmas.List.{drop_all}
 

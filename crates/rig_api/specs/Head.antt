@@ -1,8 +1,8 @@
 use Rattle.std.specs.Prelude.{ℕ, ◌≡◌, Bool, true, false, eqb, ltb, if◌then◌else◌, List, length, take, Option, Some, None, Result, Ok, Err, codes}
-use Rattle.target_answer.specs.Headers.{version_of, is_header, specs_in, image_size}
-use Rattle.target_answer.specs.declared.units.UnitSpec.{UnitSpec}
-use Rattle.target_answer.specs.declared.units.Version.{Version}
-use Rattle.target_answer.specs.declared.units.Version.TheVariants.{First}
+use Rattle.rig_api.specs.Headers.{version_of, is_header, specs_in, image_size}
+use Rattle.rig_api.specs.declared.units.UnitSpec.{UnitSpec}
+use Rattle.rig_api.specs.declared.units.Version.{Version}
+use Rattle.rig_api.specs.declared.units.Version.TheVariants.{First}
 use Rattle.rig_api.specs.declared.rig.RigFault.{RigFault}
 use Rattle.rig_api.specs.declared.rig.RigFault.TheVariants.{BadMagic, BadHeader, BadLength, Failed, Memory}
 

@@ -9,15 +9,15 @@ pub use Rattle.fault_schedule.specs.declared.fault.Crossing.{Crossing}
 pub use Rattle.fault_schedule.specs.declared.fault.Crossing.TheVariants.{MediumToTarget, TargetToAdapter}
 pub use Rattle.fault_schedule.specs.declared.fault.FaultLine.{FaultLine}
 pub use Rattle.sense_codes.specs.declared.Sense.{Sense}
-pub use Rattle.target_answer.specs.Frames.{data_of, frames_of, joined, placed, sent_size, stored_size, tuple_of}
-pub use Rattle.target_answer.specs.Headers.{all_bytes, bytes_of as HeadersBytes_of, is_spec}
-pub use Rattle.target_answer.specs.Image.{unit_from, units_from, units_in}
-pub use Rattle.target_answer.specs.Passing.{accepted, asked_of, crossed, is_one, released, then_crossed, unless, wanted_of, with_own_tuple}
-unfoldable pub use Rattle.target_answer.specs.Passing.{found_in, from_medium, to_medium}
-pub use Rattle.target_answer.specs.Requests.{blocks_in, blocks_of, is_foreign, request_of, transferred}
-pub use Rattle.target_answer.specs.Target.{Answer, Refusal, Stop, Stored, answer_unless, bytes_of, capacity_data, carried_out, check_sense, each, fetched_outside, first_of, first_sense, foreign_form, has_blocks, illegal, medium_address, medium_sense, no_tuples, outside, passage, passed, protection_byte, read_by, read_end, refusals_of, refused, sending, shape_of, stored_from, storing, wire_address, write_end, written_by, wrong_room}
-unfoldable pub use Rattle.target_answer.specs.Target.{refusal, target_answer}
-pub use Rattle.target_answer.specs.declared.passage.Passage.{Passage}
-pub use Rattle.target_answer.specs.declared.request.Request.{Request}
-pub use Rattle.target_answer.specs.declared.request.Request.TheVariants.{Read, ReadCapacity, Verify, Write}
-pub use Rattle.target_answer.specs.declared.units.UnitSpec.{UnitSpec}
+pub use Rattle.rig_api.specs.Frames.{data_of, frames_of, joined, placed, sent_size, stored_size, tuple_of}
+pub use Rattle.rig_api.specs.Headers.{all_bytes, bytes_of as HeadersBytes_of, is_spec}
+pub use Rattle.rig_api.specs.Image.{unit_from, units_from, units_in}
+pub use Rattle.rig_api.specs.Passing.{accepted, asked_of, crossed, is_one, released, then_crossed, unless, wanted_of, with_own_tuple}
+unfoldable pub use Rattle.rig_api.specs.Passing.{found_in, from_medium, to_medium}
+pub use Rattle.rig_api.specs.Requests.{blocks_in, blocks_of, is_foreign, request_of, transferred}
+pub use Rattle.rig_api.specs.Target.{Answer, Refusal, Stop, Stored, answer_unless, bytes_of, capacity_data, carried_out, check_sense, each, fetched_outside, first_of, first_sense, foreign_form, has_blocks, illegal, medium_address, medium_sense, no_tuples, outside, passage, passed, protection_byte, read_by, read_end, refusals_of, refused, sending, shape_of, stored_from, storing, wire_address, write_end, written_by, wrong_room}
+unfoldable pub use Rattle.rig_api.specs.Target.{refusal, target_answer}
+pub use Rattle.rig_api.specs.declared.passage.Passage.{Passage}
+pub use Rattle.rig_api.specs.declared.request.Request.{Request}
+pub use Rattle.rig_api.specs.declared.request.Request.TheVariants.{Read, ReadCapacity, Verify, Write}
+pub use Rattle.rig_api.specs.declared.units.UnitSpec.{UnitSpec}

@@ -4,12 +4,12 @@ use Rattle.cdb_codec.specs.Passed.{Zero}
 use Rattle.fault_schedule.specs.Altered.{byte_at, xored_from}
 use Rattle.fault_schedule.specs.declared.Label.{Label}
 use Rattle.fault_schedule.specs.declared.fault.FaultLine.{FaultLine}
-use Rattle.target_answer.specs.Frames.{joined, stored_size}
-use Rattle.target_answer.specs.Image.{units_in, migrated}
-use Rattle.target_answer.specs.Target.{Stored, Stop, Answer, target_answer}
-use Rattle.target_answer.specs.declared.units.UnitSpec.{UnitSpec}
-use Rattle.target_answer.specs.declared.units.Version.{Version}
-use Rattle.target_answer.specs.declared.units.Version.TheVariants.{First, Second}
+use Rattle.rig_api.specs.Frames.{joined, stored_size}
+use Rattle.rig_api.specs.Image.{units_in, migrated}
+use Rattle.rig_api.specs.Target.{Stored, Stop, Answer, target_answer}
+use Rattle.rig_api.specs.declared.units.UnitSpec.{UnitSpec}
+use Rattle.rig_api.specs.declared.units.Version.{Version}
+use Rattle.rig_api.specs.declared.units.Version.TheVariants.{First, Second}
 use Rattle.rig_api.specs.Head.{Head, IsHeadOf, head_fault, head_of, units_of, version_in}
 use Rattle.rig_api.specs.declared.change.Change.{Change}
 use Rattle.rig_api.specs.declared.change.Change.TheVariants.{Flip, Copy}

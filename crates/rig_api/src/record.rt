@@ -2,16 +2,15 @@
 
 ghost use Rattle.std.specs.Prelude.{◌≡◌, ◌+◌, ◌*◌, ◌≤◌, ◌<◌, ◌^◌, Some, length, take};
 ghost use Rattle.rig_api.specs.Log.{capacity_len, frames_done, labels_of, moved_of};
-ghost use Rattle.target_answer.specs.Frames.{sent_size};
-ghost use Rattle.target_answer.specs.Requests.{blocks_in, blocks_of, transferred};
+ghost use Rattle.rig_api.specs.Frames.{sent_size};
+ghost use Rattle.rig_api.specs.Requests.{blocks_in, blocks_of, transferred};
 ghost use Rattle.cdb_codec.specs.Decoded.{decoded};
 ghost use Rattle.cdb_codec.specs.Passed.{TUPLE, LARGEST_BLOCK};
 
-use crate::{Outcome, Record};
+use crate::{Outcome, Record, Request, request_of, sent_size};
 use arrayvec::ArrayVec;
 use cdb_codec::{Cdb, CdbFault, Rw};
 use fault_schedule::{Label, ShortBytes};
-use target_answer::{Request, request_of, sent_size};
 
 impl Record {
     /// The record of an exchange: the device, the command block of at most 32 bytes and the

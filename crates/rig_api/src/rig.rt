@@ -6,17 +6,16 @@ ghost use Rattle.rig_api.specs.Head.{fault_name, units_of, version_in};
 ghost use Rattle.rig_api.specs.Log.{HasRoom, capacity_len, entry_at, have_keys};
 ghost use Rattle.rig_api.specs.State.{Exchanged, IsJudgement, KeepsRecords, RigState, Stays};
 ghost use Rattle.rig_api.specs.Telling.{IsMigrated, IsStanding, JudgesNone, KeepsBlocks, KeepsUnits, LeavesImage, LeavesShort, Opened, OpenedBy, Stayed, block_at, can_change, changed, frame_size, greatest_size, migrated_count, source_of, spec_at, unit_at, units_told, with_block};
-ghost use Rattle.target_answer.specs.Headers.{is_layout};
-ghost use Rattle.target_answer.specs.Image.{formatted};
-ghost use Rattle.target_answer.specs.Requests.{blocks_of};
-ghost use Rattle.target_answer.specs.Target.{Stored};
+ghost use Rattle.rig_api.specs.Headers.{is_layout};
+ghost use Rattle.rig_api.specs.Image.{formatted};
+ghost use Rattle.rig_api.specs.Requests.{blocks_of};
+ghost use Rattle.rig_api.specs.Target.{Stored};
 
-use crate::Change;
+use crate::{Change, UnitSpec};
 use dix_base::Failed;
 use fault_schedule::{FaultList, Label, ShortBytes};
 use sense_codes::Sense;
 use std::alloc::{AllocError, Global};
-use target_answer::UnitSpec;
 
 /// How far a target came with a command.
 #[derive(Clone, Copy, Debug, PartialEq, Eq)]

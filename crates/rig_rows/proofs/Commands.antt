@@ -5,9 +5,9 @@ use Rattle.cdb_codec.specs.Decoded.{decoded}
 use Rattle.cdb_codec.specs.declared.command.Cdb.{Cdb}
 use Rattle.cdb_codec.specs.declared.command.CdbFault.{CdbFault}
 use Rattle.rig_api.specs.Log.{capacity_by, capacity_len, capacity_under}
-use Rattle.target_answer.specs.Requests.{blocks_in, blocks_of, request_of, transferred}
-use Rattle.target_answer.specs.declared.request.Request.{Request}
-use Rattle.target_answer.specs.declared.request.Request.TheVariants.{Read, Write, Verify, ReadCapacity}
+use Rattle.rig_api.specs.Requests.{blocks_in, blocks_of, request_of, transferred}
+use Rattle.rig_api.specs.declared.request.Request.{Request}
+use Rattle.rig_api.specs.declared.request.Request.TheVariants.{Read, Write, Verify, ReadCapacity}
 
 by-request : (r : Request) (room : ℕ) → transferred r ≡ 1 → capacity_by r room ≡ 0
 by-request (Read c) room h = refl

@@ -8,10 +8,9 @@ use arrayvec::ArrayVec;
 use dix_base::FileStore;
 use fault_schedule::ShortBytes;
 use image_rig::ImageRig;
-use rig_api::{Change, Rig};
+use rig_api::{Change, Rig, is_layout};
 use std::alloc::{AllocError, Global};
 use std::{env, fs, io, process};
-use target_answer::is_layout;
 use test_table::{Words, bytes_of, hex_of};
 
 /// A rig over the file.

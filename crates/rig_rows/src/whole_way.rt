@@ -6,7 +6,7 @@
 
 ghost use Rattle.std.specs.Prelude.{◌≡◌, ◌+◌, ◌<◌, ◌^◌, length, take};
 ghost use Rattle.ref_remap.specs.Remapped.{remapped_bytes, remapped_tag};
-ghost use Rattle.target_answer.specs.Frames.{stored_size};
+ghost use Rattle.rig_api.specs.Frames.{stored_size};
 ghost use Rattle.block_path.specs.Routes.{host_size, moved, passage, target};
 ghost use Rattle.block_path.specs.WayIn.{delivered_of, mapped_back, owner_finds, way_in};
 ghost use Rattle.block_path.specs.WayOut.{ended, mapped_out, stored_of, way_out};
@@ -17,7 +17,7 @@ use block_path::{Route, host_type, owner_says};
 use fault_schedule::{Crossing, Tamper};
 use integrity_payload::Owner;
 use pi_tuple::{Check, PiType, has_ref_tag, ref_tag};
-use target_answer::{Passage, stored_size};
+use rig_api::{Passage, stored_size};
 
 /// The address that is so many blocks off.
 fn moved(lba: u64, by: i64) -> u64

@@ -19,8 +19,8 @@ use Rattle.volume_table.specs.declared.fault.VolumeFault.{VolumeFault}
 use Rattle.volume_table.specs.declared.fault.VolumeFault.TheVariants.{At}
 use Rattle.volume_table.specs.declared.fault.VolumeKind.{VolumeKind}
 use Rattle.run_command.proofs.Devices.{image_devices}
-use Rattle.source_text.proofs.Taking.{most_is, whole_text}
-use Rattle.source_text.specs.Reading.{IsOver}
+use Rattle.dix_base.proofs.Taking.{most_is, whole_text}
+use Rattle.dix_base.specs.Reading.{IsOver}
 use Rattle.run_command.specs.Verdict.{CauseRefused, CauseStopped, CauseUntaken, Facts, HasBadVolume, HasRead, HasRunSource, HasTable, HoldsFault, IsComplete, IsUnbound, StopsFromOutside, devices_of, table_over}
 use Rattle.run_command.specs.declared.verdict.Finished.{Finished}
 use Rattle.call_refusal.specs.declared.refusal.Refusal.{Refusal}

@@ -10,9 +10,9 @@ use Rattle.rig_api.specs.State.{RigState}
 use Rattle.rig_api.proofs.HeadLaws.{headed, all_specs}
 use Rattle.call_refusal.specs.Passed.{info_of}
 use Rattle.stack_walk_laws.specs.Passed.{blocks_told}
-use Rattle.target_answer.specs.Frames.{joined}
-use Rattle.target_answer.specs.Target.{Stored}
-use Rattle.target_answer.proofs.FrameLaws.{joined_append}
+use Rattle.rig_api.specs.Frames.{joined}
+use Rattle.rig_api.specs.Target.{Stored}
+use Rattle.rig_api.proofs.FrameLaws.{joined_append}
 use Rattle.volume_table.specs.declared.device.DeviceInfo.{DeviceInfo}
 use Rattle.run_command.specs.Verdict.{HoldsBlocks, WasAsked, devices_of}
 

@@ -22,8 +22,8 @@ use Rattle.volume_table.specs.declared.fault.VolumeFault.TheVariants.{At}
 use Rattle.volume_table.specs.declared.fault.VolumeKind.{VolumeKind}
 use Rattle.run_command.proofs.Completing.{longer, table_is}
 use Rattle.run_command.proofs.Devices.{image_devices}
-use Rattle.source_text.proofs.Taking.{most_is, whole_text}
-use Rattle.source_text.specs.Reading.{IsOver}
+use Rattle.dix_base.proofs.Taking.{most_is, whole_text}
+use Rattle.dix_base.specs.Reading.{IsOver}
 use Rattle.run_command.specs.Verdict.{HasBadVolume, HasRead, HasTable, HoldsFault, IsUnbound, WasAsked, devices_of, table_over}
 
 -- ---- the text

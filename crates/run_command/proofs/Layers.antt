@@ -10,7 +10,7 @@ use Rattle.integrity_payload.specs.declared.payload.Owner.{Owner}
 use Rattle.integrity_payload.specs.declared.payload.Owner.TheVariants.{Block as OfBlock, App as OfApp}
 use Rattle.bio_core.specs.declared.fate.Why.{Why}
 use Rattle.bio_core.specs.declared.fate.Why.TheVariants.{Adapter, App, Block as ByOwner, Medium, Refused, Short, Target}
-use Rattle.target_answer.specs.Passing.{from_medium, to_medium}
+use Rattle.rig_api.specs.Passing.{from_medium, to_medium}
 use Rattle.block_path.specs.declared.route.Route.{Route}
 use Rattle.block_path.specs.Acts.{Act, Effect, State, act, effect, tell}
 use Rattle.block_path.specs.Blocks.{ActAnswer, read_by, written_by}

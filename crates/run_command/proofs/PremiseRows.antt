@@ -9,11 +9,11 @@ use Rattle.fault_schedule.specs.declared.fault.Crossing.TheVariants.{AdapterToTa
 use Rattle.fault_schedule.specs.declared.fault.FaultKind.TheVariants.{Flip}
 use Rattle.fault_schedule.specs.declared.fault.FaultLine.{FaultLine}
 use Rattle.page_pool.specs.Places.{run}
-use Rattle.target_answer.specs.Headers.{header, is_header, specs_in}
-use Rattle.target_answer.specs.Image.{fresh, formatted, units_in}
-use Rattle.target_answer.specs.Passing.{found_in, from_medium, to_medium}
-use Rattle.target_answer.specs.Target.{Stored}
-use Rattle.target_answer.specs.declared.units.UnitSpec.{UnitSpec}
+use Rattle.rig_api.specs.Headers.{header, is_header, specs_in}
+use Rattle.rig_api.specs.Image.{fresh, formatted, units_in}
+use Rattle.rig_api.specs.Passing.{found_in, from_medium, to_medium}
+use Rattle.rig_api.specs.Target.{Stored}
+use Rattle.rig_api.specs.declared.units.UnitSpec.{UnitSpec}
 use Rattle.rig_api.specs.Head.{head_fault, head_of}
 use Rattle.call_refusal.specs.Passed.{info_of}
 use Rattle.block_path.specs.WayIn.{from_wire}

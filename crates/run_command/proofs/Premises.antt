@@ -1,7 +1,7 @@
 -- What the laws of a run ask, from the premises and from what reading and binding have seen to.
 use Rattle.std.proofs.Common.{◌≡◌, ◌<◌, List, map, sym, subst}
 use Rattle.std.specs.Prelude.{All}
-use Rattle.target_answer.specs.Target.{Stored}
+use Rattle.rig_api.specs.Target.{Stored}
 use Rattle.call_refusal.specs.Passed.{info_of}
 use Rattle.stack_walk_laws.specs.Passed.{blocks_told, shapes_of}
 use Rattle.volume_table.specs.Tables.{Table}

@@ -13,7 +13,7 @@ use Rattle.script_text.specs.Language.{script_in}
 use Rattle.script_text.specs.declared.fault.ScriptFault.{ScriptFault}
 use Rattle.script_text.specs.declared.script.Script.{Script}
 use Rattle.volume_table.specs.declared.device.DeviceInfo.{DeviceInfo}
-use Rattle.source_text.specs.Reading.{IsWhole, TookAtMost, most_bytes}
+use Rattle.dix_base.specs.Reading.{IsWhole, TookAtMost, most_bytes}
 use Rattle.run_command.specs.Verdict.{CauseRefused, CauseStopped, CauseUntaken, Facts, HasRead, HasRun, HasRunSource, HasTable, WasAsked}
 use Rattle.run_command.specs.Working.{CauseNoTable, CauseUnbound, CauseUnread}
 use Rattle.run_command.specs.declared.verdict.Finished.{Finished}

@@ -4,7 +4,7 @@ use Rattle.std.specs.Prelude.{All}
 use Rattle.std.specs.List.{list_any}
 use Rattle.page_pool.specs.Cells.{flat}
 use Rattle.dix_base.specs.Told.{AreOctets}
-use Rattle.target_answer.specs.Target.{Stored}
+use Rattle.rig_api.specs.Target.{Stored}
 use Rattle.rig_api.specs.Log.{LogEntry, Room}
 use Rattle.rig_api.specs.State.{RigState}
 use Rattle.record_laws.specs.Answered.{Answers}

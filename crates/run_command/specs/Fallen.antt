@@ -6,7 +6,7 @@ use Rattle.integrity_payload.specs.declared.payload.Owner.{Owner}
 use Rattle.block_path.specs.Acts.{State}
 use Rattle.stack_walk_laws.specs.Passed.{blocks_told}
 use Rattle.rig_api.specs.Log.{LogEntry}
-use Rattle.target_answer.specs.Target.{Stored}
+use Rattle.rig_api.specs.Target.{Stored}
 use Rattle.stack_ops.specs.declared.op.Op.{Op}
 use Rattle.stack_ops.specs.declared.op.Op.TheVariants.{Write, WritePi}
 use Rattle.stack_ops.specs.declared.reply.Reply.{Reply}

@@ -25,8 +25,8 @@ use Rattle.walk_laws.specs.UnderMap.{opened, under}
 use Rattle.stack_core.specs.Mediums.{RoseBy, medium_lines}
 use Rattle.stack_core.specs.Stacks.{GoesOn}
 use Rattle.stack_ops.specs.declared.reply.Reply.{Reply}
-use Rattle.target_answer.specs.Frames.{joined}
-use Rattle.target_answer.specs.Target.{Stored}
+use Rattle.rig_api.specs.Frames.{joined}
+use Rattle.rig_api.specs.Target.{Stored}
 use Rattle.volume_table.specs.Tables.{Table}
 use Rattle.volume_table.specs.declared.device.DeviceInfo.{DeviceInfo}
 use Rattle.run_command.specs.Premises.{opening_told, setting_told}

@@ -5,7 +5,7 @@ use Rattle.std.specs.List.{list_any}
 use Rattle.pi_tuple.specs.declared.checks.PiType.TheVariants.{One}
 use Rattle.block_path.specs.Acts.{State}
 use Rattle.stack_walk_laws.specs.Passed.{blocks_told, shapes_of}
-use Rattle.target_answer.specs.Target.{Stored}
+use Rattle.rig_api.specs.Target.{Stored}
 use Rattle.volume_table.specs.Tables.{Table}
 use Rattle.volume_table.specs.declared.device.DeviceInfo.{DeviceInfo}
 use Rattle.walk_laws.specs.Detectable.{detectable}

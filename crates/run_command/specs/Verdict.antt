@@ -22,7 +22,7 @@ use Rattle.volume_table.specs.declared.device.DeviceInfo.{DeviceInfo}
 use Rattle.volume_table.specs.declared.entry.Entry.{Entry}
 use Rattle.volume_table.specs.declared.fault.VolumeFault.TheVariants.{At}
 use Rattle.volume_table.specs.declared.fault.VolumeKind.{VolumeKind}
-use Rattle.source_text.specs.Reading.{IsOver, IsWhole, TookAtMost, most_bytes}
+use Rattle.dix_base.specs.Reading.{IsOver, IsWhole, TookAtMost, most_bytes}
 pub use Rattle.run_command.specs.Premises.{opening_told, setting_told}
 use Rattle.call_refusal.specs.declared.refusal.Refusal.{Refusal}
 use Rattle.call_refusal.specs.declared.refusal.Refusal.TheVariants as refusal

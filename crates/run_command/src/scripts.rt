@@ -5,10 +5,9 @@ ghost use Rattle.run_command.specs.Verdict.{CauseUntaken, HasRead};
 ghost use Rattle.run_command.specs.Working.{IsSound};
 
 use call_refusal::Refusal;
-use dix_base::Source;
+use dix_base::{Source, read_all};
 use script_laws::a_read_script_keeps_the_rules;
 use script_text::{Script, read_script};
-use source_text::read_all;
 use std::alloc::Global;
 
 /// Reads the source to its end, but no further than one byte more than a script may have, and the script that it holds.

@@ -11,7 +11,7 @@ use Rattle.pi_tuple.specs.declared.checks.PiType.TheVariants.{One, Three, Two, Z
 use Rattle.pi_tuple.specs.declared.checks.Check.{Check}
 use Rattle.page_pool.specs.Cells.{gather}
 use Rattle.stack_ops.specs.declared.op.Op.{Op}
-use Rattle.target_answer.specs.Frames.{data_of, frame_of, tuple_of}
+use Rattle.rig_api.specs.Frames.{data_of, frame_of, tuple_of}
 use Rattle.volume_table.specs.Places.{place_in, volume_len}
 use Rattle.volume_table.specs.declared.device.DeviceInfo.{DeviceInfo}
 use Rattle.block_path.specs.Acts.{State, act}

@@ -12,7 +12,7 @@ use Rattle.fault_schedule.specs.Altered.{altered, named, xored_from}
 use Rattle.fault_schedule.specs.declared.Label.{Label}
 use Rattle.fault_schedule.specs.declared.fault.Crossing.{Crossing}
 use Rattle.fault_schedule.specs.declared.fault.FaultLine.{FaultLine}
-use Rattle.target_answer.specs.Frames.{data_of, tuple_of}
+use Rattle.rig_api.specs.Frames.{data_of, tuple_of}
 use Rattle.block_path.proofs.Cells.{AllBelow, below}
 use Rattle.run_laws.proofs.Passed.{below_append, below_take, frame_small, two_below}
 use Rattle.guard_laws.specs.Changes.{IsInTwoBytes}

@@ -13,7 +13,7 @@ use Rattle.fault_schedule.specs.declared.fault.FaultLine.{FaultLine}
 use Rattle.stack_ops.specs.Passed.{Copy}
 use Rattle.stack_ops.specs.declared.op.Op.{Op}
 use Rattle.stack_ops.specs.declared.op.Op.TheVariants.{Fetch, Overwrite, Seal, Write, WritePi}
-use Rattle.target_answer.specs.Passing.{found_in, from_medium, to_medium}
+use Rattle.rig_api.specs.Passing.{found_in, from_medium, to_medium}
 use Rattle.block_path.specs.WayIn.{from_wire}
 use Rattle.block_path.specs.WayOut.{to_wire}
 use Rattle.run_laws.specs.Passed.{detectable, steps_from, Setting, IsClean, address_of, home}

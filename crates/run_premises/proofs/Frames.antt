@@ -12,7 +12,7 @@ use Rattle.pi_guard.specs.declared.GuardKind.{GuardKind}
 use Rattle.pi_guard.specs.declared.GuardKind.TheVariants.{Crc, Ip}
 use Rattle.fault_schedule.specs.Altered.{xored_from}
 use Rattle.fault_schedule.proofs.Xored.{length-xored, get-xored}
-use Rattle.target_answer.specs.Frames.{data_of, tuple_of}
+use Rattle.rig_api.specs.Frames.{data_of, tuple_of}
 use Rattle.block_path.proofs.Cells.{AllBelow}
 use Rattle.run_laws.proofs.Passed.{below_at, below_take, below_drop, spelled}
 use Rattle.guard_laws.specs.Guarded.{guarded}

@@ -11,7 +11,7 @@ ghost use Rattle.fault_schedule.specs.Altered.{altered};
 ghost use Rattle.fault_schedule.specs.declared.Label.{Label};
 ghost use Rattle.fault_schedule.specs.declared.fault.Crossing.{Crossing};
 ghost use Rattle.fault_schedule.specs.declared.fault.FaultLine.{FaultLine};
-ghost use Rattle.target_answer.specs.Frames.{data_of, tuple_of};
+ghost use Rattle.rig_api.specs.Frames.{data_of, tuple_of};
 ghost use Rattle.stack_ops.specs.declared.op.Op.{Op as AnyOp};
 ghost use Rattle.pi_tuple.specs.Finds.{is_zero};
 ghost use Rattle.volume_table.specs.declared.device.DeviceInfo.{DeviceInfo as AnyDevice};

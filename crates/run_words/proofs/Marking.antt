@@ -18,8 +18,8 @@ use Rattle.rig_api.specs.State.{RigState}
 use Rattle.script_text.specs.Bindings.{binding_fault}
 use Rattle.script_words.specs.Cuts.{lines_of}
 use Rattle.volume_table.specs.Faults.{table_fault}
-use Rattle.source_text.proofs.Taking.{most_is}
-use Rattle.source_text.specs.Reading.{IsOver, IsWhole, TookAtMost, most_bytes}
+use Rattle.dix_base.proofs.Taking.{most_is}
+use Rattle.dix_base.specs.Reading.{IsOver, IsWhole, TookAtMost, most_bytes}
 use Rattle.run_words.specs.Explained.{CauseHalted, CauseNotRun, CauseUnexplained, CauseUnrun, ExplainsRead, ExplainsText, HasExplained, HasFaultyText, HasMarked, IsAtFault, IsComplete, IsSaid, WasExplained}
 use Rattle.run_words.specs.declared.explain.Explained.{Explained}
 use Rattle.run_words.specs.declared.explain.Unexplained.{Unexplained}

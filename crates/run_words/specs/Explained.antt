@@ -10,7 +10,7 @@ use Rattle.script_text.specs.declared.script.Script.{Script}
 use Rattle.run_command.specs.Verdict.{CauseRefused, CauseStopped, Facts, HasRead, HasRun, IsFromOutside, IsUnbound, devices_of, table_over}
 use Rattle.call_refusal.specs.declared.refusal.Refusal.{Refusal}
 use Rattle.call_refusal.specs.declared.refusal.Refusal.TheVariants as refusal
-use Rattle.source_text.specs.Reading.{IsWhole, most_bytes}
+use Rattle.dix_base.specs.Reading.{IsWhole, most_bytes}
 use Rattle.volume_table.specs.Faults.{table_fault}
 use Rattle.run_words.specs.Sites.{Guides, IsGuideOf}
 use Rattle.run_words.specs.declared.explain.Explained.{Explained}

@@ -10,13 +10,12 @@ ghost use Rattle.run_words.specs.Explained.{CauseUnexplained, CauseUnrun, Explai
 
 use crate::guide::Guide;
 use call_refusal::{Refusal, TOO_LONG};
-use dix_base::Source;
+use dix_base::{Source, Unread, read_all};
 use fault_marks::marked_text;
 use rig_api::Rig;
 use run_command::{Finished, run_script};
 use script_laws::a_read_script_keeps_the_rules;
 use script_text::{Script, ScriptFault, ScriptKind, read_script};
-use source_text::{Unread, read_all};
 use std::alloc::Global;
 
 /// A script that was run to its end, with what tells where its blocks stand and lie.

@@ -12,14 +12,14 @@ use Rattle.pi_tuple.specs.declared.checks.PiType.{PiType}
 use Rattle.pi_tuple.specs.declared.checks.PiType.TheVariants.{Zero, One, Two, Three}
 use Rattle.pi_tuple.specs.declared.tuple.Tuple.{Tuple}
 use Rattle.pi_tuple.proofs.TupleLaws.{own_below, own_is}
-use Rattle.target_answer.specs.Frames.{frame_of, frames_of, joined, stored_size}
-use Rattle.target_answer.specs.Headers.{bytes_of, entry_of, header, magic_of, version_for}
-use Rattle.target_answer.specs.Image.{all_fresh, formatted, fresh, fresh_bytes, fresh_from, units_from, units_in}
-use Rattle.target_answer.specs.Target.{Stored}
-use Rattle.target_answer.specs.declared.units.UnitSpec.{UnitSpec}
-use Rattle.target_answer.specs.declared.units.Version.{Version}
-use Rattle.target_answer.specs.declared.units.Version.TheVariants.{First, Second}
-use Rattle.target_answer.proofs.FreshBlocks.{fresh_long, fresh_many, fresh_is}
+use Rattle.rig_api.specs.Frames.{frame_of, frames_of, joined, stored_size}
+use Rattle.rig_api.specs.Headers.{bytes_of, entry_of, header, magic_of, version_for}
+use Rattle.rig_api.specs.Image.{all_fresh, formatted, fresh, fresh_bytes, fresh_from, units_from, units_in}
+use Rattle.rig_api.specs.Target.{Stored}
+use Rattle.rig_api.specs.declared.units.UnitSpec.{UnitSpec}
+use Rattle.rig_api.specs.declared.units.Version.{Version}
+use Rattle.rig_api.specs.declared.units.Version.TheVariants.{First, Second}
+use Rattle.rig_api.proofs.FreshBlocks.{fresh_long, fresh_many, fresh_is}
 use Rattle.script_stack.specs.Passed.{blocks_told, cell_in, shapes_of, info_of}
 use Rattle.script_stack.proofs.Passed.{AllLong, cut-joined, joined-long}
 use Rattle.volume_table.specs.Places.{place_in}

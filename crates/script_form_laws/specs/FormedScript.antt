@@ -2,7 +2,7 @@ use Rattle.std.specs.Prelude.{◌≡◌, ◌+◌, ◌<◌, false, true, List, []
 use Rattle.std.specs.List.{list_any}
 use Rattle.pi_tuple.specs.Finds.{is_zero}
 use Rattle.pi_tuple.specs.declared.checks.PiType.TheVariants.{One}
-use Rattle.target_answer.specs.Target.{Stored}
+use Rattle.rig_api.specs.Target.{Stored}
 use Rattle.volume_table.specs.Tables.{MadeFor, Table}
 use Rattle.script_stack.specs.Passed.{AreStored, Keeps, binding_fault, Script, blocks_told, shapes_of, info_of}
 use Rattle.script_stack.specs.Followed.{none_fails, opening_of, setting_of}

@@ -4,9 +4,9 @@
 
 ghost use Rattle.std.specs.Prelude.{ℕ, ◌≡◌, ◌≤◌, ◌<◌, true, false, List, length, map, All};
 ghost use Rattle.pi_tuple.specs.Finds.{is_zero};
-ghost use Rattle.target_answer.specs.Image.{formatted, units_in};
-ghost use Rattle.target_answer.specs.Target.{Stored};
-ghost use Rattle.target_answer.specs.declared.units.UnitSpec.{UnitSpec as AnyUnit};
+ghost use Rattle.rig_api.specs.Image.{formatted, units_in};
+ghost use Rattle.rig_api.specs.Target.{Stored};
+ghost use Rattle.rig_api.specs.declared.units.UnitSpec.{UnitSpec as AnyUnit};
 ghost use Rattle.volume_table.specs.Tables.{Table};
 ghost use Rattle.run_premises.specs.Passed.{DevicesAreClean, IsShownRun, detectable, steps_from, as_expected, script_walk, Setting, NoEscape};
 ghost use Rattle.script_stack.specs.Followed.{none_fails, opening_of, setting_of};

@@ -2,7 +2,7 @@ use Rattle.std.specs.Prelude.{ℕ, ◌≡◌, ◌+◌, ◌≤◌, true, List, le
 use Rattle.script_text.specs.declared.script.Script.{Script}
 use Rattle.script_text.specs.Language.{script_in}
 use Rattle.script_laws.specs.Texts.{has_short_lines}
-use Rattle.source_text.specs.declared.TheConstants.{MOST_BYTES}
+use Rattle.dix_base.specs.declared.reading.TheConstants.{MOST_BYTES}
 
 -- The text is within the limits: 4,194,304 bytes, and 4,096 on a line.
 pub record IsWithinLimits (text : List ℕ) : Type 0 where

@@ -2,7 +2,7 @@ use Rattle.std.specs.Prelude.{ℕ, ◌++◌, List, [], ◌∷◌}
 use Rattle.std.specs.Prelude.{Bool, nat_le, length}
 use Rattle.std.specs.List.{list_all}
 use Rattle.script_words.specs.Cuts.{lines_of}
-use Rattle.source_text.specs.declared.TheConstants.{LONGEST_LINE}
+use Rattle.dix_base.specs.declared.reading.TheConstants.{LONGEST_LINE}
 
 -- words with a space between each two
 abbrev pub spaced : List (List ℕ) → List ℕ

@@ -7,9 +7,9 @@ use Rattle.fault_schedule.specs.Altered.{byte_at, shift_of}
 use Rattle.fault_schedule.specs.declared.fault.Crossing.TheVariants.{AdapterToTarget, MediumToTarget}
 use Rattle.fault_schedule.specs.declared.fault.FaultLine.{FaultLine}
 use Rattle.fault_schedule.proofs.Xored.{length-xored}
-use Rattle.target_answer.specs.Frames.{stored_size}
-use Rattle.target_answer.specs.Target.{Stored, shape_of}
-use Rattle.target_answer.specs.declared.units.UnitSpec.{UnitSpec}
+use Rattle.rig_api.specs.Frames.{stored_size}
+use Rattle.rig_api.specs.Target.{Stored, shape_of}
+use Rattle.rig_api.specs.declared.units.UnitSpec.{UnitSpec}
 use Rattle.rig_discovery.specs.Passed.{no_unit, unit_at, Change, Copy, Flip}
 use Rattle.rig_discovery.specs.Discovery.{info_of}
 use Rattle.stack_walk_laws.specs.Passed.{blocks_told, cell_in, shapes_of, State, Site, fetched_cell, moved, target, Mode}

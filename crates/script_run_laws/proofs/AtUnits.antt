@@ -7,8 +7,8 @@ use Rattle.pi_tuple.specs.declared.checks.PiType.{PiType}
 use Rattle.fault_schedule.specs.Altered.{shift_of}
 use Rattle.fault_schedule.specs.declared.fault.Crossing.TheVariants.{AdapterToTarget, MediumToTarget}
 use Rattle.fault_schedule.specs.declared.fault.FaultLine.{FaultLine}
-use Rattle.target_answer.specs.Target.{has_blocks}
-use Rattle.target_answer.specs.declared.units.UnitSpec.{UnitSpec}
+use Rattle.rig_api.specs.Target.{has_blocks}
+use Rattle.rig_api.specs.declared.units.UnitSpec.{UnitSpec}
 use Rattle.rig_discovery.specs.Passed.{no_spec}
 use Rattle.rig_discovery.specs.Discovery.{info_of}
 use Rattle.stack_walk_laws.specs.Passed.{moved}

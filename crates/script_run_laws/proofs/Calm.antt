@@ -8,7 +8,7 @@ use Rattle.hex.specs.Hex.{IsBytes}
 use Rattle.pi_tuple.specs.Finds.{is_zero}
 use Rattle.pi_tuple.specs.declared.checks.PiType.{PiType}
 use Rattle.pi_tuple.specs.declared.checks.PiType.TheVariants.{Zero as TypeZero, One as TypeOne, Two as TypeTwo, Three as TypeThree}
-use Rattle.target_answer.specs.Target.{Stored}
+use Rattle.rig_api.specs.Target.{Stored}
 use Rattle.rig_discovery.specs.Discovery.{info_of}
 use Rattle.stack_walk_laws.specs.Passed.{blocks_told, shapes_of, hidden, target, Mode}
 use Rattle.volume_table.specs.declared.device.DeviceInfo.{DeviceInfo}

@@ -4,8 +4,8 @@ use Rattle.std.proofs.lemmas.List.{length-replicate, length-take}
 use Rattle.page_pool.specs.declared.segs.Seg.{Seg}
 use Rattle.integrity_payload.specs.declared.payload.Owner.{Owner}
 use Rattle.integrity_payload.specs.declared.payload.Owner.TheVariants.{Block as OfBlock, App as OfApp}
-use Rattle.target_answer.specs.Target.{Stored}
-use Rattle.target_answer.specs.declared.units.UnitSpec.{UnitSpec}
+use Rattle.rig_api.specs.Target.{Stored}
+use Rattle.rig_api.specs.declared.units.UnitSpec.{UnitSpec}
 use Rattle.stack_walk_laws.specs.Passed.{shapes_of, hidden}
 use Rattle.volume_table.specs.Tables.{Table}
 use Rattle.run_laws.specs.FallingReads.{HasRoom}

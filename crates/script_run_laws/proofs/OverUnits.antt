@@ -1,8 +1,8 @@
 -- A script that was bound to a volume over units that tell their blocks: its setting, and where its blocks lie.
 use Rattle.std.proofs.Common.{◌≡◌, ◌<◌, ◌≤◌, ℕ, ◌+◌, ◌*◌, false, List, [], ◌∷◌, length, drop, map, replicate, refl, sym, ap, ◌∙◌, subst, arith, None, length-append}
 use Rattle.std.proofs.lemmas.List.{length-drop}
-use Rattle.target_answer.specs.Target.{Stored}
-use Rattle.target_answer.specs.declared.units.UnitSpec.{UnitSpec}
+use Rattle.rig_api.specs.Target.{Stored}
+use Rattle.rig_api.specs.declared.units.UnitSpec.{UnitSpec}
 use Rattle.rig_discovery.specs.Discovery.{info_of}
 use Rattle.stack_walk_laws.specs.Passed.{blocks_told, cell_in, shapes_of, State, target}
 use Rattle.pi_tuple.specs.declared.checks.PiType.{PiType}

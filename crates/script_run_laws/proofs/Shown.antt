@@ -9,7 +9,7 @@ use Rattle.fault_schedule.specs.declared.fault.FaultKind.{FaultKind}
 use Rattle.fault_schedule.specs.declared.fault.FaultKind.TheVariants.{Flip as FlipKind, Shift as ShiftKind}
 use Rattle.fault_schedule.specs.declared.fault.FaultLine.{FaultLine}
 use Rattle.pi_tuple.specs.declared.checks.PiType.TheVariants.{One}
-use Rattle.target_answer.specs.Target.{Stored}
+use Rattle.rig_api.specs.Target.{Stored}
 use Rattle.rig_discovery.specs.Discovery.{info_of}
 use Rattle.stack_walk_laws.specs.Passed.{blocks_told, shapes_of}
 use Rattle.volume_table.specs.declared.device.DeviceInfo.{DeviceInfo}

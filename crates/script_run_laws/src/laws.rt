@@ -4,8 +4,8 @@
 ghost use Rattle.std.specs.Prelude.{◌≡◌, ◌<◌, ◌≤◌, ◌+◌, ◌*◌, ℕ, true, List, length, map, None};
 ghost use Rattle.volume_table.specs.declared.device.DeviceInfo.{DeviceInfo as AnyDevice};
 ghost use Rattle.volume_table.specs.Tables.{MadeFor, Table};
-ghost use Rattle.target_answer.specs.Target.{Stored};
-ghost use Rattle.target_answer.specs.declared.units.UnitSpec.{UnitSpec as AnyUnit};
+ghost use Rattle.rig_api.specs.Target.{Stored};
+ghost use Rattle.rig_api.specs.declared.units.UnitSpec.{UnitSpec as AnyUnit};
 ghost use Rattle.rig_discovery.specs.Discovery.{info_of};
 ghost use Rattle.stack_walk_laws.specs.Passed.{blocks_told, cell_in, shapes_of, State, Sent, target};
 ghost use Rattle.run_laws.specs.Passed.{Setting};

@@ -9,12 +9,12 @@ use Rattle.bio_core.specs.Bios.{block_size}
 use Rattle.dix_adapter.specs.Ways.{blocks_told, cell_in, shapes_of, site_of}
 use Rattle.fault_schedule.specs.declared.fault.FaultLine.{FaultLine}
 use Rattle.rig_api.specs.Telling.{Standing, no_spec, specs_of}
-use Rattle.target_answer.specs.Target.{Stored}
+use Rattle.rig_api.specs.Target.{Stored}
 use Rattle.stack_core.specs.Passed.{AreAtUnits, Ground, IsSealed, pages_from, requests_from, io_at, op_in, shifted_by, Setting}
 use Rattle.volume_table.specs.Faults.{device}
 use Rattle.volume_table.specs.Places.{place_in}
 use Rattle.script_run_laws.proofs.AtUnits.{lies-at-units}
-use Rattle.target_answer.specs.declared.units.UnitSpec.{UnitSpec}
+use Rattle.rig_api.specs.declared.units.UnitSpec.{UnitSpec}
 use Rattle.script_text.specs.Passed.{Op, Silent}
 use Rattle.volume_table.specs.declared.device.DeviceInfo.{DeviceInfo}
 use Rattle.volume_table.specs.Tables.{MadeFor, Table}

@@ -8,7 +8,7 @@ use Rattle.stack_core.specs.declared.sheet.Sheet.{Sheet}
 use Rattle.std.proofs.lemmas.Bool.{false≢true}
 use Rattle.std.proofs.Math.Seq.{drop-append_seam}
 use Rattle.fault_schedule.specs.declared.fault.FaultLine.{FaultLine}
-use Rattle.target_answer.specs.Target.{Stored}
+use Rattle.rig_api.specs.Target.{Stored}
 use Rattle.rig_api.specs.Log.{LogEntry}
 use Rattle.rig_api.specs.Telling.{IsStanding, Standing, specs_of, units_told}
 use Rattle.rig_api.specs.State.{RigState}

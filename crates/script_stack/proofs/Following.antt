@@ -5,9 +5,9 @@ use Rattle.std.proofs.lemmas.List.{length-map, length-take}
 use Rattle.std.specs.List.{All}
 use Rattle.std.proofs.lemmas.List.Elements.{All-cons, All-nil}
 use Rattle.std.proofs.lemmas.Option.{none-some, same_Some}
-use Rattle.target_answer.specs.Frames.{stored_size}
-use Rattle.target_answer.specs.Image.{units_in}
-use Rattle.target_answer.specs.Target.{Stored, shape_of}
+use Rattle.rig_api.specs.Frames.{stored_size}
+use Rattle.rig_api.specs.Image.{units_in}
+use Rattle.rig_api.specs.Target.{Stored, shape_of}
 use Rattle.rig_api.specs.Head.{units_of}
 use Rattle.rig_api.specs.Log.{LogEntry}
 use Rattle.rig_api.specs.Telling.{IsStanding, Standing, spec_at, specs_of, unit_at, units_told}

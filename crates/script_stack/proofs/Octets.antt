@@ -5,7 +5,7 @@ use Rattle.std.proofs.lemmas.List.Elements.{All-append, All-head, All-nil, All-t
 use Rattle.dix_base.specs.Told.{AreOctets}
 use Rattle.rig_api.specs.Telling.{Standing, units_told}
 use Rattle.rig_api.proofs.Octets.{told_octets}
-use Rattle.target_answer.specs.Target.{Stored}
+use Rattle.rig_api.specs.Target.{Stored}
 use Rattle.dix_adapter.specs.Ways.{blocks_told}
 
 all_blocks : (us : List Stored) → All (λ (u : Stored). All (All (λ x. x < 256)) u.blocks) us → All (All (λ x. x < 256)) (blocks_told us)

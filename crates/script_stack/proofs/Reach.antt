@@ -8,8 +8,8 @@ use Rattle.rig_api.specs.declared.change.Change.{Change}
 use Rattle.rig_api.specs.declared.change.Change.TheVariants.{Copy, Flip}
 use Rattle.rig_api.specs.Telling.{Standing, can_change, has_address, no_spec, source_of, spec_at, specs_of}
 use Rattle.script_run_laws.specs.Passed.{info_of}
-use Rattle.target_answer.specs.Frames.{stored_size}
-use Rattle.target_answer.specs.declared.units.UnitSpec.{UnitSpec}
+use Rattle.rig_api.specs.Frames.{stored_size}
+use Rattle.rig_api.specs.declared.units.UnitSpec.{UnitSpec}
 use Rattle.script_lines.specs.declared.kind.ScriptKind.TheVariants.{BadFault}
 use Rattle.script_text.specs.Passed.{Op, Fetch, FetchPi, Fill, Overwrite, Put, Seal, Show, Wait, Write, WritePi}
 use Rattle.volume_table.specs.declared.device.DeviceInfo.{DeviceInfo}

@@ -1,8 +1,8 @@
 -- What a script's run comes to, by its records and, where a rig tells its blocks, by these.
 use Rattle.std.specs.Prelude.{◌≡◌, ℕ, zero, suc, ◌*◌, ◌<◌, ◌≤◌, Bool, false, List, [], ◌++◌, length, get_or, is_some, map, replicate, take, None, Some}
 use Rattle.page_pool.specs.Cells.{flat}
-use Rattle.target_answer.specs.Target.{Stored}
-use Rattle.target_answer.specs.declared.units.UnitSpec.{UnitSpec}
+use Rattle.rig_api.specs.Target.{Stored}
+use Rattle.rig_api.specs.declared.units.UnitSpec.{UnitSpec}
 use Rattle.rig_api.specs.Log.{LogEntry}
 use Rattle.rig_api.specs.Telling.{Standing, spec_at, specs_of}
 use Rattle.rig_api.specs.State.{RigState}

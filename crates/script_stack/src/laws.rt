@@ -2,7 +2,7 @@
 
 ghost use Rattle.std.specs.Prelude.{◌≡◌, ◌*◌, ◌+◌, ℕ, List, Some, None, drop, length, map};
 ghost use Rattle.fault_schedule.specs.declared.fault.FaultLine.{FaultLine};
-ghost use Rattle.target_answer.specs.Target.{Stored};
+ghost use Rattle.rig_api.specs.Target.{Stored};
 ghost use Rattle.rig_api.specs.Log.{LogEntry};
 ghost use Rattle.rig_api.specs.Telling.{Standing};
 ghost use Rattle.script_run_laws.specs.Passed.{info_of};

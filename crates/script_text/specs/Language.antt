@@ -28,7 +28,7 @@ use Rattle.script_text.specs.Drafts.{Drafted}
 use Rattle.script_text.specs.Ops.{op_in}
 use Rattle.script_text.specs.Rules.{broken_rule, request_blocks}
 use Rattle.script_text.specs.Trees.{entries_over}
-use Rattle.source_text.specs.declared.TheConstants.{LONGEST_LINE, MOST_BYTES}
+use Rattle.dix_base.specs.declared.reading.TheConstants.{LONGEST_LINE, MOST_BYTES}
 
 -- The language of scripts: what reading a text answers, a script or the first fault.
 

@@ -16,9 +16,9 @@ use Rattle.cdb_codec.specs.Forms.{Fits, form}
 use Rattle.cdb_codec.specs.declared.choice.Dir2.{Dir2}
 use Rattle.cdb_codec.specs.declared.choice.Dir2.TheVariants.{In, Out}
 use Rattle.cdb_codec.proofs.Inverse.{decoded_form}
-use Rattle.target_answer.specs.Frames.{sent_size, stored_size}
-use Rattle.target_answer.specs.Target.{Stored}
-use Rattle.target_answer.specs.declared.units.UnitSpec.{UnitSpec}
+use Rattle.rig_api.specs.Frames.{sent_size, stored_size}
+use Rattle.rig_api.specs.Target.{Stored}
+use Rattle.rig_api.specs.declared.units.UnitSpec.{UnitSpec}
 use Rattle.rig_api.specs.State.{RigState}
 use Rattle.rig_api.specs.Telling.{spec_at, unit_at}
 use Rattle.record_laws.specs.Answered.{Answers, AreFrames, FramesBy, FramesUnder, room_by, room_of, room_under}

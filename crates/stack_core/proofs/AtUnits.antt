@@ -14,8 +14,8 @@ use Rattle.stack_ops.specs.declared.op.Op.{Op}
 use Rattle.stack_ops.specs.declared.op.Op.TheVariants.{Fetch, FetchPi, Fill, Overwrite, Put, Seal, Show, Wait, Write, WritePi}
 use Rattle.stack_ops.specs.Footprints.{footprint}
 use Rattle.stack_laws.specs.Blocks.{blocks, place_of, run_of, times}
-use Rattle.target_answer.specs.Target.{has_blocks}
-use Rattle.target_answer.specs.declared.units.UnitSpec.{UnitSpec}
+use Rattle.rig_api.specs.Target.{has_blocks}
+use Rattle.rig_api.specs.declared.units.UnitSpec.{UnitSpec}
 use Rattle.stack_walk_laws.proofs.Puts.{InTurn}
 use Rattle.dix_adapter.proofs.Asking.{is-pos}
 use Rattle.stack_ops.specs.Ops.{first_virt}

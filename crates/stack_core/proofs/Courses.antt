@@ -11,8 +11,8 @@ use Rattle.bio_core.specs.declared.fate.Fate.TheVariants.{Bad, Good, Untouched}
 use Rattle.bio_core.specs.declared.fate.Why.{Why}
 use Rattle.bio_core.specs.declared.request.Dir.TheVariants.{Read, Write as WriteDir}
 use Rattle.bio_core.specs.declared.request.Io.{Io}
-use Rattle.target_answer.specs.Frames.{stored_size}
-use Rattle.target_answer.specs.Target.{Stop, Stored}
+use Rattle.rig_api.specs.Frames.{stored_size}
+use Rattle.rig_api.specs.Target.{Stop, Stored}
 use Rattle.stack_ops.specs.declared.op.Op.{Op}
 use Rattle.block_path.specs.Acts.{State, act, tell}
 use Rattle.block_path.specs.Blocks.{Sent, silent}

@@ -15,7 +15,7 @@ use Rattle.dix_adapter.specs.Groups.{mode_of}
 use Rattle.dix_adapter.proofs.Asking.{asked-for, count-is, lba-is}
 use Rattle.merge_queue.specs.Groups.{dir_of, lba_of}
 use Rattle.rig_api.specs.Log.{LogEntry as Record}
-use Rattle.target_answer.specs.Requests.{request_of}
+use Rattle.rig_api.specs.Requests.{request_of}
 use Rattle.stack_laws.specs.Runs.{sent}
 use Rattle.stack_laws.specs.View.{Command, OpView, no_command}
 use Rattle.stack_core.specs.OnRecord.{AreOnRecord, AreRecords, AreTraced, AsksFor, IsFormed, IsKeptBad, IsRecordOf, IsTraced}

@@ -5,14 +5,14 @@ use Rattle.std.proofs.lemmas.Bool.{and_parts}
 use Rattle.dix_base.specs.Told.{Calm}
 use Rattle.fault_schedule.specs.Altered.{byte_at, xored_from}
 use Rattle.fault_schedule.specs.declared.fault.FaultLine.{FaultLine}
-use Rattle.target_answer.specs.Target.{Stored}
-use Rattle.target_answer.specs.declared.units.UnitSpec.{UnitSpec}
+use Rattle.rig_api.specs.Target.{Stored}
+use Rattle.rig_api.specs.declared.units.UnitSpec.{UnitSpec}
 use Rattle.rig_api.specs.Log.{LogEntry}
 use Rattle.rig_api.specs.declared.change.Change.{Change}
 use Rattle.rig_api.specs.declared.change.Change.TheVariants.{Copy, Flip}
 use Rattle.rig_api.specs.State.{RigState}
 use Rattle.rig_api.specs.Telling.{IsStanding, Standing, block_at, can_change, changed as changed_told, frame_size, has_address, source_of as source_device, spec_at, specs_of, unit_at, units_told, with_block}
-use Rattle.target_answer.specs.Frames.{stored_size}
+use Rattle.rig_api.specs.Frames.{stored_size}
 use Rattle.dix_adapter.specs.Ways.{blocks_told, cell_in, shapes_of, site_of}
 use Rattle.dix_adapter.proofs.GoingIn.{long-at}
 use Rattle.stack_walk_laws.specs.Units.{AreAtUnits}

@@ -6,7 +6,7 @@ use Rattle.page_pool.specs.Pages.{AreWhole}
 use Rattle.range_gate.specs.Gates.{has_ended, is_waiting}
 use Rattle.rig_api.specs.Log.{LogEntry}
 use Rattle.fault_schedule.specs.declared.fault.FaultLine.{FaultLine}
-use Rattle.target_answer.specs.Target.{Stored}
+use Rattle.rig_api.specs.Target.{Stored}
 use Rattle.dix_adapter.specs.Ways.{blocks_told, site_of}
 use Rattle.rig_api.specs.Telling.{Standing, specs_of}
 use Rattle.stack_laws.specs.Plan.{PlannedOp, request_at}

@@ -19,9 +19,9 @@ use Rattle.fault_schedule.specs.Altered.{shift_of}
 use Rattle.fault_schedule.specs.declared.fault.Crossing.TheVariants.{AdapterToTarget, MediumToTarget}
 use Rattle.fault_schedule.specs.declared.fault.FaultLine.{FaultLine}
 use Rattle.pi_tuple.specs.declared.checks.Check.{Check}
-use Rattle.target_answer.specs.Frames.{stored_size}
-use Rattle.target_answer.specs.Passing.{from_medium}
-use Rattle.target_answer.specs.Target.{Stop, Stored, has_blocks}
+use Rattle.rig_api.specs.Frames.{stored_size}
+use Rattle.rig_api.specs.Passing.{from_medium}
+use Rattle.rig_api.specs.Target.{Stop, Stored, has_blocks}
 use Rattle.dix_adapter.specs.Carried.{Unsent, any_bad, frame_len, sends}
 use Rattle.dix_adapter.specs.Groups as Carry
 use Rattle.dix_adapter.specs.Groups.{blocks_in, first_of, route_of}

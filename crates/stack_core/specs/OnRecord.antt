@@ -19,9 +19,9 @@ use Rattle.dix_adapter.specs.Carried.{any_fails}
 use Rattle.dix_adapter.specs.Groups.{blocks_in, label_of, mode_of}
 use Rattle.merge_queue.specs.Groups.{size}
 use Rattle.rig_api.specs.Log.{LogEntry as Record, labels_of}
-use Rattle.target_answer.specs.Requests.{request_of}
-use Rattle.target_answer.specs.declared.request.Request.{Request}
-use Rattle.target_answer.specs.declared.request.Request.TheVariants.{Read, Write, Verify, ReadCapacity}
+use Rattle.rig_api.specs.Requests.{request_of}
+use Rattle.rig_api.specs.declared.request.Request.{Request}
+use Rattle.rig_api.specs.declared.request.Request.TheVariants.{Read, Write, Verify, ReadCapacity}
 use Rattle.stack_ops.specs.declared.reply.BadBlock.{BadBlock}
 use Rattle.stack_ops.specs.declared.reply.Reply.{Reply}
 use Rattle.stack_ops.specs.declared.reply.Reply.TheVariants.{Silent, Whole, Bad as BadReply, Shown, Medium}

@@ -3,7 +3,7 @@
 ghost use Rattle.std.specs.Prelude.{◌≡◌, ◌<◌, ◌≤◌, ℕ, List, ◌+◌, ◌++◌, Bool, true, false, None, Some, drop, get_or, length, take};
 ghost use Rattle.fault_schedule.specs.declared.Label.{Label as AnyLabel};
 ghost use Rattle.fault_schedule.specs.declared.fault.FaultLine.{FaultLine};
-ghost use Rattle.target_answer.specs.Target.{Stored};
+ghost use Rattle.rig_api.specs.Target.{Stored};
 ghost use Rattle.rig_api.specs.Log.{LogEntry};
 ghost use Rattle.rig_api.specs.Telling.{Standing};
 ghost use Rattle.stack_laws.specs.Runs.{ScheduleEntry as AnyEntry, blocks_of_requests, sends_of};

@@ -16,7 +16,7 @@ ghost use Rattle.stack_core.specs.Walking.{Enters, IsChosen, IsKnown, LeavesOwn,
 ghost use Rattle.dix_base.specs.Told.{Calm};
 ghost use Rattle.rig_api.specs.Telling.{block_at, changed, frame_size, unit_at, with_block};
 ghost use Rattle.rig_api.specs.State.{Stays as RigStays};
-ghost use Rattle.target_answer.specs.Target.{Stored};
+ghost use Rattle.rig_api.specs.Target.{Stored};
 ghost use Rattle.stack_core.specs.Mediums.{Counts, Spoils, medium_replies};
 ghost use Rattle.stack_core.specs.OnRecord.{Carries, SendsOn, Traces};
 ghost use Rattle.stack_core.specs.Stacks.{GoesOn, HasStep, IsStack, StackStays, Steps, plan_in};

@@ -1,10 +1,9 @@
 //! How devices answer that don't do what they are asked.
 
 use pi_tuple::PiType;
-use rig_api::Outcome;
+use rig_api::{Outcome, UnitSpec};
 use sense_codes::Sense;
 use std::alloc::{AllocError, Global};
-use target_answer::UnitSpec;
 use test_rig::Answer;
 use test_table::{array_of, cut};
 

@@ -3,7 +3,7 @@
 use dix_base::MemStore;
 use image_rig::ImageRig;
 use std::alloc::{AllocError, Global};
-use target_answer::UnitSpec;
+use rig_api::UnitSpec;
 use test_rig::formatted;
 use unit_words::unit_of;
 

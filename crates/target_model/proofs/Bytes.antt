@@ -4,8 +4,8 @@ use Rattle.std.proofs.lemmas.List.{places, same_lists, length-take, length-drop,
 use Rattle.std.proofs.Math.Nat.{mul-le-mul_left}
 use Rattle.std.proofs.Math.Seq.{take-add}
 use Rattle.dix_base.specs.Told.{over, Apart, Becomes, HasLength, Rose}
-use Rattle.target_answer.specs.Frames.{frames_of, joined, placed}
-use Rattle.target_answer.proofs.FrameLaws.{joined_append}
+use Rattle.rig_api.specs.Frames.{frames_of, joined, placed}
+use Rattle.rig_api.proofs.FrameLaws.{joined_append}
 use Rattle.rig_api.specs.Telling.{at_front}
 use Rattle.target_model.specs.Served.{AllLong, IsSize}
 

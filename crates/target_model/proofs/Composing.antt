@@ -8,19 +8,19 @@ use Rattle.cdb_codec.specs.declared.command.Cdb.{Cdb}
 use Rattle.cdb_codec.specs.declared.command.Rw.{Rw}
 use Rattle.cdb_codec.specs.declared.command.CdbFault.{CdbFault}
 use Rattle.cdb_codec.specs.Decoded.{decoded}
-use Rattle.target_answer.specs.Requests.{request_of}
+use Rattle.rig_api.specs.Requests.{request_of}
 use Rattle.std.proofs.lemmas.Bool.Decides.{nat_tests}
 use Rattle.std.proofs.lemmas.Bool.{eqb-true}
 use Rattle.fault_schedule.specs.declared.Label.{Label}
 use Rattle.fault_schedule.specs.declared.fault.FaultLine.{FaultLine}
 use Rattle.sense_codes.specs.declared.Sense.{Sense}
-use Rattle.target_answer.specs.Frames.{stored_size, sent_size, frames_of, joined, placed}
-use Rattle.target_answer.specs.Target.{Stored, Stop, Answer, answer_unless, asc_of, capacity_data, refusal, target_answer, carried_out, first_of, illegal, keeping, medium_address, read_by, read_end, refusals_of, sending, shape_of, storing, stored_from, wire_address, write_end, written_by}
-use Rattle.target_answer.specs.declared.request.Request.{Request}
-use Rattle.target_answer.specs.declared.request.Request.TheVariants.{Read, Write, Verify, ReadCapacity}
-use Rattle.target_answer.specs.declared.units.UnitSpec.{UnitSpec}
-use Rattle.target_answer.proofs.FrameLaws.{frames_length}
-use Rattle.target_answer.proofs.FewFrames.{few_written}
+use Rattle.rig_api.specs.Frames.{stored_size, sent_size, frames_of, joined, placed}
+use Rattle.rig_api.specs.Target.{Stored, Stop, Answer, answer_unless, asc_of, capacity_data, refusal, target_answer, carried_out, first_of, illegal, keeping, medium_address, read_by, read_end, refusals_of, sending, shape_of, storing, stored_from, wire_address, write_end, written_by}
+use Rattle.rig_api.specs.declared.request.Request.{Request}
+use Rattle.rig_api.specs.declared.request.Request.TheVariants.{Read, Write, Verify, ReadCapacity}
+use Rattle.rig_api.specs.declared.units.UnitSpec.{UnitSpec}
+use Rattle.rig_api.proofs.FrameLaws.{frames_length}
+use Rattle.rig_api.proofs.FewFrames.{few_written}
 use Rattle.rig_api.specs.Telling.{at_front, holding}
 use Rattle.rig_api.specs.declared.rig.Outcome.{Outcome}
 use Rattle.target_model.specs.declared.unit.LogicalUnit.{LogicalUnit}

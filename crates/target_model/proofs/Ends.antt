@@ -3,9 +3,9 @@ use Rattle.std.proofs.Common.{ℕ, zero, suc, ◌≡◌, ◌+◌, ◌-◌, ◌*�
 use Rattle.std.proofs.lemmas.Bool.{lt-ltb, and_from}
 use Rattle.pi_tuple.specs.declared.checks.Check.{Check}
 use Rattle.sense_codes.specs.declared.Sense.{Sense}
-use Rattle.target_answer.specs.Frames.{frames_of, joined}
-use Rattle.target_answer.specs.Target.{Ended, passed, first_sense, each, whole, write_end, read_end, check_sense, medium_sense}
-use Rattle.target_answer.proofs.FrameLaws.{joined_append}
+use Rattle.rig_api.specs.Frames.{frames_of, joined}
+use Rattle.rig_api.specs.Target.{Ended, passed, first_sense, each, whole, write_end, read_end, check_sense, medium_sense}
+use Rattle.rig_api.proofs.FrameLaws.{joined_append}
 use Rattle.target_model.specs.Served.{AllLong}
 use Rattle.target_model.proofs.Bytes.{long_one}
 

@@ -5,9 +5,9 @@ use Rattle.std.proofs.lemmas.List.{length-take, length-replicate}
 use Rattle.dix_base.specs.Told.{over, Rose}
 use Rattle.pi_tuple.specs.declared.checks.Check.{Check}
 use Rattle.sense_codes.specs.declared.Sense.{Sense}
-use Rattle.target_answer.specs.Frames.{frames_of, joined}
-use Rattle.target_answer.specs.Target.{Stop, Ended, each, read_end, check_sense, medium_sense}
-use Rattle.target_answer.proofs.FrameLaws.{joined_append, frames_length}
+use Rattle.rig_api.specs.Frames.{frames_of, joined}
+use Rattle.rig_api.specs.Target.{Stop, Ended, each, read_end, check_sense, medium_sense}
+use Rattle.rig_api.proofs.FrameLaws.{joined_append, frames_length}
 use Rattle.rig_api.specs.Telling.{HasCause, at_front}
 use Rattle.target_model.specs.Served.{AllRead, BlockRead}
 use Rattle.target_model.proofs.Bytes.{front_next, rise}

@@ -7,10 +7,10 @@ use Rattle.cdb_codec.specs.declared.command.Cdb.{Cdb}
 use Rattle.cdb_codec.specs.declared.command.Rw.{Rw}
 use Rattle.fault_schedule.specs.declared.Label.{Label}
 use Rattle.fault_schedule.specs.declared.fault.FaultLine.{FaultLine}
-use Rattle.target_answer.specs.Frames.{sent_size, stored_size, frames_of, joined}
-use Rattle.target_answer.specs.Target.{Stored, Stop, Answer, Ended, carried_out, check_sense, first_of, medium_sense, refusals_of, refused, shape_of}
-use Rattle.target_answer.specs.declared.request.Request.{Request}
-use Rattle.target_answer.specs.declared.units.UnitSpec.{UnitSpec}
+use Rattle.rig_api.specs.Frames.{sent_size, stored_size, frames_of, joined}
+use Rattle.rig_api.specs.Target.{Stored, Stop, Answer, Ended, carried_out, check_sense, first_of, medium_sense, refusals_of, refused, shape_of}
+use Rattle.rig_api.specs.declared.request.Request.{Request}
+use Rattle.rig_api.specs.declared.units.UnitSpec.{UnitSpec}
 use Rattle.rig_api.specs.Telling.{HasCause, at_front, holding}
 use Rattle.rig_api.specs.declared.rig.Outcome.{Outcome}
 use Rattle.target_model.specs.declared.unit.LogicalUnit.{LogicalUnit}

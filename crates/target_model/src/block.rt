@@ -4,8 +4,8 @@ ghost use Rattle.std.specs.Prelude.{◌≡◌, ◌+◌, ◌≤◌, ◌^◌, ◌<
 ghost use Rattle.dix_base.specs.Stores.{WasRead, WasWritten};
 ghost use Rattle.dix_base.specs.Told.{Rose};
 ghost use Rattle.rig_api.specs.Log.{IsMediumSense, has_key};
-ghost use Rattle.target_answer.specs.Frames.{sent_size, stored_size};
-ghost use Rattle.target_answer.specs.Passing.{from_medium, to_medium};
+ghost use Rattle.rig_api.specs.Frames.{sent_size, stored_size};
+ghost use Rattle.rig_api.specs.Passing.{from_medium, to_medium};
 ghost use Rattle.target_model.specs.Served.{BlockReadOn, BlockWrittenOn};
 
 use crate::sense::{aborted, medium};
@@ -13,7 +13,7 @@ use dix_base::{Failed, Store};
 use fault_schedule::Tamper;
 use sense_codes::Sense;
 use sense_codes::codes::{UNRECOVERED_READ, WRITE_ERROR};
-use target_answer::Passage;
+use rig_api::Passage;
 
 /// Takes a block from the host to its place in the store. `frame` is scratch of the length of a
 /// stored block. Where the block isn't stored, the answer is the sense.

@@ -4,16 +4,16 @@ ghost use Rattle.std.specs.Prelude.{◌≡◌, ◌+◌, ◌^◌, ◌<◌, ◌≤
 ghost use Rattle.fault_schedule.specs.declared.fault.Crossing.TheVariants.{MediumToTarget};
 ghost use Rattle.pi_tuple.specs.Finds.{is_zero};
 ghost use Rattle.target_model.specs.Served.{FitsFrame, HasBlocks};
-ghost use Rattle.target_answer.specs.Target.{bytes_of, first_of, has_blocks, illegal, medium_address, refusals_of, shift_by_first, wire_address};
-ghost use Rattle.target_answer.specs.declared.request.Request.TheVariants.{Read, ReadCapacity, Verify, Write};
-ghost use Rattle.target_answer.specs.declared.units.UnitSpec.{UnitSpec};
+ghost use Rattle.rig_api.specs.Target.{bytes_of, first_of, has_blocks, illegal, medium_address, refusals_of, shift_by_first, wire_address};
+ghost use Rattle.rig_api.specs.declared.request.Request.TheVariants.{Read, ReadCapacity, Verify, Write};
+ghost use Rattle.rig_api.specs.declared.units.UnitSpec.{UnitSpec};
 ghost use Rattle.pi_tuple.specs.declared.TheConstants.{LARGEST_BLOCK};
 
 use cdb_codec::{Cdb, Rw};
 use fault_schedule::{Crossing, Label, Tamper};
 use pi_tuple::PiType;
 use sense_codes::codes::{INVALID_FIELD, INVALID_OPCODE, OUT_OF_RANGE};
-use target_answer::{UnitSpec, is_foreign, sent_size};
+use rig_api::{UnitSpec, is_foreign, sent_size};
 
 fn shift_by_first(tamper: &Tamper, at: Crossing, labels: &[Label]) -> i64
     ensures { result ≡ shift_by_first tamper.now at labels.now }

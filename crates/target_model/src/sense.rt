@@ -2,7 +2,7 @@
 
 ghost use Rattle.std.specs.Prelude.{◌≡◌};
 ghost use Rattle.sense_codes.specs.Checks.{ascq_of};
-ghost use Rattle.target_answer.specs.Target.{check_sense, illegal, medium_sense};
+ghost use Rattle.rig_api.specs.Target.{check_sense, illegal, medium_sense};
 
 use pi_tuple::Check;
 use sense_codes::Sense;

@@ -5,8 +5,8 @@ ghost use Rattle.cdb_codec.specs.Decoded.{decoded};
 ghost use Rattle.dix_base.specs.Stores.{WasRead, WasWritten};
 ghost use Rattle.dix_base.specs.Told.{Rose};
 ghost use Rattle.rig_api.specs.Log.{IsMedium, has_key};
-ghost use Rattle.target_answer.specs.Target.{asc_of, capacity_data, illegal, protection_byte, target_answer};
-ghost use Rattle.target_answer.specs.declared.request.Request.TheVariants.{Read, ReadCapacity, Verify, Write};
+ghost use Rattle.rig_api.specs.Target.{asc_of, capacity_data, illegal, protection_byte, target_answer};
+ghost use Rattle.rig_api.specs.declared.request.Request.TheVariants.{Read, ReadCapacity, Verify, Write};
 ghost use Rattle.target_model.specs.Served.{IsUnit, ServedOn, answer_to, block_bytes, shape_in};
 
 use crate::LogicalUnit;
@@ -18,9 +18,8 @@ use cdb_codec::{Cdb, CdbFault, Rw};
 use dix_base::Store;
 use fault_schedule::{Label, Tamper};
 use pi_tuple::PiType;
-use rig_api::Outcome;
+use rig_api::{Outcome, Request, UnitSpec, request_of};
 use sense_codes::codes::{INVALID_FIELD, INVALID_OPCODE};
-use target_answer::{Request, UnitSpec, request_of};
 
 /// ILLEGAL REQUEST, and no block is done.
 fn refused(asc: u8) -> Outcome

@@ -4,8 +4,8 @@ ghost use Rattle.std.specs.Prelude.{◌≡◌, ◌+◌, ◌*◌, ◌^◌, ◌<�
 ghost use Rattle.dix_base.specs.Stores.{WasRead, WasWritten};
 ghost use Rattle.dix_base.specs.Told.{Rose, over};
 ghost use Rattle.rig_api.specs.Log.{IsMedium, has_key};
-ghost use Rattle.target_answer.specs.Frames.{frames_of, sent_size};
-ghost use Rattle.target_answer.specs.Target.{passage, read_by, read_end, write_end, written_by};
+ghost use Rattle.rig_api.specs.Frames.{frames_of, sent_size};
+ghost use Rattle.rig_api.specs.Target.{passage, read_by, read_end, write_end, written_by};
 ghost use Rattle.target_model.specs.Served.{AllReadOn, AllVerifiedOn, AllWrittenOn, CanMove, block_bytes};
 
 use crate::block::{read_block, write_block};
@@ -13,9 +13,8 @@ use crate::unit::block_bytes;
 use cdb_codec::Rw;
 use dix_base::Store;
 use fault_schedule::{Label, Tamper};
-use rig_api::Outcome;
+use rig_api::{MOST_FRAME, Outcome, Passage, UnitSpec, sent_size};
 use sense_codes::Sense;
-use target_answer::{MOST_FRAME, Passage, UnitSpec, sent_size};
 
 /// The blocks of a command: the unit, the command's fields, and the LBA of the first block, as
 /// the target was told it.

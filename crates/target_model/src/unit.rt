@@ -5,7 +5,7 @@ ghost use Rattle.pi_tuple.specs.declared.TheConstants.{TUPLE};
 ghost use Rattle.target_model.specs.Served.{block_bytes, shape_in};
 
 use pi_tuple::PiType;
-use target_answer::{UnitSpec, stored_size};
+use rig_api::{UnitSpec, stored_size};
 
 /// A unit whose blocks lie in a store, one after another.
 #[derive(Clone, Copy, Debug, PartialEq, Eq)]

@@ -1,7 +1,7 @@
 //! A unit in a store in memory.
 
 ghost use Rattle.std.specs.Prelude.{◌≡◌, ◌+◌, ◌*◌, ◌≤◌, true, IfSome};
-ghost use Rattle.target_answer.specs.Frames.{stored_size};
+ghost use Rattle.rig_api.specs.Frames.{stored_size};
 ghost use Rattle.target_model.specs.Served.{IsUnit};
 
 use crate::faults::LABELS;

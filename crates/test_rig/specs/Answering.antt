@@ -6,9 +6,9 @@ use Rattle.std.specs.Global.{Vec}
 use Rattle.pi_tuple.specs.declared.checks.PiType.{PiType}
 use Rattle.pi_tuple.specs.declared.checks.PiType.TheVariants.{Zero, One, Two, Three}
 use Rattle.fault_schedule.specs.declared.Label.{Label}
-use Rattle.target_answer.specs.Headers.{header, image_size, is_header, specs_in}
-use Rattle.target_answer.specs.declared.units.UnitSpec.{UnitSpec}
-use Rattle.target_answer.specs.declared.units.Version.TheVariants.{Second}
+use Rattle.rig_api.specs.Headers.{header, image_size, is_header, specs_in}
+use Rattle.rig_api.specs.declared.units.UnitSpec.{UnitSpec}
+use Rattle.rig_api.specs.declared.units.Version.TheVariants.{Second}
 use Rattle.rig_api.specs.Head.{Head, head_fault, units_of}
 use Rattle.rig_api.specs.Log.{LogEntry, Room, has_key, have_keys}
 use Rattle.rig_api.specs.Telling.{IsStanding, Standing, greatest, greatest_size, no_spec, spec_at, specs_of}

@@ -2,9 +2,8 @@
 
 use dix_base::MemStore;
 use image_rig::ImageRig;
-use rig_api::Rig;
+use rig_api::{Rig, UnitSpec, is_layout};
 use std::alloc::{AllocError, Global};
-use target_answer::{UnitSpec, is_layout};
 use test_table::{bytes_of, cut, number};
 use unit_words::unit_of;
 

@@ -6,9 +6,8 @@ use image_commands::{format_image, scrub_image};
 use image_rig::ImageRig;
 use pi_tuple::PiType;
 use report_text::print_trace;
-use rig_api::{Rig, UnitSpec};
+use rig_api::{Rig, UnitSpec, is_layout};
 use std::alloc::{AllocError, Global};
-use target_answer::is_layout;
 use test_table::{cut, small};
 
 fn unit(ty: PiType, blocks: u64) -> UnitSpec {

@@ -2,8 +2,8 @@
 use Rattle.std.proofs.Common.{ℕ, ◌≡◌, ◌<◌, suc, false, leb, List, [], ◌∷◌, ◌++◌, length, Option, Some, None, refl, ap, ◌∙◌, arith}
 use Rattle.std.specs.Prelude.{String}
 use Rattle.std.specs.List.{list_all}
-use Rattle.target_answer.specs.Headers.{is_layout, is_spec}
-use Rattle.target_answer.specs.declared.units.UnitSpec.{UnitSpec}
+use Rattle.rig_api.specs.Headers.{is_layout, is_spec}
+use Rattle.rig_api.specs.declared.units.UnitSpec.{UnitSpec}
 use Rattle.unit_words.specs.Units.{unit_in}
 use Rattle.unit_words.specs.Words.{image_in, laid_out, units_in, with_unit, word_bytes}
 use Rattle.small_laws.proofs.Tests.{second_no}

@@ -1,7 +1,7 @@
 use Rattle.std.specs.Prelude.{ℕ, ltb, if◌then◌else◌, List, Option, Some, None}
 use Rattle.pi_tuple.specs.declared.checks.PiType.{PiType}
-use Rattle.target_answer.specs.Headers.{is_spec, type_of}
-use Rattle.target_answer.specs.declared.units.UnitSpec.{UnitSpec}
+use Rattle.rig_api.specs.Headers.{is_spec, type_of}
+use Rattle.rig_api.specs.declared.units.UnitSpec.{UnitSpec}
 use Rattle.script_words.specs.Cuts.{Cut, cut}
 use Rattle.script_words.specs.Decimals.{number_in}
 

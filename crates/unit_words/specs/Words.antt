@@ -1,7 +1,7 @@
 -- Words as bytes, names of images, and units in a row.
 use Rattle.std.specs.Prelude.{ℕ, Bool, false, not, eqb, if◌then◌else◌, List, [], ◌∷◌, String, string_bytes, Option, Some, None}
-use Rattle.target_answer.specs.Headers.{is_layout}
-use Rattle.target_answer.specs.declared.units.UnitSpec.{UnitSpec}
+use Rattle.rig_api.specs.Headers.{is_layout}
+use Rattle.rig_api.specs.declared.units.UnitSpec.{UnitSpec}
 use Rattle.unit_words.specs.Units.{unit_in}
 
 -- the bytes of the words

@@ -5,7 +5,7 @@ ghost use Rattle.unit_words.specs.Units.{spec_of, type_in, type_numbered, unit_i
 
 use pi_tuple::{LARGEST_BLOCK, PiType};
 use script_words::{number, split_once};
-use target_answer::{UnitSpec, is_spec};
+use rig_api::{UnitSpec, is_spec};
 
 fn type_numbered(number: u64) -> Option<PiType>
     ensures { result ≡ type_numbered number }

@@ -4,7 +4,7 @@ ghost use Rattle.std.specs.Prelude.{◌≡◌};
 
 use arrayvec::ArrayVec;
 use std::marker::Model;
-use target_answer::UnitSpec;
+use rig_api::UnitSpec;
 
 /// The units of an image that is ordered.
 #[derive(Drop)]
@@ -14,7 +14,7 @@ pub struct UnitList {
 
 impl Model for UnitList {
     ghost use Rattle.std.specs.Prelude.{List};
-    ghost use Rattle.target_answer.specs.declared.units.UnitSpec.{UnitSpec};
+    ghost use Rattle.rig_api.specs.declared.units.UnitSpec.{UnitSpec};
 
     ghost Value = { List UnitSpec };
 

@@ -6,7 +6,7 @@ ghost use Rattle.unit_words.specs.Words.{image_in, is_name, laid_out, units_in, 
 use crate::UnitList;
 use crate::unit::unit_of;
 use arrayvec::ArrayVec;
-use target_answer::{UnitSpec, is_layout};
+use rig_api::{UnitSpec, is_layout};
 
 /// Whether the word names an image: it isn't empty and doesn't begin with a hyphen.
 pub fn is_name(word: &String) -> bool

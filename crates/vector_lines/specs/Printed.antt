@@ -3,9 +3,9 @@ use Rattle.hex.specs.Hex.{encode_lower}
 use Rattle.cdb_codec.specs.Decoded.{decoded}
 use Rattle.cdb_codec.specs.declared.command.Cdb.{Cdb}
 use Rattle.cdb_codec.specs.declared.command.CdbFault.{CdbFault}
-use Rattle.target_answer.specs.Requests.{request_of}
-use Rattle.target_answer.specs.declared.request.Request.{Request}
-use Rattle.target_answer.specs.declared.request.Request.TheVariants.{Read, Write, Verify, ReadCapacity}
+use Rattle.rig_api.specs.Requests.{request_of}
+use Rattle.rig_api.specs.declared.request.Request.{Request}
+use Rattle.rig_api.specs.declared.request.Request.TheVariants.{Read, Write, Verify, ReadCapacity}
 use Rattle.rig_api.specs.declared.rig.Outcome.{Outcome}
 use Rattle.rig_api.specs.declared.rig.Record.{Record}
 use Rattle.report_text.specs.Trace.{sense_text}

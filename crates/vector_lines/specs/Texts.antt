@@ -6,7 +6,7 @@ use Rattle.script_lines.specs.declared.kind.ScriptKind.TheVariants.{Memory, NoHe
 use Rattle.vector_lines.specs.Lines.{line_form}
 use Rattle.vector_lines.specs.declared.line.VectorLine.{VectorLine}
 use Rattle.script_text.specs.declared.fault.ScriptFault.{ScriptFault}
-use Rattle.source_text.specs.declared.TheConstants.{MOST_BYTES}
+use Rattle.dix_base.specs.declared.reading.TheConstants.{MOST_BYTES}
 
 -- A list of commands: a text whose first line that isn't skipped is dix vectors 1, and lines of commands behind it.
 

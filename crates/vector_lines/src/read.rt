@@ -9,7 +9,7 @@ use crate::line::{VectorLine, line_of};
 use script_lines::{ScriptKind, Words};
 use script_text::ScriptFault;
 use script_words::{is_plain, next_line, next_word};
-use source_text::MOST_BYTES;
+use dix_base::MOST_BYTES;
 use std::alloc::Global;
 
 /// Whether a line is skipped: it has no words, or its first begins with `#`.

@@ -9,8 +9,7 @@ ghost use Rattle.vector_lines.specs.Printed.{first_line, head_text, in_of, is_wr
 use cdb_codec::Cdb;
 use dix_base::{Failed, Sink};
 use report_text::{Line, add, add_hex, add_number, write_all, write_hex};
-use rig_api::{Outcome, Record};
-use target_answer::{Request, request_of};
+use rig_api::{Outcome, Record, Request, request_of};
 
 /// Whether the command block is that of a write.
 fn is_write(cdb: &[u8]) -> bool

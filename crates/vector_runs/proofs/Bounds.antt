@@ -5,11 +5,11 @@ use Rattle.std.proofs.Math.Nat.{mul-le-mul}
 use Rattle.cdb_codec.specs.Decoded.{decoded}
 use Rattle.cdb_codec.specs.declared.command.Cdb.{Cdb}
 use Rattle.cdb_codec.specs.declared.command.CdbFault.{CdbFault}
-use Rattle.target_answer.specs.Requests.{request_of}
+use Rattle.rig_api.specs.Requests.{request_of}
 use Rattle.script_lines.specs.declared.kind.ScriptKind.TheVariants.{BadRange}
 use Rattle.vector_lines.specs.declared.line.VectorLine.{VectorLine}
-use Rattle.target_answer.specs.declared.request.Request.{Request}
-use Rattle.target_answer.specs.declared.request.Request.TheVariants.{Read, Write, Verify, ReadCapacity}
+use Rattle.rig_api.specs.declared.request.Request.{Request}
+use Rattle.rig_api.specs.declared.request.Request.TheVariants.{Read, Write, Verify, ReadCapacity}
 use Rattle.rig_api.specs.Log.{capacity_by, capacity_len, capacity_under}
 use Rattle.vector_runs.specs.Done.{room_by, room_of, room_under}
 use Rattle.vector_runs.specs.Ranges.{is_inside, out_of_range}

@@ -6,7 +6,7 @@ use Rattle.script_lines.specs.declared.kind.ScriptKind.TheVariants.{TooMany}
 use Rattle.script_text.specs.Language.{lines_read, nothing_read}
 use Rattle.script_words.specs.Cuts.{lines_of}
 use Rattle.vector_lines.specs.Texts.{head_read, is_list, list_in}
-use Rattle.source_text.proofs.Taking.{whole_text}
+use Rattle.dix_base.proofs.Taking.{whole_text}
 use Rattle.dix_base.specs.Told.{Calm}
 use Rattle.dix_base.proofs.Counts.{never_rose}
 use Rattle.image_commands.specs.Causes.{HasOpened}

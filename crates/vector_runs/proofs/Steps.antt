@@ -5,8 +5,8 @@ use Rattle.std.proofs.lemmas.List.{length-replicate, take-append-drop, take_more
 use Rattle.dix_base.specs.Told.{Calm}
 use Rattle.dix_base.proofs.Counts.{calm_first, calm_then}
 use Rattle.fault_schedule.specs.declared.fault.FaultLine.{FaultLine}
-use Rattle.target_answer.specs.Frames.{joined}
-use Rattle.target_answer.specs.Target.{Answer, Stored}
+use Rattle.rig_api.specs.Frames.{joined}
+use Rattle.rig_api.specs.Target.{Answer, Stored}
 use Rattle.rig_api.specs.Log.{LogEntry, Room, entry_of}
 use Rattle.rig_api.specs.declared.rig.Outcome.{Outcome}
 use Rattle.rig_api.specs.Telling.{IsAnswer, Standing, answer_of, at_front}

@@ -12,7 +12,7 @@ use Rattle.call_refusal.specs.declared.refusal.Refusal.{Refusal}
 use Rattle.call_refusal.specs.declared.refusal.Refusal.TheVariants as refusal
 use Rattle.run_command.proofs.Refusing.{within}
 use Rattle.script_words.specs.Cuts.{lines_of}
-use Rattle.source_text.specs.Reading.{IsWhole}
+use Rattle.dix_base.specs.Reading.{IsWhole}
 use Rattle.vector_lines.specs.Texts.{is_list, list_in}
 use Rattle.vector_runs.specs.Taken.{CauseNotHeld, CauseNotTaken, HasTaken, Holds, list_fault, script_fault, text_fault}
 use Rattle.vector_runs.specs.declared.wanted.Wanted.{Wanted}

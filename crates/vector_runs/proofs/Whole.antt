@@ -15,7 +15,7 @@ use Rattle.run_command.specs.Verdict.{CauseStopped, Facts, IsFromOutside}
 use Rattle.call_refusal.specs.declared.refusal.Refusal.{Refusal}
 use Rattle.call_refusal.specs.declared.refusal.Refusal.TheVariants as refusal
 use Rattle.script_words.specs.Cuts.{lines_of}
-use Rattle.source_text.proofs.Taking.{most_is, over_long, whole_text}
+use Rattle.dix_base.proofs.Taking.{most_is, over_long, whole_text}
 use Rattle.vector_lines.specs.Texts.{is_list, list_in}
 use Rattle.vector_lines.specs.declared.line.VectorLine.{VectorLine}
 use Rattle.vector_runs.specs.Answered.{CauseUnanswered, IsReady}

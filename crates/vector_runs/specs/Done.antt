@@ -1,7 +1,7 @@
 use Rattle.std.specs.Prelude.{ℕ, ◌≡◌, ◌≤◌, List, [], ◌∷◌, ◌++◌, length, replicate, Some, None, is_some}
 use Rattle.dix_base.specs.Told.{Calm}
-use Rattle.target_answer.specs.Frames.{joined}
-use Rattle.target_answer.specs.Target.{Answer, Stored}
+use Rattle.rig_api.specs.Frames.{joined}
+use Rattle.rig_api.specs.Target.{Answer, Stored}
 use Rattle.rig_api.specs.Log.{LogEntry, entry_of}
 use Rattle.rig_api.specs.Telling.{Standing, answer_of, at_front, spec_at, with_blocks}
 use Rattle.rig_api.specs.declared.rig.Outcome.{Outcome}

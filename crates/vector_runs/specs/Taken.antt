@@ -8,7 +8,7 @@ use Rattle.run_command.specs.Working.{IsSound}
 use Rattle.call_refusal.specs.declared.refusal.Refusal.{Refusal}
 use Rattle.call_refusal.specs.declared.refusal.Refusal.TheVariants as refusal
 use Rattle.script_words.specs.Cuts.{lines_of}
-use Rattle.source_text.specs.Reading.{IsOver, IsWhole, TookAtMost, most_bytes}
+use Rattle.dix_base.specs.Reading.{IsOver, IsWhole, TookAtMost, most_bytes}
 use Rattle.vector_lines.specs.Texts.{is_list, list_in}
 use Rattle.vector_lines.specs.declared.line.VectorLine.{VectorLine}
 use Rattle.vector_runs.specs.Unplayed.{unplayed}

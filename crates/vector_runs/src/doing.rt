@@ -1,15 +1,14 @@
 //! The commands of a list, one after another.
 
 ghost use Rattle.std.specs.Prelude.{◌≡◌, ◌*◌, ◌≤◌, [], true, IfOk, MatchResult, None, replicate};
-ghost use Rattle.target_answer.specs.Frames.{sent_size};
-ghost use Rattle.target_answer.specs.Requests.{blocks_of, transferred};
+ghost use Rattle.rig_api.specs.Frames.{sent_size};
+ghost use Rattle.rig_api.specs.Requests.{blocks_of, transferred};
 ghost use Rattle.vector_runs.specs.Done.{HaveDone, HaveDoneSome, VectorsStay, LineWasDone, room_by, room_of};
 ghost use Rattle.vector_runs.specs.Ranges.{is_inside, out_of_range};
 
 use cdb_codec::Cdb;
-use rig_api::{Rig, blocks_of};
+use rig_api::{Request, Rig, blocks_of, request_of, sent_size};
 use std::alloc::{AllocError, Global};
-use target_answer::{Request, request_of, sent_size};
 use vector_lines::VectorLine;
 
 /// The bytes that so many frames have.

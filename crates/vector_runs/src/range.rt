@@ -4,10 +4,9 @@ ghost use Rattle.std.specs.Prelude.{◌≡◌};
 ghost use Rattle.vector_runs.specs.Ranges.{asked, asked_of, is_inside, out_of_range};
 
 use cdb_codec::Cdb;
-use rig_api::Rig;
+use rig_api::{Request, Rig, request_of};
 use script_lines::ScriptKind;
 use script_text::ScriptFault;
-use target_answer::{Request, request_of};
 use vector_lines::VectorLine;
 
 /// A command of a list has at most this many blocks.

@@ -7,10 +7,9 @@ ghost use Rattle.vector_runs.specs.Taken.{CauseNotHeld, CauseNotTaken, HasTaken,
 
 use crate::scripts::unplayed;
 use call_refusal::Refusal;
-use dix_base::Source;
+use dix_base::{Source, read_all};
 use script_laws::a_read_script_keeps_the_rules;
 use script_text::{Script, read_script};
-use source_text::read_all;
 use std::alloc::Global;
 use vector_lines::{VectorLine, is_list, read_list};
 

@@ -1,5 +1,5 @@
 use Rattle.std.proofs.Common.{length, refl, ap, ◌∙◌, arith}
-use Rattle.target_answer.specs.Headers.{is_layout}
+use Rattle.rig_api.specs.Headers.{is_layout}
 use Rattle.dix_run.specs.Commands.{format_work}
 use Rattle.dix_run.specs.declared.refusal.Refusal.TheVariants as refusal
 use Rattle.call_verdict.proofs.Verdicts.{refused}

@@ -2,7 +2,7 @@ use Rattle.std.proofs.Common.{Some, refl, ap, ◌∙◌}
 use Rattle.std.proofs.lemmas.Result.{err_from_is_err_and}
 use Rattle.image_rig.specs.Heads.{head_in}
 use Rattle.image_rig.specs.Told.{laid_of, ready_of}
-use Rattle.target_answer.specs.Image.{formatted}
+use Rattle.rig_api.specs.Image.{formatted}
 use Rattle.image_rig.proofs.FreshHead.{right_head}
 use Rattle.flip_sweep.proofs.Coming.{no_run, seen}
 use Rattle.flip_sweep.proofs.runs.run_over.Goals as goal

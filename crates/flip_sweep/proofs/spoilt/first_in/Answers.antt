@@ -1,5 +1,5 @@
 use Rattle.std.proofs.Common.{sym, ◌∙◌, arith}
-use Rattle.target_answer.specs.Frames.{stored_size}
+use Rattle.rig_api.specs.Frames.{stored_size}
 use Rattle.flip_sweep.proofs.Spoiling.{found_here, not_here}
 use Rattle.image_text.proofs.Frames.{shorter}
 use Rattle.flip_sweep.proofs.spoilt.first_in.Goals as goal

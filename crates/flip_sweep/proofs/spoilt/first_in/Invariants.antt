@@ -1,5 +1,5 @@
 use Rattle.std.proofs.Common.{◌≡◌, ◌+◌, ◌*◌, length}
-use Rattle.target_answer.specs.Frames.{frames_of, stored_size}
+use Rattle.rig_api.specs.Frames.{frames_of, stored_size}
 use Rattle.flip_sweep.specs.Verdicts.{first_spoilt_from}
 use Rattle.flip_sweep.proofs.spoilt.first_in.Given as goal
 

@@ -1,7 +1,7 @@
 use Rattle.std.proofs.Common.{◌≡◌, ◌+◌, ◌≤◌, true, length}
 use Rattle.std.specs.List.{list_all}
-use Rattle.target_answer.specs.Headers.{all_bytes, is_spec}
-use Rattle.target_answer.specs.Image.{units_from}
+use Rattle.rig_api.specs.Headers.{all_bytes, is_spec}
+use Rattle.rig_api.specs.Image.{units_from}
 use Rattle.flip_sweep.specs.Verdicts.{first_spoilt}
 use Rattle.flip_sweep.proofs.spoilt.first_spoilt.Given as goal
 

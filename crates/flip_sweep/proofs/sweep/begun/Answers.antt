@@ -2,7 +2,7 @@ use Rattle.std.proofs.Common.{◌≡◌, inl, inr, refl, sym, subst, ◌∙◌, 
 use Rattle.std.proofs.lemmas.Result.{err_from_is_err_and}
 use Rattle.script_text.specs.declared.script.Script.{Script}
 use Rattle.run_command.specs.Working.{IsSound}
-use Rattle.target_answer.specs.Image.{formatted}
+use Rattle.rig_api.specs.Image.{formatted}
 use Rattle.flip_sweep.specs.Comes.{came_to, seen_of}
 use Rattle.flip_sweep.specs.Swept.{CauseNoRun}
 use Rattle.flip_sweep.proofs.Coming.{held}

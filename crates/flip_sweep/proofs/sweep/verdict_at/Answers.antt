@@ -1,7 +1,7 @@
 use Rattle.std.proofs.Common.{◌≡◌, sym, ap, subst, ◌∙◌}
 use Rattle.script_text.specs.declared.script.Script.{Script}
 use Rattle.run_command.specs.Working.{IsSound}
-use Rattle.target_answer.specs.Image.{formatted}
+use Rattle.rig_api.specs.Image.{formatted}
 use Rattle.flip_sweep.specs.Comes.{CameTo, came_to, seen_of}
 use Rattle.flip_sweep.specs.Flips.{with_flip}
 use Rattle.flip_sweep.specs.Verdicts.{verdict_of}

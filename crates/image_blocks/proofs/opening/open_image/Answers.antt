@@ -1,5 +1,5 @@
 use Rattle.std.proofs.Common.{ap, sym, ◌∙◌}
-use Rattle.target_answer.specs.Headers.{image_size, is_layout}
+use Rattle.rig_api.specs.Headers.{image_size, is_layout}
 use Rattle.image_rig.specs.Heads.{head_in}
 use Rattle.image_rig.proofs.Heads.{right_size}
 use Rattle.image_blocks.proofs.opening.open_image.Goals as goal

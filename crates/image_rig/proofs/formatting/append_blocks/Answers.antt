@@ -4,8 +4,8 @@ use Rattle.dix_base.proofs.Stores.{extended_on, not_extended}
 use Rattle.dix_base.specs.Stores.{StoreState}
 use Rattle.dix_base.specs.Told.{Appended}
 use Rattle.dix_base.proofs.Appending.{appended_none, appended_both}
-use Rattle.target_answer.specs.Frames.{joined}
-use Rattle.target_answer.specs.Image.{fresh_from}
+use Rattle.rig_api.specs.Frames.{joined}
+use Rattle.rig_api.specs.Image.{fresh_from}
 use Rattle.image_rig.proofs.Formats.{fresh_more}
 use Rattle.image_rig.proofs.Short.{blocks_short, size_some}
 use Rattle.image_rig.proofs.formatting.append_blocks.Goals as goal

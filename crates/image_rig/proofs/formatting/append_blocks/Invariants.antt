@@ -1,8 +1,8 @@
 use Rattle.std.proofs.Common.{◌≡◌, take, replicate, length}
 use Rattle.dix_base.specs.Stores.{WasExtended}
 use Rattle.dix_base.specs.Told.{Appended}
-use Rattle.target_answer.specs.Frames.{joined, stored_size}
-use Rattle.target_answer.specs.Image.{fresh_from}
+use Rattle.rig_api.specs.Frames.{joined, stored_size}
+use Rattle.rig_api.specs.Image.{fresh_from}
 use Rattle.image_rig.proofs.formatting.append_blocks.Given as goal
 
 abbrev pub invariant-loop-k : goal.invariant-loop-k

@@ -4,9 +4,9 @@ use Rattle.dix_base.proofs.Stores.{extended_on}
 use Rattle.dix_base.specs.Stores.{StoreState}
 use Rattle.dix_base.specs.Told.{Appended}
 use Rattle.dix_base.proofs.Appending.{appended_both, appended_none}
-use Rattle.target_answer.specs.Frames.{joined}
-use Rattle.target_answer.specs.Headers.{header, version_for}
-use Rattle.target_answer.specs.Image.{all_fresh, fresh_bytes}
+use Rattle.rig_api.specs.Frames.{joined}
+use Rattle.rig_api.specs.Headers.{header, version_for}
+use Rattle.rig_api.specs.Image.{all_fresh, fresh_bytes}
 use Rattle.rig_api.specs.Telling.{no_spec}
 use Rattle.image_rig.proofs.Formats.{all_units, units_more}
 use Rattle.image_rig.proofs.Short.{nothing_yet, units_short}

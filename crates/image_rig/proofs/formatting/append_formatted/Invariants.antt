@@ -1,8 +1,8 @@
 use Rattle.std.proofs.Common.{◌++◌, take}
 use Rattle.dix_base.specs.Stores.{WasExtended}
 use Rattle.dix_base.specs.Told.{Appended}
-use Rattle.target_answer.specs.Headers.{header, version_for}
-use Rattle.target_answer.specs.Image.{fresh_bytes}
+use Rattle.rig_api.specs.Headers.{header, version_for}
+use Rattle.rig_api.specs.Image.{fresh_bytes}
 use Rattle.image_rig.proofs.formatting.append_formatted.Given as goal
 
 abbrev pub invariant-loop-unit : goal.invariant-loop-unit

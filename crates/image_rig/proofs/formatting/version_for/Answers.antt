@@ -1,6 +1,6 @@
 use Rattle.std.proofs.Common.{sym, ap, ◌∙◌}
 use Rattle.std.specs.Prelude.{if◌then◌else◌}
-use Rattle.target_answer.specs.declared.units.Version.TheVariants.{First, Second}
+use Rattle.rig_api.specs.declared.units.Version.TheVariants.{First, Second}
 use Rattle.image_rig.proofs.Formats.{first_is_small}
 use Rattle.image_rig.proofs.formatting.version_for.Goals as goal
 

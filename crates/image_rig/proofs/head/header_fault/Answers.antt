@@ -1,6 +1,6 @@
 use Rattle.std.proofs.Common.{ap, sym, ◌∙◌}
-use Rattle.target_answer.specs.Headers.{is_layout}
-use Rattle.target_answer.proofs.HeaderLaws.{header_layout}
+use Rattle.rig_api.specs.Headers.{is_layout}
+use Rattle.rig_api.proofs.HeaderLaws.{header_layout}
 use Rattle.image_rig.proofs.head.header_fault.Goals as goal
 
 pub length_fault-requires : goal.length_fault-requires

@@ -1,5 +1,5 @@
 use Rattle.std.proofs.Common.{◌≡◌, ◌+◌, ◌*◌, ◌≤◌, take}
-use Rattle.target_answer.specs.Headers.{all_bytes}
+use Rattle.rig_api.specs.Headers.{all_bytes}
 use Rattle.image_rig.proofs.head.image_size.Given as goal
 
 abbrev pub invariant-loop-unit : goal.invariant-loop-unit

@@ -1,7 +1,7 @@
 use Rattle.std.proofs.Common.{◌≡◌, ap, ◌∙◌, arith}
 use Rattle.rig_api.specs.Head.{units_of}
 use Rattle.rig_api.proofs.HeadLaws.{right_layout}
-use Rattle.target_answer.specs.Headers.{is_layout}
+use Rattle.rig_api.specs.Headers.{is_layout}
 use Rattle.image_rig.specs.Heads.{head_in}
 use Rattle.image_rig.proofs.Heads.{right_head}
 use Rattle.image_rig.proofs.Migrates.{keeps_units}

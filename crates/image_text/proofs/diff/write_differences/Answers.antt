@@ -1,6 +1,6 @@
 -- Lines go on, one for each two blocks that differ.
 use Rattle.std.proofs.Common.{◌≡◌, ◌+◌, ◌-◌, refl, ap, arith}
-use Rattle.target_answer.specs.Frames.{frames_of, stored_size}
+use Rattle.rig_api.specs.Frames.{frames_of, stored_size}
 use Rattle.image_text.specs.DiffText.{count_differ, diff_line, diff_lines}
 use Rattle.report_text.proofs.Written.{as_left, begins, breaks, ends, writes}
 use Rattle.image_text.proofs.Differing.{diff_at, differ_at}

@@ -1,6 +1,6 @@
 -- Whole blocks are written as they lie.
 use Rattle.std.proofs.Common.{sym}
-use Rattle.target_answer.specs.Frames.{stored_size}
+use Rattle.rig_api.specs.Frames.{stored_size}
 use Rattle.image_text.proofs.Dumping.{as_they_lie}
 use Rattle.report_text.proofs.Written.{as_text}
 use Rattle.image_text.proofs.export.write_dump.Goals as goal

@@ -1,5 +1,5 @@
 use Rattle.std.proofs.Common.{◌≡◌, ◌-◌, ap, arith}
-use Rattle.target_answer.specs.Frames.{frames_of, stored_size}
+use Rattle.rig_api.specs.Frames.{frames_of, stored_size}
 use Rattle.image_text.specs.Dumps.{dump_of}
 use Rattle.report_text.proofs.Written.{as_left, begins, breaks, ends, writes}
 use Rattle.image_text.proofs.Dumping.{dump_at}

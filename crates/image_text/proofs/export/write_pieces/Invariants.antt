@@ -1,6 +1,6 @@
 use Rattle.std.proofs.Common.{◌≡◌, ◌*◌, ◌≤◌, length}
 use Rattle.report_text.proofs.Written.{Writing}
-use Rattle.target_answer.specs.Frames.{frames_of, stored_size}
+use Rattle.rig_api.specs.Frames.{frames_of, stored_size}
 use Rattle.image_text.specs.Dumps.{dump_of}
 use Rattle.image_text.proofs.export.write_pieces.Given as goal
 

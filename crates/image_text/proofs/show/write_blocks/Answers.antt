@@ -1,5 +1,5 @@
 use Rattle.std.proofs.Common.{ℕ, List, ◌≡◌, ◌+◌, ◌-◌, ap, refl, arith}
-use Rattle.target_answer.specs.Frames.{frames_of, stored_size}
+use Rattle.rig_api.specs.Frames.{frames_of, stored_size}
 use Rattle.image_text.specs.Sights.{is_at_fault, is_unchecked}
 use Rattle.image_text.specs.ShowText.{count_bad, count_unchecked, image_text}
 use Rattle.report_text.proofs.Written.{as_left, begins, breaks, ends, writes}

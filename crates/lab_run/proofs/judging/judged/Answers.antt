@@ -1,6 +1,6 @@
 use Rattle.std.proofs.Common.{List, ℕ, Err, refl, sym, ap, subst}
 use Rattle.std.proofs.lemmas.Result.{err_from_is_err_and}
-use Rattle.source_text.specs.Reading.{IsWhole}
+use Rattle.dix_base.specs.Reading.{IsWhole}
 use Rattle.lab_run.specs.Texts.{no_memory}
 use Rattle.lab_run.proofs.Judges.{said_over, said_whole, spared, spared_over, spared_whole, unread}
 use Rattle.lab_run.proofs.judging.judged.Goals as goal

@@ -1,6 +1,6 @@
 use Rattle.std.proofs.Common.{◌≡◌, ◌≤◌, ◌+◌, arith, ap, subst, sym, ◌∙◌, length, take, drop}
 use Rattle.cdb_codec.specs.Forms.{Fits, form}
-use Rattle.target_answer.specs.Requests.{blocks_of}
+use Rattle.rig_api.specs.Requests.{blocks_of}
 use Rattle.rig_api.specs.Log.{HasRoom, capacity_len}
 use Rattle.rig_api.specs.Telling.{greatest_size}
 use Rattle.nvme_front.specs.Translation.{scsi_command}

@@ -1,6 +1,6 @@
 use Rattle.std.proofs.Common.{◌≡◌, ◌++◌, [], List, Some, drop}
 use Rattle.dix_base.specs.Told.{Calm}
-use Rattle.target_answer.specs.Target.{Stored}
+use Rattle.rig_api.specs.Target.{Stored}
 use Rattle.pi_scrub.specs.Faults.{all_faults}
 use Rattle.pi_scrub.specs.Looks.{all_places}
 use Rattle.pi_scrub.specs.Scrubbed.{Looked}

@@ -1,6 +1,6 @@
 use Rattle.std.proofs.Common.{◌≡◌, ◌+◌, ◌≤◌, ◌++◌, List, Some}
 use Rattle.dix_base.specs.Told.{Calm}
-use Rattle.target_answer.specs.Target.{Stored}
+use Rattle.rig_api.specs.Target.{Stored}
 use Rattle.rig_api.specs.Telling.{unit_at}
 use Rattle.rig_api.specs.State.{Stays}
 use Rattle.pi_scrub.specs.Faults.{faults_of}

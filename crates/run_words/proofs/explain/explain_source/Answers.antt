@@ -1,6 +1,6 @@
 use Rattle.std.proofs.Common.{List, ℕ, Err, refl, sym, ap, subst}
 use Rattle.run_command.specs.Verdict.{Facts}
-use Rattle.source_text.specs.Reading.{IsWhole}
+use Rattle.dix_base.specs.Reading.{IsWhole}
 use Rattle.run_words.proofs.Marking.{all_complete, by_long, by_text}
 use Rattle.run_words.proofs.explain.explain_source.Goals as goal
 

@@ -3,7 +3,7 @@ use Rattle.std.specs.Prelude.{is_some}
 use Rattle.rig_api.specs.Telling.{Standing, specs_of}
 use Rattle.rig_api.specs.State.{RigState}
 use Rattle.script_run_laws.specs.Passed.{info_of}
-use Rattle.target_answer.specs.Target.{Stored}
+use Rattle.rig_api.specs.Target.{Stored}
 use Rattle.dix_adapter.specs.Groups.{mode_of}
 use Rattle.dix_adapter.specs.declared.adapter.Adapter.{Adapter}
 use Rattle.stack_core.specs.Mediums.{RoseBy, medium_lines}

@@ -1,6 +1,6 @@
 use Rattle.std.proofs.Common.{List, [], Option, Some, None, ap, drop, subst, sym, take}
 use Rattle.page_pool.specs.Cells.{flat}
-use Rattle.target_answer.specs.Target.{Stored}
+use Rattle.rig_api.specs.Target.{Stored}
 use Rattle.dix_adapter.specs.Ways.{blocks_told}
 use Rattle.stack_walk_laws.specs.Passed.{recorded}
 use Rattle.stack_core.specs.Walking.{EndsFallen}

@@ -1,5 +1,5 @@
 use Rattle.std.proofs.Common.{List, [], Option, Some, None, ap, subst, sym, drop}
-use Rattle.target_answer.specs.Target.{Stored}
+use Rattle.rig_api.specs.Target.{Stored}
 use Rattle.stack_core.specs.Walking.{EndsTold}
 use Rattle.stack_core.proofs.WalkEnds.{ends_told}
 use Rattle.stack_core.proofs.laws.a_finished_stack_has_done_the_walk.Goals as goal

@@ -3,9 +3,9 @@ use Rattle.std.proofs.lemmas.List.{length-take, length-drop}
 use Rattle.dix_base.specs.Told.{Apart, Becomes, Rose}
 use Rattle.pi_tuple.specs.declared.checks.Check.{Check}
 use Rattle.sense_codes.specs.declared.Sense.{Sense}
-use Rattle.target_answer.specs.Frames.{sent_size, stored_size}
-use Rattle.target_answer.specs.Passing.{to_medium}
-use Rattle.target_answer.specs.Target.{medium_sense}
+use Rattle.rig_api.specs.Frames.{sent_size, stored_size}
+use Rattle.rig_api.specs.Passing.{to_medium}
+use Rattle.rig_api.specs.Target.{medium_sense}
 use Rattle.target_model.specs.Served.{BlockWritten}
 use Rattle.target_model.proofs.Bytes.{told_length, becomes_some, over_back, front_is, copied_length}
 use Rattle.target_model.proofs.block.write_block.Goals as goal

@@ -1,5 +1,5 @@
 use Rattle.std.proofs.Common.{length, arith, ◌∙◌}
-use Rattle.target_answer.specs.declared.request.Request.TheVariants.{Read}
+use Rattle.rig_api.specs.declared.request.Request.TheVariants.{Read}
 use Rattle.target_model.proofs.Bytes.{told_length}
 use Rattle.target_model.proofs.Composing.{can_move, keyed, not_medium, refused_by, read_as}
 use Rattle.target_model.proofs.serving.read.Goals as goal

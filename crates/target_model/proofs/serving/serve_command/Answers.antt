@@ -1,6 +1,6 @@
 use Rattle.std.proofs.Common.{length, arith, ap, sym, ◌∙◌, Some}
-use Rattle.target_answer.specs.declared.request.Request.TheVariants.{Read, Write, Verify, ReadCapacity}
-use Rattle.target_answer.specs.Target.{illegal}
+use Rattle.rig_api.specs.declared.request.Request.TheVariants.{Read, Write, Verify, ReadCapacity}
+use Rattle.rig_api.specs.Target.{illegal}
 use Rattle.target_model.proofs.Bytes.{told_length}
 use Rattle.target_model.proofs.Composing.{served_fault, served_request, served_capacity}
 use Rattle.target_model.proofs.serving.serve_command.Goals as goal

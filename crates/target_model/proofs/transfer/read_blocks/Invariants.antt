@@ -1,7 +1,7 @@
 use Rattle.std.proofs.Common.{◌≡◌, ℕ, ◌+◌, ◌*◌, List, Some, length, drop}
 use Rattle.dix_base.specs.Stores.{WasRead}
-use Rattle.target_answer.specs.Passing.{from_medium}
-use Rattle.target_answer.specs.Target.{passage}
+use Rattle.rig_api.specs.Passing.{from_medium}
+use Rattle.rig_api.specs.Target.{passage}
 use Rattle.target_model.proofs.Reading.{Sent}
 use Rattle.target_model.proofs.transfer.read_blocks.Given as goal
 

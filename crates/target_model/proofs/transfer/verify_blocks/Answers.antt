@@ -1,8 +1,8 @@
 use Rattle.std.proofs.Common.{◌≡◌, ℕ, ◌+◌, ◌*◌, ◌<◌, ◌≤◌, ◌^◌, [], length, take, drop, arith, sym, ap, ◌∙◌, refl}
-use Rattle.target_answer.specs.declared.passage.Passage.{Passage}
-use Rattle.target_answer.specs.Frames.{sent_size, stored_size}
-use Rattle.target_answer.specs.Passing.{from_medium}
-use Rattle.target_answer.specs.Target.{passage}
+use Rattle.rig_api.specs.declared.passage.Passage.{Passage}
+use Rattle.rig_api.specs.Frames.{sent_size, stored_size}
+use Rattle.rig_api.specs.Passing.{from_medium}
+use Rattle.rig_api.specs.Target.{passage}
 use Rattle.dix_base.specs.Told.{over}
 use Rattle.dix_base.proofs.Stores.{not_read, read_on}
 use Rattle.target_model.proofs.Bytes.{drop_both, inside, lent, refilled, size_most}

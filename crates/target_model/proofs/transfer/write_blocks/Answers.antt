@@ -1,8 +1,8 @@
 use Rattle.std.proofs.Common.{◌+◌, ◌*◌, ◌<◌, ◌^◌, length, arith, sym, ap, ◌∙◌, refl}
-use Rattle.target_answer.specs.declared.passage.Passage.{Passage}
-use Rattle.target_answer.specs.Frames.{sent_size, stored_size}
-use Rattle.target_answer.specs.Passing.{to_medium}
-use Rattle.target_answer.specs.Target.{passage}
+use Rattle.rig_api.specs.declared.passage.Passage.{Passage}
+use Rattle.rig_api.specs.Frames.{sent_size, stored_size}
+use Rattle.rig_api.specs.Passing.{to_medium}
+use Rattle.rig_api.specs.Target.{passage}
 use Rattle.dix_base.proofs.Stores.{not_written, written_on}
 use Rattle.target_model.proofs.Bytes.{told_length, inside, fewer, all_left, refilled, size_most}
 use Rattle.target_model.proofs.Writing.{wrote_none, wrote_next, wrote_until, wrote_whole}

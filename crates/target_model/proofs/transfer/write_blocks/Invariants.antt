@@ -1,7 +1,7 @@
 use Rattle.std.proofs.Common.{◌≡◌, ℕ, ◌+◌, ◌*◌, ◌-◌, List, Some, length}
 use Rattle.dix_base.specs.Stores.{WasWritten}
-use Rattle.target_answer.specs.Passing.{to_medium}
-use Rattle.target_answer.specs.Target.{passage}
+use Rattle.rig_api.specs.Passing.{to_medium}
+use Rattle.rig_api.specs.Target.{passage}
 use Rattle.target_model.proofs.Writing.{Wrote}
 use Rattle.target_model.proofs.transfer.write_blocks.Given as goal
 

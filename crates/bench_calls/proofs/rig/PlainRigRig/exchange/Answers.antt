@@ -1,5 +1,5 @@
 use Rattle.std.proofs.Common.{◌≡◌, sym, ◌∙◌, arith, rules}
-use Rattle.target_answer.specs.Requests.{blocks_of}
+use Rattle.rig_api.specs.Requests.{blocks_of}
 use Rattle.rig_api.specs.Telling.{greatest_size, spec_at}
 use Rattle.rig_api.proofs.RoomLaws.{room_for}
 use Rattle.image_rig.specs.Logs.{room_in}

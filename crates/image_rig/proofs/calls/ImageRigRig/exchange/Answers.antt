@@ -1,5 +1,5 @@
 use Rattle.std.proofs.Common.{◌∙◌, ap, length, rules}
-use Rattle.target_answer.specs.Target.{target_answer}
+use Rattle.rig_api.specs.Target.{target_answer}
 use Rattle.target_model.specs.Served.{unit_in}
 use Rattle.image_rig.specs.Heads.{head_in}
 use Rattle.image_rig.specs.Places.{logical_of}

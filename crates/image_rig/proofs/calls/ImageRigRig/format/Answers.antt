@@ -1,5 +1,5 @@
 use Rattle.std.proofs.Common.{Err, refl, ap}
-use Rattle.target_answer.specs.Image.{formatted}
+use Rattle.rig_api.specs.Image.{formatted}
 use Rattle.image_rig.proofs.Short.{left_same, left_short, left_whole}
 use Rattle.image_rig.proofs.calls.ImageRigRig.format.Goals as goal
 

@@ -1,7 +1,7 @@
 use Rattle.std.proofs.Common.{◌≡◌, ap, sym, ◌∙◌, arith, take, take_all}
 use Rattle.std.proofs.lemmas.List.{length-take}
 use Rattle.rig_api.specs.Head.{fault_of_header}
-use Rattle.target_answer.specs.Headers.{image_size, is_header, specs_in}
+use Rattle.rig_api.specs.Headers.{image_size, is_header, specs_in}
 use Rattle.image_rig.specs.Heads.{head_in}
 use Rattle.image_rig.proofs.Heads.{fault_none, fault_short, fault_table}
 use Rattle.image_rig.proofs.image_head.ImageHead.fault.Goals as goal

@@ -1,6 +1,6 @@
 use Rattle.std.proofs.Common.{◌≡◌, ap, sym, ◌∙◌, arith, take, take_all}
 use Rattle.std.proofs.lemmas.List.{length-take}
-use Rattle.target_answer.specs.Headers.{specs_in}
+use Rattle.rig_api.specs.Headers.{specs_in}
 use Rattle.image_rig.specs.Heads.{head_in}
 use Rattle.image_rig.proofs.Heads.{right_head, right_units, same_version, has_version}
 use Rattle.image_rig.proofs.image_head.ImageHead.units.Goals as goal

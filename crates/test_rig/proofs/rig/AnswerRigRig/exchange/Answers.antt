@@ -1,5 +1,5 @@
 use Rattle.std.proofs.Common.{◌≡◌, ◌++◌, ◌∷◌, [], length, ap, sym, ◌∙◌, arith, rules}
-use Rattle.target_answer.specs.Requests.{blocks_of}
+use Rattle.rig_api.specs.Requests.{blocks_of}
 use Rattle.rig_api.specs.Log.{entry_of, labels_of, moved_of}
 use Rattle.rig_api.specs.Telling.{spec_at}
 use Rattle.test_rig.specs.Answering.{device_is, entries, standing_of}
