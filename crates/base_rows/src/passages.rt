@@ -7,8 +7,8 @@ use crate::faults::tamper_of;
 use crate::names::{add, check_name, none, or_dash, out_of_range, tiny, type_of};
 use fault_schedule::{Label, Tamper};
 use pi_tuple::PiType;
-use std::alloc::{AllocError, Global};
 use rig_api::Passage;
+use std::alloc::{AllocError, Global};
 use test_table::{bytes_of, cut, small};
 
 /// Block 0 of op 7, at address 2^32 + 2, by three words: the unit's type, the protect field and the tag that is expected.

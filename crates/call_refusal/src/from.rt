@@ -4,11 +4,11 @@ ghost use Rattle.std.specs.Prelude.{◌≡◌};
 ghost use Rattle.call_refusal.specs.Refusals.{of_capacity, of_memory, of_rig, of_script, of_source, of_volume};
 
 use crate::refusal::{Refusal, TOO_LONG};
+use dix_base::Unread;
 use rig_api::RigFault;
 use rig_discovery::BadCapacity;
 use script_lines::ScriptKind;
 use script_text::ScriptFault;
-use dix_base::Unread;
 use std::alloc::AllocError;
 use volume_table::VolumeFault;
 

@@ -18,7 +18,11 @@ use Rattle.cdb_codec.specs.declared.command.Rw.{Rw}
 use Rattle.cdb_codec.specs.Rule.{fits_10, is_two, tagged, untagged}
 use Rattle.fault_schedule.specs.declared.Label.{Label}
 use Rattle.fault_schedule.specs.declared.fault.FaultLine.{FaultLine}
-use Rattle.rig_api.specs.Passed.{data_of, tuple_of, accepted, asked_of, crossed, then_crossed, unless, with_own_tuple, found_in, from_medium, is_one, released, to_medium, wanted_of, is_foreign, request_of, Request, Read, Write, Passage, UnitSpec, bytes_of, first_of, has_blocks, medium_address, passage as passage_of, refusal, refusals_of, wire_address}
+use Rattle.rig_api.specs.Passed.{data_of, tuple_of, accepted, asked_of, crossed, then_crossed, unless, with_own_tuple, found_in, from_medium, is_one, released, to_medium, wanted_of, is_foreign, request_of, bytes_of, first_of, has_blocks, medium_address, passage as passage_of, refusal, refusals_of, wire_address}
+use Rattle.rig_api.specs.declared.request.Request.{Request}
+use Rattle.rig_api.specs.declared.request.Request.TheVariants.{Read, Write}
+use Rattle.rig_api.specs.declared.passage.Passage.{Passage}
+use Rattle.rig_api.specs.declared.units.UnitSpec.{UnitSpec}
 use Rattle.fault_schedule.specs.declared.fault.Crossing.TheVariants.{AdapterToTarget, MediumToTarget, TargetToAdapter, TargetToMedium}
 use Rattle.block_path.specs.Routes.{field, passage, wire_lba}
 use Rattle.block_path.specs.declared.route.Route.{Route}

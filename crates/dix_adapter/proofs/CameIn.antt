@@ -17,7 +17,8 @@ use Rattle.bio_core.specs.declared.request.Io.{Io}
 use Rattle.bio_core.specs.Bios.{Block}
 use Rattle.fault_schedule.specs.declared.Label.{Label}
 use Rattle.fault_schedule.specs.declared.fault.FaultLine.{FaultLine}
-use Rattle.rig_api.specs.Passed.{frames_of, joined, sent_size, stored_size, from_medium, is_foreign, request_of, Read as Reads, Stop, Stored, answer_unless, carried_out, each, has_blocks, medium_address, passage as passage_of, passed, read_by, read_end, refusal, sending, shape_of, stored_from, target_answer, wire_address}
+use Rattle.rig_api.specs.Passed.{frames_of, joined, sent_size, stored_size, from_medium, is_foreign, request_of, Stop, Stored, answer_unless, carried_out, each, has_blocks, medium_address, passage as passage_of, passed, read_by, read_end, refusal, sending, shape_of, stored_from, target_answer, wire_address}
+use Rattle.rig_api.specs.declared.request.Request.TheVariants.{Read as Reads}
 use Rattle.rig_api.proofs.Passed.{few_passed}
 use Rattle.rig_api.specs.Log.{entry_of, moved_by, moved_under}
 use Rattle.rig_api.specs.Telling.{IsAnswer, answer_of, at_front, unit_at}

@@ -15,7 +15,9 @@ use Rattle.bio_core.specs.Bios.{Block, block_size}
 use Rattle.fault_schedule.specs.declared.Label.{Label}
 use Rattle.fault_schedule.specs.declared.fault.Crossing.TheVariants.{MediumToTarget, TargetToAdapter}
 use Rattle.fault_schedule.specs.declared.fault.FaultLine.{FaultLine}
-use Rattle.rig_api.specs.Passed.{data_of, stored_size, crossed, found_in, from_medium, then_crossed, unless, Stop, check_sense, first_sense, medium_sense, passed, read_end, Passage, UnitSpec}
+use Rattle.rig_api.specs.Passed.{data_of, stored_size, crossed, found_in, from_medium, then_crossed, unless, Stop, check_sense, first_sense, medium_sense, passed, read_end}
+use Rattle.rig_api.specs.declared.passage.Passage.{Passage}
+use Rattle.rig_api.specs.declared.units.UnitSpec.{UnitSpec}
 use Rattle.block_path.specs.Acts.{State, act}
 use Rattle.block_path.specs.Blocks.{fetched_cell, own_cell}
 use Rattle.block_path.specs.Moves.{carried_in, carry_in}

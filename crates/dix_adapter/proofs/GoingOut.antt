@@ -9,7 +9,8 @@ use Rattle.bio_core.specs.declared.fate.Fate.TheVariants.{Good, Bad, Untouched}
 use Rattle.bio_core.specs.declared.fate.Why.TheVariants.{Medium, Target}
 use Rattle.bio_core.specs.declared.request.Io.{Io}
 use Rattle.bio_core.specs.Bios.{Block}
-use Rattle.rig_api.specs.Passed.{to_medium, Stop, check_sense, first_sense, medium_sense, passed, write_end, UnitSpec}
+use Rattle.rig_api.specs.Passed.{to_medium, Stop, check_sense, first_sense, medium_sense, passed, write_end}
+use Rattle.rig_api.specs.declared.units.UnitSpec.{UnitSpec}
 use Rattle.rig_api.proofs.Passed.{few_passed}
 use Rattle.rig_api.specs.declared.rig.Outcome.{Outcome}
 use Rattle.block_path.specs.Acts.{State, act}

@@ -18,7 +18,8 @@ use Rattle.bio_core.specs.Bios.{Block, block_size, blocks_from, blocks_of}
 use Rattle.fault_schedule.specs.Altered.{shift_of}
 use Rattle.fault_schedule.specs.declared.Label.{Label}
 use Rattle.fault_schedule.specs.declared.fault.Crossing.TheVariants.{AdapterToTarget, MediumToTarget}
-use Rattle.rig_api.specs.Passed.{frames_of, joined, sent_size, to_medium, each, passage as passage_of, UnitSpec}
+use Rattle.rig_api.specs.Passed.{frames_of, joined, sent_size, to_medium, each, passage as passage_of}
+use Rattle.rig_api.specs.declared.units.UnitSpec.{UnitSpec}
 use Rattle.page_pool.proofs.Ranges.{take-sum}
 use Rattle.block_path.specs.Routes.{host_size, moved, passage, wire_lba, wire_size}
 use Rattle.block_path.proofs.Sizes.{out_size}

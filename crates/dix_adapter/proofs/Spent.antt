@@ -16,7 +16,8 @@ use Rattle.cdb_codec.specs.declared.choice.Dir2.{Dir2}
 use Rattle.cdb_codec.specs.declared.choice.Dir2.TheVariants.{In, Out}
 use Rattle.cdb_codec.proofs.Inverse.{decoded_form}
 use Rattle.fault_schedule.specs.declared.Label.{Label}
-use Rattle.rig_api.specs.Passed.{frames_of, sent_size, UnitSpec}
+use Rattle.rig_api.specs.Passed.{frames_of, sent_size}
+use Rattle.rig_api.specs.declared.units.UnitSpec.{UnitSpec}
 use Rattle.rig_api.proofs.Passed.{frames_length}
 use Rattle.rig_api.specs.Log.{Room, labels_len, moved_by, moved_under}
 use Rattle.rig_api.specs.Telling.{greatest, greatest_size, no_spec, spec_at, specs_of}

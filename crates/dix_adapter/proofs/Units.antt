@@ -1,7 +1,8 @@
 -- The units that a rig tells are those of its devices, and their blocks have one length.
 use Rattle.std.proofs.Common.{◌≡◌, ◌<◌, ◌≤◌, ℕ, zero, suc, ◌+◌, ◌*◌, List, [], ◌∷◌, length, drop, get_or, refl, ap, sym, subst, ◌∙◌, arith, inl, inr, Option, Some, None}
 use Rattle.std.proofs.lemmas.List.{length-drop, length-take-le, take_all, length-map}
-use Rattle.rig_api.specs.Passed.{frames_of, stored_size, all_bytes, HeadersBytes_of as bytes_of, units_from, units_in, Stored, shape_of, UnitSpec}
+use Rattle.rig_api.specs.Passed.{frames_of, stored_size, all_bytes, HeadersBytes_of as bytes_of, units_from, units_in, Stored, shape_of}
+use Rattle.rig_api.specs.declared.units.UnitSpec.{UnitSpec}
 use Rattle.rig_api.proofs.Passed.{frames_length}
 use Rattle.rig_api.specs.Head.{units_of}
 use Rattle.rig_api.specs.Telling.{IsStanding, Standing, StandsOn, no_spec, spec_at, specs_of, unit_at, units_told}

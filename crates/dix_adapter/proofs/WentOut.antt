@@ -19,7 +19,8 @@ use Rattle.bio_core.specs.declared.request.Io.{Io}
 use Rattle.bio_core.specs.Bios.{Block}
 use Rattle.fault_schedule.specs.declared.Label.{Label}
 use Rattle.fault_schedule.specs.declared.fault.FaultLine.{FaultLine}
-use Rattle.rig_api.specs.Passed.{frames_of, joined, placed, sent_size, to_medium, is_foreign, request_of, Write as Writes, Stop, Stored, answer_unless, bytes_of, carried_out, each, has_blocks, passage as passage_of, passed, refusal, shape_of, storing, target_answer, wire_address, write_end, written_by}
+use Rattle.rig_api.specs.Passed.{frames_of, joined, placed, sent_size, to_medium, is_foreign, request_of, Stop, Stored, answer_unless, bytes_of, carried_out, each, has_blocks, passage as passage_of, passed, refusal, shape_of, storing, target_answer, wire_address, write_end, written_by}
+use Rattle.rig_api.specs.declared.request.Request.TheVariants.{Write as Writes}
 use Rattle.rig_api.proofs.Passed.{few_passed, few_written}
 use Rattle.rig_api.specs.Log.{entry_of, moved_by, moved_under}
 use Rattle.rig_api.specs.Telling.{IsAnswer, answer_of, unit_at, with_blocks}

@@ -14,7 +14,8 @@ use Rattle.bio_core.specs.declared.request.Dir.TheVariants.{Read}
 use Rattle.bio_core.specs.declared.request.Io.{Io}
 use Rattle.bio_core.specs.Bios.{Block, block_size}
 use Rattle.cdb_codec.specs.Forms.{Fits, form}
-use Rattle.rig_api.specs.Passed.{frames_of, joined, Stop, Stored, has_blocks, shape_of, UnitSpec}
+use Rattle.rig_api.specs.Passed.{frames_of, joined, Stop, Stored, has_blocks, shape_of}
+use Rattle.rig_api.specs.declared.units.UnitSpec.{UnitSpec}
 use Rattle.rig_api.specs.Log.{LogEntry, HasRoom, Room}
 use Rattle.rig_api.specs.Telling.{HasCause, unit_at}
 use Rattle.rig_api.specs.State.{RigState}

@@ -12,8 +12,8 @@ use crate::detail::add_detail;
 use crate::lines::{line_at, text_behind};
 use crate::texts::fault_line;
 use crate::words::{Span, first_begin, last_end, spans_of};
-use script_text::{ScriptFault, ScriptKind, read_script};
 use dix_base::LONGEST_LINE;
+use script_text::{ScriptFault, ScriptKind, read_script};
 use std::alloc::{AllocError, Global};
 
 /// The text up to so many bytes behind a place; all of it, where it has no more.

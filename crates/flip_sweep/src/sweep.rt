@@ -25,9 +25,9 @@ use fault_schedule::FaultList;
 use image_rig::ImageRig;
 use pi_tuple::TUPLE;
 use report_text::write_all;
+use rig_api::UnitSpec;
 use script_text::{LineList, Script};
 use std::alloc::{AllocError, Global};
-use rig_api::UnitSpec;
 
 /// Why a sweep that was begun wasn't ended.
 #[derive(Clone, Copy, Debug, PartialEq, Eq)]

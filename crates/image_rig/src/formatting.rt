@@ -12,8 +12,8 @@ ghost use Rattle.image_rig.specs.Small.{is_small};
 
 use dix_base::{Store, StoreFault};
 use pi_tuple::{PiType, make, own_tag};
-use std::alloc::Global;
 use rig_api::{MOST_FRAME, UnitSpec, Version, header, put_tuple, stored_size};
+use std::alloc::Global;
 
 /// Puts the tuple of a formatted block behind zeros: guard 0, which is that of zeros, application tag 0,
 /// and the block's own reference tag.

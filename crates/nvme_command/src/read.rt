@@ -6,10 +6,10 @@ ghost use Rattle.script_words.specs.Cuts.{lines_of, words_of};
 ghost use Rattle.nvme_command.specs.Texts.{Takes, is_comment, lines_read, text_in, text_taken, words_taken};
 
 use crate::line::{NvmLine, line_of};
+use dix_base::{LONGEST_LINE, MOST_BYTES};
 use script_lines::{ScriptKind, Words};
 use script_text::ScriptFault;
 use script_words::{is_plain, next_line, next_word};
-use dix_base::{LONGEST_LINE, MOST_BYTES};
 use std::alloc::Global;
 
 /// A text has at most this many lines with words.

@@ -11,7 +11,10 @@ use Rattle.pi_tuple.specs.Finds.{is_zero}
 use Rattle.pi_tuple.specs.declared.checks.PiType.{PiType}
 use Rattle.pi_tuple.specs.declared.checks.PiType.TheVariants.{Zero, One, Two, Three}
 use Rattle.pi_tuple.specs.declared.checks.Check.{Check}
-use Rattle.rig_api.specs.Passed.{data_of, joined, sent_size, stored_size, crossed, found_in, from_medium, released, unless, request_of, Passage, Request, Read, ReadCapacity, Verify, Write, Answer, Refusal, Stored, answer_unless, capacity_data, carried_out, each, first_of, foreign_form, illegal, medium_address, no_tuples, outside, fetched_outside, passage, passed, read_by, refusal, refusals_of, refused, shape_of, stored_from, target_answer, wire_address, wrong_room, bytes_of, Sense, decoded, Cdb, CdbFault, Rw, Label, FaultLine, MediumToTarget, TargetToAdapter}
+use Rattle.rig_api.specs.Passed.{data_of, joined, sent_size, stored_size, crossed, found_in, from_medium, released, unless, request_of, Answer, Refusal, Stored, answer_unless, capacity_data, carried_out, each, first_of, foreign_form, illegal, medium_address, no_tuples, outside, fetched_outside, passage, passed, read_by, refusal, refusals_of, refused, shape_of, stored_from, target_answer, wire_address, wrong_room, bytes_of, Sense, decoded, Cdb, CdbFault, Rw, Label, FaultLine, MediumToTarget, TargetToAdapter}
+use Rattle.rig_api.specs.declared.passage.Passage.{Passage}
+use Rattle.rig_api.specs.declared.request.Request.{Request}
+use Rattle.rig_api.specs.declared.request.Request.TheVariants.{Read, ReadCapacity, Verify, Write}
 use Rattle.rig_api.specs.Log.{LogEntry, entry_of, frames_done, moved_by, moved_of, moved_under}
 use Rattle.rig_api.specs.Telling.{answer_of, at_front, spec_at, unit_at, with_blocks}
 use Rattle.rig_api.specs.declared.rig.Outcome.{Outcome}

@@ -1,7 +1,9 @@
 use Rattle.std.specs.Prelude.{ℕ, ◌≡◌, ◌*◌, min, List, [], ◌∷◌, ◌++◌, length, replicate, Some, None, Result, Ok, Err}
 use Rattle.std.specs.List.{All}
 use Rattle.dix_base.specs.Told.{Calm}
-use Rattle.rig_api.specs.Passed.{joined, sent_size, stored_size, request_of, Request, Read, ReadCapacity, Verify, Write, Answer, Stored, decoded, Cdb, CdbFault, Label}
+use Rattle.rig_api.specs.Passed.{joined, sent_size, stored_size, request_of, Answer, Stored, decoded, Cdb, CdbFault, Label}
+use Rattle.rig_api.specs.declared.request.Request.{Request}
+use Rattle.rig_api.specs.declared.request.Request.TheVariants.{Read, ReadCapacity, Verify, Write}
 use Rattle.rig_api.specs.Log.{LogEntry, moved_of}
 use Rattle.rig_api.specs.State.{Exchanged, RigState}
 use Rattle.rig_api.specs.Telling.{Standing, answer_of, at_front, spec_at, unit_at, with_blocks}

@@ -17,7 +17,3 @@ unfoldable pub use Rattle.rig_api.specs.Passing.{found_in, from_medium, to_mediu
 pub use Rattle.rig_api.specs.Requests.{blocks_in, blocks_of, is_foreign, request_of, transferred}
 pub use Rattle.rig_api.specs.Target.{Answer, Refusal, Stop, Stored, answer_unless, bytes_of, capacity_data, carried_out, check_sense, each, fetched_outside, first_of, first_sense, foreign_form, has_blocks, illegal, medium_address, medium_sense, no_tuples, outside, passage, passed, protection_byte, read_by, read_end, refusals_of, refused, sending, shape_of, stored_from, storing, wire_address, write_end, written_by, wrong_room}
 unfoldable pub use Rattle.rig_api.specs.Target.{refusal, target_answer}
-pub use Rattle.rig_api.specs.declared.passage.Passage.{Passage}
-pub use Rattle.rig_api.specs.declared.request.Request.{Request}
-pub use Rattle.rig_api.specs.declared.request.Request.TheVariants.{Read, ReadCapacity, Verify, Write}
-pub use Rattle.rig_api.specs.declared.units.UnitSpec.{UnitSpec}

@@ -1,7 +1,7 @@
 -- One look after another.
 use Rattle.std.proofs.Common.{ℕ, zero, suc, ◌≡◌, ◌+◌, ◌^◌, ◌-◌, ◌<◌, List, [], ◌∷◌, ◌++◌, length, take, Option, Some, None, refl, sym, ap, ◌∙◌, arith, append_assoc, length-append}
 use Rattle.std.specs.Prelude.{map, slice_index_or}
-use Rattle.rig_api.specs.Passed.{UnitSpec}
+use Rattle.rig_api.specs.declared.units.UnitSpec.{UnitSpec}
 use Rattle.rig_api.specs.Log.{LogEntry, HasRoom, Room}
 use Rattle.rig_api.specs.Telling.{Standing, no_spec, spec_at}
 use Rattle.rig_api.specs.declared.rig.Outcome.{Outcome}

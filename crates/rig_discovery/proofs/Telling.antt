@@ -7,7 +7,8 @@ use Rattle.std.proofs.lemmas.List.{take_all}
 use Rattle.pi_tuple.specs.declared.checks.PiType.{PiType}
 use Rattle.pi_tuple.specs.declared.checks.PiType.TheVariants.{Zero, One, Two, Three}
 use Rattle.cdb_codec.specs.Decoded.{eight_at, four_at}
-use Rattle.rig_api.specs.Passed.{joined, stored_size, HeadersBytes_of as bytes_of, is_spec, unit_from, units_from, units_in, Answer, Stop, Stored, capacity_data, protection_byte, refusal, shape_of, target_answer, UnitSpec, FaultLine}
+use Rattle.rig_api.specs.Passed.{joined, stored_size, HeadersBytes_of as bytes_of, is_spec, unit_from, units_from, units_in, Answer, Stop, Stored, capacity_data, protection_byte, refusal, shape_of, target_answer, FaultLine}
+use Rattle.rig_api.specs.declared.units.UnitSpec.{UnitSpec}
 use Rattle.rig_api.proofs.Passed.{frames_length}
 use Rattle.rig_api.specs.Head.{units_of}
 use Rattle.rig_api.specs.Telling.{HasCause, IsAnswer, IsStanding, Standing, answer_of, at_front, frame_size, no_spec, no_unit, spec_at, specs_of, unit_at, units_told, with_blocks}

@@ -1,5 +1,5 @@
 use Rattle.std.specs.Prelude.{ℕ, ◌≡◌, ◌+◌, ◌*◌, ◌^◌, ◌<◌, ◌≤◌, List, [], ◌∷◌, ◌++◌, length, Option, Some, None}
-use Rattle.rig_api.specs.Passed.{UnitSpec}
+use Rattle.rig_api.specs.declared.units.UnitSpec.{UnitSpec}
 use Rattle.rig_api.specs.Log.{LogEntry, Room, entry_of}
 use Rattle.rig_api.specs.Telling.{Standing, spec_at}
 use Rattle.rig_api.specs.declared.rig.Outcome.{Outcome}

@@ -9,9 +9,9 @@ ghost use Rattle.script_text.specs.Rules.{broken_rule};
 use crate::draft::Draft;
 use crate::rules::{is_bad_fault, is_too_many, lacks_integrity};
 use crate::{Script, ScriptFault, ScriptKind};
+use dix_base::{LONGEST_LINE, MOST_BYTES};
 use script_lines::{ScriptLine, Section, Verb, Words, line_of, verb_of};
 use script_words::{is_plain, next_line};
-use dix_base::{LONGEST_LINE, MOST_BYTES};
 use std::alloc::Global;
 
 /// The first rule that a line breaks, of those that ask nothing of its segments.

@@ -2,8 +2,8 @@
 
 use dix_base::MemStore;
 use image_rig::ImageRig;
-use std::alloc::{AllocError, Global};
 use rig_api::UnitSpec;
+use std::alloc::{AllocError, Global};
 use test_rig::formatted;
 use unit_words::unit_of;
 

@@ -11,9 +11,9 @@ ghost use Rattle.target_model.specs.Served.{BlockReadOn, BlockWrittenOn};
 use crate::sense::{aborted, medium};
 use dix_base::{Failed, Store};
 use fault_schedule::Tamper;
+use rig_api::Passage;
 use sense_codes::Sense;
 use sense_codes::codes::{UNRECOVERED_READ, WRITE_ERROR};
-use rig_api::Passage;
 
 /// Takes a block from the host to its place in the store. `frame` is scratch of the length of a
 /// stored block. Where the block isn't stored, the answer is the sense.

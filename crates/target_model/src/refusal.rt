@@ -12,8 +12,8 @@ ghost use Rattle.pi_tuple.specs.declared.TheConstants.{LARGEST_BLOCK};
 use cdb_codec::{Cdb, Rw};
 use fault_schedule::{Crossing, Label, Tamper};
 use pi_tuple::PiType;
-use sense_codes::codes::{INVALID_FIELD, INVALID_OPCODE, OUT_OF_RANGE};
 use rig_api::{UnitSpec, is_foreign, sent_size};
+use sense_codes::codes::{INVALID_FIELD, INVALID_OPCODE, OUT_OF_RANGE};
 
 fn shift_by_first(tamper: &Tamper, at: Crossing, labels: &[Label]) -> i64
     ensures { result ≡ shift_by_first tamper.now at labels.now }

@@ -4,8 +4,8 @@ ghost use Rattle.std.specs.Prelude.{◌≡◌};
 ghost use Rattle.unit_words.specs.Units.{spec_of, type_in, type_numbered, unit_in};
 
 use pi_tuple::{LARGEST_BLOCK, PiType};
-use script_words::{number, split_once};
 use rig_api::{UnitSpec, is_spec};
+use script_words::{number, split_once};
 
 fn type_numbered(number: u64) -> Option<PiType>
     ensures { result ≡ type_numbered number }

@@ -3,8 +3,8 @@
 ghost use Rattle.std.specs.Prelude.{◌≡◌};
 
 use arrayvec::ArrayVec;
-use std::marker::Model;
 use rig_api::UnitSpec;
+use std::marker::Model;
 
 /// The units of an image that is ordered.
 #[derive(Drop)]

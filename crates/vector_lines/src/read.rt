@@ -6,10 +6,10 @@ ghost use Rattle.script_words.specs.Cuts.{lines_of, words_of};
 ghost use Rattle.vector_lines.specs.Texts.{Takes, head_read, is_head, is_list, is_skipped, lines_read, list_in, text_taken, words_taken};
 
 use crate::line::{VectorLine, line_of};
+use dix_base::MOST_BYTES;
 use script_lines::{ScriptKind, Words};
 use script_text::ScriptFault;
 use script_words::{is_plain, next_line, next_word};
-use dix_base::MOST_BYTES;
 use std::alloc::Global;
 
 /// Whether a line is skipped: it has no words, or its first begins with `#`.
