@@ -44,26 +44,26 @@ static inline __attribute__((always_inline)) uint32_t verify_by(uint16_t (*crc)(
                                                                 const struct dixpi_want *w, struct dixpi_found *found) {
     const size_t covered = l->data_size + l->tuple_at, stride = l->data_size + l->meta_size, count = len / stride;
     const uint32_t type = l->type, checks = w->checks, first = w->first_ref;
-    const uint16_t app = w->app, mask = checks >> DIXPI_APP & 1 ? w->mask : 0;
+    const uint16_t app = w->app, mask = checks & DIXPI_CHECK_APP ? w->mask : 0;
     for (size_t i = 0; i < count; i++) {
         const uint8_t *tuple = blocks + i * stride + covered;
         uint16_t has = load16(tuple), its = load16(tuple + 2);
         uint32_t ref = load32(tuple + 4);
         if (its == 0xFFFF && (type != 3 || ref == 0xFFFFFFFF))
             continue;
-        if (checks >> DIXPI_GUARD & 1) {
+        if (checks & DIXPI_CHECK_GUARD) {
             uint16_t guard = crc(blocks + i * stride, covered);
             if (guard != has) {
-                *found = (struct dixpi_found){i, DIXPI_GUARD, guard, has};
+                *found = (struct dixpi_found){i, DIXPI_CHECK_GUARD, guard, has};
                 return DIXPI_DIFFERS;
             }
         }
         if ((its ^ app) & mask) {
-            *found = (struct dixpi_found){i, DIXPI_APP, app, its};
+            *found = (struct dixpi_found){i, DIXPI_CHECK_APP, app, its};
             return DIXPI_DIFFERS;
         }
-        if (checks >> DIXPI_REF & 1 && type != 3 && ref != first + (uint32_t)i) {
-            *found = (struct dixpi_found){i, DIXPI_REF, first + (uint32_t)i, ref};
+        if (checks & DIXPI_CHECK_REF && type != 3 && ref != first + (uint32_t)i) {
+            *found = (struct dixpi_found){i, DIXPI_CHECK_REF, first + (uint32_t)i, ref};
             return DIXPI_DIFFERS;
         }
     }
@@ -85,7 +85,7 @@ static inline __attribute__((always_inline)) uint32_t generate_by(uint16_t (*crc
     return DIXPI_OK;
 }
 
-static const struct dixpi_want WANT = {0xFFFFFF00, 0x1234, 0xFFFF, DIXPI_ALL};
+static const struct dixpi_want WANT = {0xFFFFFF00, 0x1234, 0xFFFF, DIXPI_CHECK_ALL};
 
 /* Each way does one pass over so many bytes. */
 static uint32_t verify_ours(uint8_t *b, size_t len, const struct dixpi_layout *l) {

@@ -11,6 +11,12 @@
 #ifdef __cplusplus
 extern "C" {
 #endif
+/* What a call answers that may fail: enum dixpi_status. The compiler warns where nobody looks at it. */
+#ifdef __GNUC__
+#define DIXPI_STATUS __attribute__((warn_unused_result)) uint32_t
+#else
+#define DIXPI_STATUS uint32_t
+#endif
 
 /* What a status says. Where it isn't 0 or 1, nothing was written. */
 enum dixpi_status {
@@ -19,15 +25,21 @@ enum dixpi_status {
     DIXPI_BAD_LAYOUT = 2, /* no layout: see struct dixpi_layout */
     DIXPI_BAD_LENGTH = 3, /* no whole blocks, data and metadata of other counts, or bytes of another length */
     DIXPI_BAD_OPCODE = 4, /* no command that is served */
-    DIXPI_BAD_FIELD = 5,  /* a field has a value that isn't served, or doesn't fit its form */
+    DIXPI_BAD_FIELD = 5   /* a field has a value that isn't served, or doesn't fit its form; flags that name no check */
 };
 
 /* The guard: the CRC of T10, or the Internet checksum, which host memory alone has. */
 enum dixpi_guard { DIXPI_CRC = 0, DIXPI_IP = 1 };
 
-/* What a check finds: the additional sense code qualifier under code 10h. `checks` has the bits 1 << check. */
-enum dixpi_check { DIXPI_GUARD = 1, DIXPI_APP = 2, DIXPI_REF = 3 };
-#define DIXPI_ALL 0xEu
+/* Checks: flags of what is wanted, and each the name of what was found. `checks` of 0 and other bits are
+   DIXPI_BAD_FIELD, so that nobody who checks nothing takes it for a check; who wants that says DIXPI_CHECK_NONE. */
+enum dixpi_check {
+    DIXPI_CHECK_NONE = 1, /* alone */
+    DIXPI_CHECK_GUARD = 2,
+    DIXPI_CHECK_APP = 4,
+    DIXPI_CHECK_REF = 8,
+    DIXPI_CHECK_ALL = 14
+};
 
 /* One block: data, then metadata with its tuple; or the two in buffers of their own. */
 struct dixpi_layout {
@@ -42,10 +54,10 @@ struct dixpi_layout {
 struct dixpi_want {
     uint32_t first_ref; /* block 0's reference tag: in type 1 its LBA's low 32 bits. Block i's is + i mod 2^32 */
     uint16_t app, mask; /* application tag, and the bits of it that are checked */
-    uint32_t checks;    /* 1 << DIXPI_GUARD and so on. In type 3 the reference tag is never checked */
+    uint32_t checks;    /* flags of enum dixpi_check. In type 3 the reference tag is never checked */
 };
 
-/* The first difference: by block, and in a block by the order of enum dixpi_check. */
+/* The first difference: by block, and in a block by the order of enum dixpi_check, of which check is one. */
 struct dixpi_found {
     uint64_t block;
     uint32_t check, expected, actual;
@@ -77,28 +89,35 @@ void dixpi_tuple_write(uint8_t out[8], const struct dixpi_tuple *tuple);
 void dixpi_tuple_read(const uint8_t in[8], struct dixpi_tuple *tuple);
 /* Checks a tuple against a guard that was computed elsewhere, as by hardware, as that of block i. Another type than 1
    to 3 is DIXPI_BAD_LAYOUT. *found is written for DIXPI_DIFFERS alone. */
-uint32_t dixpi_check(uint32_t type, const uint8_t in[8], uint16_t guard, const struct dixpi_want *want, uint64_t i,
-                     struct dixpi_found *found);
+DIXPI_STATUS dixpi_check(uint32_t type, const uint8_t in[8], uint16_t guard, const struct dixpi_want *want, uint64_t i,
+                         struct dixpi_found *found);
 
 /* Blocks with their metadata behind each, as 512 + 8 or 4096 + 64. len is a multiple of data_size + meta_size. */
 
-/* Writes each tuple: guard, app, and in types 1 and 2 the tag first_ref + i mod 2^32; in type 3 it is 0. */
-uint32_t dixpi_generate(uint8_t *blocks, size_t len, const struct dixpi_layout *layout, uint16_t app,
-                        uint32_t first_ref);
+/* Writes each tuple: guard, app, and in types 1 and 2 the tag first_ref + i mod 2^32; in type 3 it is 0. With app FFFFh
+   each block is an escape, and in types 1 and 2 no one checks it from then on. */
+DIXPI_STATUS dixpi_generate(uint8_t *blocks, size_t len, const struct dixpi_layout *layout, uint16_t app,
+                            uint32_t first_ref);
 /* An escape (app FFFFh; in type 3 ref FFFFFFFFh too) differs in nothing. *found is written for DIXPI_DIFFERS alone. */
-uint32_t dixpi_verify(const uint8_t *blocks, size_t len, const struct dixpi_layout *layout,
-                      const struct dixpi_want *want, struct dixpi_found *found);
+DIXPI_STATUS dixpi_verify(const uint8_t *blocks, size_t len, const struct dixpi_layout *layout,
+                          const struct dixpi_want *want, struct dixpi_found *found);
+/* The same from block start on. block and tag still count from the first: so found->block + 1 is where to go on. */
+DIXPI_STATUS dixpi_verify_from(const uint8_t *blocks, size_t len, const struct dixpi_layout *layout,
+                               const struct dixpi_want *want, uint64_t start, struct dixpi_found *found);
 /* Types 1 and 2: where block i's tag is from + i it becomes to + i, mod 2^32. All other bytes stay, other tags too.
    Of a buffer of metadata alone: data_size 0. Undone by from and to exchanged, unless another tag was to + i. */
-uint32_t dixpi_remap(uint8_t *blocks, size_t len, const struct dixpi_layout *layout, uint32_t from, uint32_t to);
+DIXPI_STATUS dixpi_remap(uint8_t *blocks, size_t len, const struct dixpi_layout *layout, uint32_t from, uint32_t to);
 
 /* Data and metadata in buffers of their own: as many blocks in meta as in data, which may lie in parts that end
    anywhere. Of meta only the eight bytes of each tuple are written. */
-uint32_t dixpi_dix_generate(const struct iovec *data, size_t count, uint8_t *meta, size_t meta_len,
-                            const struct dixpi_layout *layout, uint16_t app, uint32_t first_ref);
-uint32_t dixpi_dix_verify(const struct iovec *data, size_t count, const uint8_t *meta, size_t meta_len,
-                          const struct dixpi_layout *layout, const struct dixpi_want *want,
-                          struct dixpi_found *found);
+DIXPI_STATUS dixpi_dix_generate(const struct iovec *data, size_t count, uint8_t *meta, size_t meta_len,
+                                const struct dixpi_layout *layout, uint16_t app, uint32_t first_ref);
+DIXPI_STATUS dixpi_dix_verify(const struct iovec *data, size_t count, const uint8_t *meta, size_t meta_len,
+                              const struct dixpi_layout *layout, const struct dixpi_want *want,
+                              struct dixpi_found *found);
+DIXPI_STATUS dixpi_dix_verify_from(const struct iovec *data, size_t count, const uint8_t *meta, size_t meta_len,
+                                   const struct dixpi_layout *layout, const struct dixpi_want *want, uint64_t start,
+                                   struct dixpi_found *found);
 
 /* Command descriptor blocks (SBC-3, 5.11 to 5.35). */
 enum dixpi_op {
@@ -110,7 +129,7 @@ enum dixpi_op {
     DIXPI_VERIFY_16 = 0x8F,
     DIXPI_READ_32 = 0x7F09,
     DIXPI_WRITE_32 = 0x7F0B,
-    DIXPI_READ_CAPACITY_16 = 0x9E10,
+    DIXPI_READ_CAPACITY_16 = 0x9E10
 };
 enum dixpi_cdb_flag { DIXPI_FUA = 0x08, DIXPI_DPO = 0x10 }; /* VERIFY has no FUA, READ CAPACITY neither */
 struct dixpi_cdb {
@@ -126,10 +145,10 @@ struct dixpi_cdb {
 };
 /* Writes 10, 16 or 32 bytes to out and their number to *len; the rest of out stays. DIXPI_BAD_OPCODE, or
    DIXPI_BAD_FIELD where a field doesn't fit its form. */
-uint32_t dixpi_cdb_encode(const struct dixpi_cdb *cdb, uint8_t out[32], uint32_t *len);
+DIXPI_STATUS dixpi_cdb_encode(const struct dixpi_cdb *cdb, uint8_t out[32], uint32_t *len);
 /* The inverse. DIXPI_BAD_LENGTH where the operation code asks for another number of bytes, DIXPI_BAD_FIELD also where a
    bit is set outside the fields above. */
-uint32_t dixpi_cdb_decode(const uint8_t *bytes, size_t len, struct dixpi_cdb *cdb);
+DIXPI_STATUS dixpi_cdb_decode(const uint8_t *bytes, size_t len, struct dixpi_cdb *cdb);
 
 /* Sense data. */
 struct dixpi_sense {
@@ -139,14 +158,14 @@ struct dixpi_sense {
 };
 /* Writes 18 bytes (fixed format), or 20 (descriptor format) where info needs 64 bits, and their number to *len. The
    rest of out stays. DIXPI_BAD_FIELD: the key isn't below 16. */
-uint32_t dixpi_sense_encode(const struct dixpi_sense *sense, uint8_t out[20], uint32_t *len);
+DIXPI_STATUS dixpi_sense_encode(const struct dixpi_sense *sense, uint8_t out[20], uint32_t *len);
 /* The inverse: DIXPI_BAD_LENGTH where the response code asks for more bytes, DIXPI_BAD_FIELD for any other form. */
-uint32_t dixpi_sense_decode(const uint8_t *bytes, size_t len, struct dixpi_sense *sense);
-/* The check that failed, by additional sense code 10h, or 0. Else *by_target is 1 for ABORTED COMMAND, which the target
-   answers, and 0 for ILLEGAL REQUEST, which the adapter does. */
+DIXPI_STATUS dixpi_sense_decode(const uint8_t *bytes, size_t len, struct dixpi_sense *sense);
+/* The check that failed (enum dixpi_check), by additional sense code 10h, or 0. Else *by_target is 1 for ABORTED
+   COMMAND, which the target answers, and 0 for ILLEGAL REQUEST, which the adapter does. */
 uint32_t dixpi_sense_check(const struct dixpi_sense *sense, uint32_t *by_target);
 
-uint32_t dixpi_version(void); /* 0x000100 is 0.1.0 */
+uint32_t dixpi_version(void); /* 0x000200 is 0.2.0 */
 
 #ifdef __cplusplus
 }

@@ -11,7 +11,13 @@
 #include <sys/stat.h>
 #include <dixpi.h>
 
-static const char *const NAMES[] = {"", "guard", "application tag", "reference tag"};
+/* Prints the difference of a block. */
+static void print(const struct dixpi_found *found) {
+    const char *name = found->check == DIXPI_CHECK_GUARD ? "guard" : "reference tag";
+    int digits = found->check == DIXPI_CHECK_GUARD ? 4 : 8;
+    printf("block %" PRIu64 ": %s wanted %0*" PRIx32 ", has %0*" PRIx32 "\n", found->block, name, digits,
+           found->expected, digits, found->actual);
+}
 
 int main(int count, char **words) {
     struct stat file;
@@ -20,22 +26,20 @@ int main(int count, char **words) {
         fputs("usage: check520 FILE TYPE FIRST\n", stderr);
         return 2;
     }
-    size_t len = (size_t)file.st_size, at = 0;
+    size_t len = (size_t)file.st_size;
     const uint8_t *blocks = len ? mmap(NULL, len, PROT_READ, MAP_PRIVATE, fd, 0) : NULL;
     if (blocks == MAP_FAILED)
         return 2;
     struct dixpi_layout layout = {512, 8, 0, (uint32_t)strtoul(words[2], NULL, 0), DIXPI_CRC};
-    struct dixpi_want want = {(uint32_t)strtoul(words[3], NULL, 0), 0, 0, 1 << DIXPI_GUARD | 1 << DIXPI_REF};
+    struct dixpi_want want = {(uint32_t)strtoul(words[3], NULL, 0), 0, 0, DIXPI_CHECK_GUARD | DIXPI_CHECK_REF};
     struct dixpi_found found;
+    uint64_t start = 0;
     uint32_t status;
-    while ((status = dixpi_verify(blocks + at, len - at, &layout, &want, &found)) == DIXPI_DIFFERS) {
-        printf("block %" PRIu64 ": %s wanted %0*" PRIx32 ", has %0*" PRIx32 "\n", at / 520 + found.block,
-               NAMES[found.check], found.check == DIXPI_REF ? 8 : 4, found.expected, found.check == DIXPI_REF ? 8 : 4,
-               found.actual);
-        at += (found.block + 1) * 520; /* goes on behind it */
-        want.first_ref += (uint32_t)found.block + 1;
+    while ((status = dixpi_verify_from(blocks, len, &layout, &want, start, &found)) == DIXPI_DIFFERS) {
+        print(&found);
+        start = found.block + 1; /* goes on behind it */
     }
     if (status != DIXPI_OK)
         fputs("no whole blocks of 520 bytes, or no type 1 to 3\n", stderr);
-    return status != DIXPI_OK ? 2 : at != 0;
+    return status != DIXPI_OK ? 2 : start != 0;
 }

@@ -19,9 +19,10 @@ class Found(ctypes.Structure):
 
 
 dixpi = ctypes.CDLL(os.environ.get("LIBDIXPI", "libdixpi.so.0"))
-dixpi.dixpi_verify.restype = c_uint32
-dixpi.dixpi_verify.argtypes = [c_void_p, c_size_t] + [ctypes.POINTER(of) for of in (Layout, Want, Found)]
-NAMES = {1: ("guard", 4), 2: ("application tag", 4), 3: ("reference tag", 8)}
+dixpi.dixpi_verify_from.restype = c_uint32
+dixpi.dixpi_verify_from.argtypes = [c_void_p, c_size_t, *map(ctypes.POINTER, (Layout, Want)), c_uint64, ctypes.POINTER(Found)]
+GUARD, REF = 2, 8
+NAMES = {GUARD: ("guard", 4), REF: ("reference tag", 8)}
 
 if len(sys.argv) != 4:
     sys.exit("usage: check520.py FILE TYPE FIRST")
@@ -29,13 +30,12 @@ with open(sys.argv[1], "rb") as file:
     dump = bytearray(file.read())
 blocks = (c_char * len(dump)).from_buffer(dump)
 layout = Layout(512, 8, 0, int(sys.argv[2], 0), 0)
-want, found = Want(int(sys.argv[3], 0), 0, 0, 1 << 1 | 1 << 3), Found()  # guard and reference tag
-at = 0
-while (status := dixpi.dixpi_verify(ctypes.byref(blocks, at), len(dump) - at, layout, want, found)) == 1:
+want, found = Want(int(sys.argv[3], 0), 0, 0, GUARD | REF), Found()
+start = 0
+while (status := dixpi.dixpi_verify_from(blocks, len(dump), layout, want, start, found)) == 1:
     name, digits = NAMES[found.check]
-    print(f"block {at // 520 + found.block}: {name} wanted {found.expected:0{digits}x}, has {found.actual:0{digits}x}")
-    at += (found.block + 1) * 520  # goes on behind it
-    want.first_ref = (want.first_ref + found.block + 1) % 2**32
+    print(f"block {found.block}: {name} wanted {found.expected:0{digits}x}, has {found.actual:0{digits}x}")
+    start = found.block + 1  # goes on behind it
 if status != 0:
     print("no whole blocks of 520 bytes, or no type 1 to 3", file=sys.stderr)
-sys.exit(2 if status else at != 0)
+sys.exit(2 if status else start != 0)

@@ -106,6 +106,11 @@ static uint32_t get16(const uint8_t *p) { return (uint32_t)p[0] << 8 | p[1]; }
 static uint32_t get32(const uint8_t *p) { return get16(p) << 16 | get16(p + 2); }
 static uint64_t get64(const uint8_t *p) { return (uint64_t)get32(p) << 32 | get32(p + 4); }
 
+/* Flags that name a check and nothing else, or none by name. */
+static int are_flags(uint32_t checks) {
+    return checks == DIXPI_CHECK_NONE || (checks && !(checks & ~(uint32_t)DIXPI_CHECK_ALL));
+}
+
 /* The check of block i, whose bytes have this guard. */
 static uint32_t compare(const struct dixpi_layout *l, const struct dixpi_want *w, uint64_t i, uint16_t guard,
                         const uint8_t *tuple, struct dixpi_found *found) {
@@ -113,21 +118,23 @@ static uint32_t compare(const struct dixpi_layout *l, const struct dixpi_want *w
     uint32_t wanted = w->first_ref + (uint32_t)i;
     if (app == 0xFFFF && (l->type != 3 || ref == 0xFFFFFFFF))
         return DIXPI_OK;
-    if (w->checks >> DIXPI_GUARD & 1 && get16(tuple) != guard)
-        *found = (struct dixpi_found){i, DIXPI_GUARD, guard, get16(tuple)};
-    else if (w->checks >> DIXPI_APP & 1 && (app ^ w->app) & w->mask)
-        *found = (struct dixpi_found){i, DIXPI_APP, w->app, app};
-    else if (w->checks >> DIXPI_REF & 1 && l->type != 3 && ref != wanted)
-        *found = (struct dixpi_found){i, DIXPI_REF, wanted, ref};
+    if (w->checks & DIXPI_CHECK_GUARD && get16(tuple) != guard)
+        *found = (struct dixpi_found){i, DIXPI_CHECK_GUARD, guard, get16(tuple)};
+    else if (w->checks & DIXPI_CHECK_APP && (app ^ w->app) & w->mask)
+        *found = (struct dixpi_found){i, DIXPI_CHECK_APP, w->app, app};
+    else if (w->checks & DIXPI_CHECK_REF && l->type != 3 && ref != wanted)
+        *found = (struct dixpi_found){i, DIXPI_CHECK_REF, wanted, ref};
     else
         return DIXPI_OK;
     return DIXPI_DIFFERS;
 }
 
-static uint32_t verified(const uint8_t *blocks, size_t n, const struct dixpi_layout *l, const struct dixpi_want *w,
-                         struct dixpi_found *found) {
+static uint32_t verified(const uint8_t *blocks, size_t start, size_t n, const struct dixpi_layout *l,
+                         const struct dixpi_want *w, struct dixpi_found *found) {
     size_t covered = l->data_size + l->tuple_at, stride = l->data_size + l->meta_size;
-    for (size_t i = 0; i < n; i++)
+    if (!are_flags(w->checks))
+        return DIXPI_BAD_FIELD;
+    for (size_t i = start; i < n; i++)
         if (compare(l, w, i, guard_of(l->guard, blocks + i * stride, covered), blocks + i * stride + covered, found))
             return DIXPI_DIFFERS;
     return DIXPI_OK;
@@ -234,8 +241,15 @@ static uint32_t check(const uint8_t *blocks, const struct dixpi_layout *l, const
     struct dixpi_found by_hand = NOTHING;
     *found = NOTHING;
     uint32_t status = dixpi_verify(blocks, (size_t)N * (l->data_size + l->meta_size), l, w, found);
-    IS(status == verified(blocks, N, l, w, &by_hand));
+    IS(status == verified(blocks, 0, N, l, w, &by_hand));
     IS(same(*found, by_hand));
+    for (size_t start = 0; start <= N; start++) {
+        struct dixpi_found later = NOTHING;
+        by_hand = NOTHING;
+        IS(dixpi_verify_from(blocks, (size_t)N * (l->data_size + l->meta_size), l, w, start, &later) ==
+           verified(blocks, start, N, l, w, &by_hand));
+        IS(same(later, by_hand));
+    }
     return status;
 }
 
@@ -246,22 +260,24 @@ static void verify_finds(uint8_t *blocks, const struct dixpi_layout *l, struct d
     blocks[20 * stride + covered + 7] ^= 1;
     IS(check(blocks, l, &w, &f) == (l->type != 3));
     if (l->type != 3)
-        IS(f.block == 20 && f.check == DIXPI_REF && f.expected == w.first_ref + 20 && f.actual == (f.expected ^ 1));
+        IS(f.block == 20 && f.check == DIXPI_CHECK_REF && f.expected == w.first_ref + 20 && f.actual == (f.expected ^ 1));
     blocks[7 * stride + covered + 3] ^= 0x10;
     IS(check(blocks, l, &w, &f) == DIXPI_DIFFERS);
-    IS(f.block == 7 && f.check == DIXPI_APP && f.expected == w.app && f.actual == (uint32_t)(w.app ^ 0x10));
+    IS(f.block == 7 && f.check == DIXPI_CHECK_APP && f.expected == w.app && f.actual == (uint32_t)(w.app ^ 0x10));
     blocks[7 * stride + covered] ^= 1;
     IS(check(blocks, l, &w, &f) == DIXPI_DIFFERS);
-    IS(f.block == 7 && f.check == DIXPI_GUARD && (f.expected ^ f.actual) == 0x100);
+    IS(f.block == 7 && f.check == DIXPI_CHECK_GUARD && (f.expected ^ f.actual) == 0x100);
     if (covered) {
         blocks[5 * stride + covered - 1] ^= 1;
-        IS(check(blocks, l, &w, &f) == DIXPI_DIFFERS && f.block == 5 && f.check == DIXPI_GUARD);
+        IS(check(blocks, l, &w, &f) == DIXPI_DIFFERS && f.block == 5 && f.check == DIXPI_CHECK_GUARD);
     }
     for (uint32_t checks = 0; checks < 32; checks++) {
-        w.checks = checks | 0xFFFF0000;
+        w.checks = checks;
         check(blocks, l, &w, &f);
+        w.checks = checks | 0xFFFF0000;
+        IS(check(blocks, l, &w, &f) == DIXPI_BAD_FIELD);
     }
-    w.checks = DIXPI_ALL;
+    w.checks = DIXPI_CHECK_ALL;
     for (size_t i = 0; i < N; i++) {
         w.mask = (uint16_t)drawn();
         check(blocks, l, &w, &f);
@@ -311,14 +327,19 @@ static void apart(const struct dixpi_layout *l, struct dixpi_want w) {
         meta[i * l->meta_size + at] ^= flip;
         line[i * stride + l->data_size + at] ^= flip;
         w.mask = (uint16_t)drawn();
-        w.checks = drawn();
+        w.checks = drawn() % 16;
         by_hand = found = NOTHING;
-        IS(dixpi_dix_verify(parts, count, meta, meta_len, l, &w, &found) == verified(line, N, l, &w, &by_hand));
+        IS(dixpi_dix_verify(parts, count, meta, meta_len, l, &w, &found) == verified(line, 0, N, l, &w, &by_hand));
+        IS(same(found, by_hand));
+        size_t start = drawn() % (N + 2);
+        by_hand = found = NOTHING;
+        IS(dixpi_dix_verify_from(parts, count, meta, meta_len, l, &w, start, &found) ==
+           verified(line, start, N, l, &w, &by_hand));
         IS(same(found, by_hand));
         meta[i * l->meta_size + at] ^= flip;
         line[i * stride + l->data_size + at] ^= flip;
     }
-    w.checks = 1 << DIXPI_GUARD;
+    w.checks = DIXPI_CHECK_GUARD;
     if (data_len) {
         size_t last = count - 1;
         while (!parts[last].iov_len)
@@ -326,7 +347,7 @@ static void apart(const struct dixpi_layout *l, struct dixpi_want w) {
         uint8_t *end = parts[last].iov_base;
         end[parts[last].iov_len - 1] ^= 1;
         IS(dixpi_dix_verify(parts, count, meta, meta_len, l, &w, &found) == DIXPI_DIFFERS);
-        IS(found.block == N - 1 && found.check == DIXPI_GUARD);
+        IS(found.block == N - 1 && found.check == DIXPI_CHECK_GUARD);
         parts[last].iov_len--;
         IS(dixpi_dix_verify(parts, count, meta, meta_len, l, &w, &found) == DIXPI_BAD_LENGTH);
         IS(dixpi_dix_generate(parts, count, meta, meta_len, l, 0, 0) == DIXPI_BAD_LENGTH);
@@ -361,7 +382,7 @@ static void maps_tags(uint8_t *blocks, const struct dixpi_layout *l, uint32_t fi
 static void refusals(uint8_t *blocks, const struct dixpi_layout *l) {
     static uint8_t before[N * MOST];
     size_t stride = l->data_size + l->meta_size, len = N * stride;
-    struct dixpi_want w = {0, 0, 0, DIXPI_ALL};
+    struct dixpi_want w = {0, 0, 0, DIXPI_CHECK_ALL};
     struct dixpi_layout bad[] = {*l, *l, *l, *l, *l, *l};
     bad[0].type = 0;
     bad[1].type = 4;
@@ -377,6 +398,8 @@ static void refusals(uint8_t *blocks, const struct dixpi_layout *l) {
         IS(dixpi_generate(blocks, len, &bad[i], 0, 1) == DIXPI_BAD_LAYOUT);
     }
     IS(dixpi_verify(blocks, len - 1, l, &w, &f) == DIXPI_BAD_LENGTH && same(f, NOTHING));
+    IS(dixpi_verify_from(blocks, len - 1, l, &w, 1, &f) == DIXPI_BAD_LENGTH && same(f, NOTHING));
+    IS(dixpi_verify_from(blocks, len, l, &w, UINT64_MAX, &f) == DIXPI_OK && same(f, NOTHING));
     IS(dixpi_remap(blocks, len - 1, l, 0, 1) == DIXPI_BAD_LENGTH);
     IS(dixpi_generate(blocks, len - 1, l, 0, 1) == DIXPI_BAD_LENGTH);
     IS(dixpi_verify(NULL, 0, l, &w, &f) == DIXPI_OK && same(f, NOTHING));
@@ -389,7 +412,7 @@ static void blocks_in_line(struct dixpi_layout l) {
     size_t len = (size_t)N * (l.data_size + l.meta_size);
     uint8_t *blocks = fenced(len);
     for (uint32_t first = 0xFFFFFFF4; first != 0x10; first += 14) {
-        struct dixpi_want w = {first, 0x1234, 0xFFFF, DIXPI_ALL};
+        struct dixpi_want w = {first, 0x1234, 0xFFFF, DIXPI_CHECK_ALL};
         fill(blocks, len);
         generated(blocks, N, &l, w.app, first);
         maps_tags(blocks, &l, first);
@@ -408,7 +431,7 @@ static void tuples(void) {
     IS(!memcmp(bytes, "\1\2\3\4\5\6\7\10", 8));
     for (int k = 0; k < 2000; k++) {
         struct dixpi_layout l = {0, 8, 0, 1 + drawn() % 3, DIXPI_CRC};
-        struct dixpi_want w = {drawn(), (uint16_t)drawn(), (uint16_t)drawn(), drawn()};
+        struct dixpi_want w = {drawn(), (uint16_t)drawn(), (uint16_t)drawn(), drawn() % 17};
         struct dixpi_tuple t = {(uint16_t)drawn(), (uint16_t)drawn(), drawn()}, back = {0, 0, 0};
         uint64_t i = (uint64_t)drawn() << 32 | drawn();
         uint16_t guard = drawn() % 4 ? t.guard : (uint16_t)drawn();
@@ -421,7 +444,8 @@ static void tuples(void) {
         dixpi_tuple_read(bytes, &back);
         IS(back.guard == t.guard && back.app == t.app && back.ref == t.ref);
         struct dixpi_found found = NOTHING, by_hand = NOTHING;
-        IS(dixpi_check(l.type, bytes, guard, &w, i, &found) == compare(&l, &w, i, guard, bytes, &by_hand));
+        IS(dixpi_check(l.type, bytes, guard, &w, i, &found) ==
+           (are_flags(w.checks) ? compare(&l, &w, i, guard, bytes, &by_hand) : (uint32_t)DIXPI_BAD_FIELD));
         IS(same(found, by_hand));
         found = NOTHING;
         IS(dixpi_check(drawn() % 2 ? 0 : 4 + drawn() % 9, bytes, guard, &w, i, &found) == DIXPI_BAD_LAYOUT);
@@ -480,7 +504,7 @@ static void senses(void) {
         IS(len == (size ? size : 77) && !memcmp(out, wanted, size));
         for (size_t i = size; i < 20; i++)
             IS(out[i] == 0xEE);
-        uint32_t check = s.asc == 0x10 && s.ascq >= 1 && s.ascq <= 3 && (s.key == 5 || s.key == 0xB) ? s.ascq : 0;
+        uint32_t check = s.asc == 0x10 && s.ascq >= 1 && s.ascq <= 3 && (s.key == 5 || s.key == 0xB) ? 1u << s.ascq : 0;
         IS(dixpi_sense_check(&s, &by_target) == check);
         if (check)
             IS(by_target == (s.key == 0xB));
@@ -573,7 +597,7 @@ static void commands(void) {
 }
 
 int main(void) {
-    IS(dixpi_version() == 0x000100);
+    IS(dixpi_version() == 0x000200);
     guards();
     tuples();
     senses();

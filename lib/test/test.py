@@ -67,9 +67,13 @@ TYPES = {
     "check": (c_uint32, c_uint32, c_void_p, c_uint16, want_at, c_uint64, found_at),
     "generate": (c_uint32, c_void_p, c_size_t, layout_at, c_uint16, c_uint32),
     "verify": (c_uint32, c_void_p, c_size_t, layout_at, want_at, found_at),
+    "verify_from": (c_uint32, c_void_p, c_size_t, layout_at, want_at, c_uint64, found_at),
     "remap": (c_uint32, c_void_p, c_size_t, layout_at, c_uint32, c_uint32),
     "dix_generate": (c_uint32, parts_at, c_size_t, c_void_p, c_size_t, layout_at, c_uint16, c_uint32),
     "dix_verify": (c_uint32, parts_at, c_size_t, c_void_p, c_size_t, layout_at, want_at, found_at),
+    "dix_verify_from": (
+        c_uint32, parts_at, c_size_t, c_void_p, c_size_t, layout_at, want_at, c_uint64, found_at,
+    ),
     "cdb_encode": (c_uint32, cdb_at, c_void_p, number_at),
     "cdb_decode": (c_uint32, c_void_p, c_size_t, cdb_at),
     "sense_encode": (c_uint32, sense_at, c_void_p, number_at),
@@ -105,7 +109,7 @@ def tell(found):
 
 
 NINE = b"123456789"
-holds("version", dixpi.dixpi_version() == 0x100)
+holds("version", dixpi.dixpi_version() == 0x200)
 holds("crc16", dixpi.dixpi_crc16(memory(NINE), 9) == 0xD0DB)
 holds("ip_sum", dixpi.dixpi_ip_sum(memory(b"\x00\x01\xf2\x03\xf4\xf5\xf6\xf7"), 8) == 0x220D)
 pieces, kept = parts(b"1", b"", b"2345", b"6789")
@@ -129,7 +133,7 @@ holds("tuple_read", (back.guard, back.app, back.ref) == (0x0102, 0x0304, 0x05060
 want = Want(0x05060000, 0x0304, 0xFFFF, 0xE)
 holds("check, nothing differs", dixpi.dixpi_check(1, eight, 0x0102, want, 0x0708, found) == 0)
 holds("check, the tag differs", dixpi.dixpi_check(1, eight, 0x0102, want, 0x0709, found) == 1)
-holds("the tag", tell(found) == (0x0709, 3, 0x05060709, 0x05060708))
+holds("the tag", tell(found) == (0x0709, 8, 0x05060709, 0x05060708))
 holds("check, a type", dixpi.dixpi_check(4, eight, 0x0102, want, 0x0708, found) == 2)
 
 FIRST = 0xFFFFFFFE
@@ -144,7 +148,12 @@ holds("verify, no block differs", dixpi.dixpi_verify(bare, len(bare), layout, wa
 holds("nothing found", tell(found) == (9, 9, 9, 9))
 bare[3 * 520 + 9] ^= 4
 holds("verify, a block differs", dixpi.dixpi_verify(bare, len(bare), layout, want, found) == 1)
-holds("found", tell(found) == (3, 1, crc(bytes(bare[3 * 520 : 3 * 520 + 512])), crc(data[3])))
+holds("found", tell(found) == (3, 2, crc(bytes(bare[3 * 520 : 3 * 520 + 512])), crc(data[3])))
+holds("verify_from behind it", dixpi.dixpi_verify_from(bare, len(bare), layout, want, 4, found) == 0)
+holds("verify_from it", dixpi.dixpi_verify_from(bare, len(bare), layout, want, 3, found) == 1 and found.block == 3)
+for flags in 0, 3, 16, 1 << 1 | 1:
+    holds("verify, no check", dixpi.dixpi_verify(bare, len(bare), layout, Want(FIRST, 0, 0, flags), found) == 5)
+holds("verify, none", dixpi.dixpi_verify(bare, len(bare), layout, Want(FIRST, 0, 0, 1), found) == 0)
 bare[3 * 520 + 9] ^= 4
 holds("verify, a length", dixpi.dixpi_verify(bare, len(bare) - 1, layout, want, found) == 3)
 holds("verify, a layout", dixpi.dixpi_verify(bare, len(bare), Layout(512, 7, 0, 1, 0), want, found) == 2)
@@ -160,14 +169,15 @@ holds("the tuples", bytes(meta) == b"".join(tuples))
 holds("dix_verify, no block differs", dixpi.dixpi_dix_verify(pieces, 4, meta, 48, layout, want, found) == 0)
 meta[4 * 8 + 7] ^= 1
 holds("dix_verify, a block differs", dixpi.dixpi_dix_verify(pieces, 4, meta, 48, layout, want, found) == 1)
-holds("found apart", tell(found) == (4, 3, 2, 3))
+holds("found apart", tell(found) == (4, 8, 2, 3))
+holds("dix_verify_from", dixpi.dixpi_dix_verify_from(pieces, 4, meta, 48, layout, want, 5, found) == 0)
 holds("dix_verify, other counts", dixpi.dixpi_dix_verify(pieces, 3, meta, 48, layout, want, found) == 3)
 
 sense, length, by_target = Sense(0x1234, 0xB, 0x10, 3, 1), c_uint32(), c_uint32()
 out = memory(bytes(20))
 holds("sense_encode", dixpi.dixpi_sense_encode(sense, out, length) == 0 and length.value == 18)
 holds("the sense", bytes(out) == bytes.fromhex("f0000b000012340a000000001003000000000000"))
-holds("sense_check", dixpi.dixpi_sense_check(sense, by_target) == 3 and by_target.value == 1)
+holds("sense_check", dixpi.dixpi_sense_check(sense, by_target) == 8 and by_target.value == 1)
 back = Sense()
 holds("sense_decode", dixpi.dixpi_sense_decode(out, 18, back) == 0 and bytes(back)[:12] == bytes(sense)[:12])
 holds("sense_decode, a length", dixpi.dixpi_sense_decode(out, 17, back) == 3)

@@ -5,15 +5,16 @@ use pi_blocks::{Layout, generate, remap, verify};
 use std::alloc::{AllocError, Global};
 use test_table::{Words, bytes_of};
 
-/// What a check of blocks answers, by what is wanted and the bytes.
+/// What a check of blocks answers, by what is wanted, the block to start from and the bytes.
 pub(crate) fn verified(
     alloc: Global,
     layout: &Layout,
     words: &mut Words,
 ) -> Result<String, AllocError> {
     let want = want_of(words);
+    let start = words.number();
     let blocks = bytes_of(alloc, words.rest())?;
-    found_text(alloc, verify(&blocks, layout, &want))
+    found_text(alloc, verify(&blocks, layout, &want, start))
 }
 
 /// The bytes of blocks with their tuples made, by the application tag, the first reference tag and the bytes.

@@ -1,6 +1,6 @@
 //! Words that the calls share.
 
-use pi_blocks::{Found, Refusal, Want};
+use pi_blocks::{Found, Refusal, Unchecked, Want};
 use std::alloc::{AllocError, Global};
 use test_table::{Words, hex_of};
 
@@ -32,7 +32,7 @@ fn refusal(alloc: Global, why: Refusal) -> Result<String, AllocError> {
 /// What a check answers: none, or the block, the check, what is wanted and what is there.
 pub(crate) fn found_text(
     alloc: Global,
-    answer: Result<Option<Found>, Refusal>,
+    answer: Result<Option<Found>, Unchecked>,
 ) -> Result<String, AllocError> {
     match answer {
         Ok(None) => String::from_str(alloc, "none"),
@@ -45,7 +45,8 @@ pub(crate) fn found_text(
             } = found;
             format!(in alloc; "{block} {check} {expected} {actual}")
         }
-        Err(why) => refusal(alloc, why),
+        Err(Unchecked::Blocks(why)) => refusal(alloc, why),
+        Err(Unchecked::Flags) => String::from_str(alloc, "bad flags"),
     }
 }
 

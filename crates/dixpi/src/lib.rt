@@ -14,8 +14,8 @@ mod senses;
 mod single;
 mod status;
 
-pub use apart::{dixpi_dix_generate, dixpi_dix_verify};
-pub use blocks::{dixpi_generate, dixpi_remap, dixpi_verify};
+pub use apart::{dixpi_dix_generate, dixpi_dix_verify, dixpi_dix_verify_from};
+pub use blocks::{dixpi_generate, dixpi_remap, dixpi_verify, dixpi_verify_from};
 pub use commands::{dixpi_cdb_decode, dixpi_cdb_encode};
 pub use guards::{dixpi_crc16, dixpi_crc16_after, dixpi_crc16v, dixpi_ip_sum, dixpi_ip_sumv};
 pub use runs::{dixpi_run_begin, dixpi_run_finish, dixpi_run_update};

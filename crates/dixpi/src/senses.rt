@@ -57,9 +57,9 @@ fn number_of_check(check: Check) -> u32
     ensures { result ≡ number_of check }
 {
     match check {
-        Check::Guard => 1,
-        Check::AppTag => 2,
-        Check::RefTag => 3,
+        Check::Guard => 2,
+        Check::AppTag => 4,
+        Check::RefTag => 8,
     }
 }
 
@@ -72,7 +72,7 @@ fn is_target(layer: Layer) -> u32
     }
 }
 
-/// The check that failed, where the sense tells that one did (additional sense code 10h), else 0. `by_target` is 1 where
+/// The flag of the check that failed, where the sense tells that one did (additional sense code 10h), else 0. `by_target` is 1 where
 /// the target made it (ABORTED COMMAND), and 0 where the adapter did (ILLEGAL REQUEST); it is written only then.
 #[unsafe(no_mangle)]
 pub extern "C" fn dixpi_sense_check(sense: &SenseFields, by_target: &mut u32) -> u32

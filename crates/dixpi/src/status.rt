@@ -1,6 +1,9 @@
 //! What a status says.
 
 ghost use Rattle.std.specs.Prelude.{◌≡◌};
+ghost use Rattle.dixpi.specs.Faults.{Told, none_status};
+
+use pi_blocks::{Found, Refusal, Unchecked};
 
 /// Done; of a check, no block differs.
 pub const OK: u32 = 0;
@@ -17,13 +20,38 @@ pub const BAD_LENGTH: u32 = 3;
 /// The operation code is none that is served.
 pub const BAD_OPCODE: u32 = 4;
 
-/// A field has a value that isn't served, or doesn't fit its form.
+/// A field has a value that isn't served, or doesn't fit its form; of a check, its flags name none.
 pub const BAD_FIELD: u32 = 5;
 
-/// The version of the library: 0.1.0, a byte for each number.
+/// The status of blocks that are none.
+pub(crate) fn status_of_none(why: Refusal) -> u32
+    ensures { result ≡ none_status why }
+{
+    match why {
+        Refusal::BadLayout => BAD_LAYOUT,
+        Refusal::BadLength => BAD_LENGTH,
+    }
+}
+
+/// The status of a check that was made, or of why it wasn't. What was found is left in `found`.
+pub(crate) fn told(answer: Result<Option<Found>, Unchecked>, found: &mut Found) -> u32
+    ensures { Told answer result found.old found.new }
+{
+    match answer {
+        Ok(None) => OK,
+        Ok(Some(first)) => {
+            *found = first;
+            DIFFERS
+        }
+        Err(Unchecked::Blocks(why)) => status_of_none(why),
+        Err(Unchecked::Flags) => BAD_FIELD,
+    }
+}
+
+/// The version of the library: 0.2.0, a byte for each number.
 #[unsafe(no_mangle)]
 pub extern "C" fn dixpi_version() -> u32
-    ensures { result ≡ 256 }
+    ensures { result ≡ 512 }
 {
-    0x0001_00
+    0x0002_00
 }

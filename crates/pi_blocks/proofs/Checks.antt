@@ -5,7 +5,7 @@ use Rattle.pi_guard.specs.declared.GuardKind.{GuardKind}
 use Rattle.pi_guard.specs.Guards.{guard_of}
 use Rattle.pi_tuple.specs.declared.tuple.Tuple.{Tuple}
 use Rattle.pi_tuple.specs.Tuples.{tuple_in}
-use Rattle.pi_blocks.specs.Blocks.{AreFine, Block, compared, guard_in, in_line, looked}
+use Rattle.pi_blocks.specs.Blocks.{AreFineFrom, Block, compared, guard_in, in_line, looked}
 use Rattle.pi_blocks.specs.Laws.{HasOneAnswer}
 use Rattle.pi_blocks.specs.Layouts.{covered_of, kind_of, stride_of}
 use Rattle.pi_blocks.specs.declared.block.Found.{Found}
@@ -13,9 +13,9 @@ use Rattle.pi_blocks.specs.declared.block.Want.{Want}
 use Rattle.pi_blocks.specs.declared.layout.Layout.{Layout}
 
 -- one more block is fine
-pub one_more : (l : Layout) (w : Want) (blocks : ℕ → Block) (n : ℕ) → AreFine l w blocks n → looked l w blocks n ≡ None → AreFine l w blocks (n + 1)
-one_more l w blocks n h e k lt =
-    ⊎_elim (λ (below : k < n). h k below) (λ (above : n ≤ k). let same : k ≡ n = omega arith in subst (λ m. looked l w blocks m ≡ None) (sym same) e) (cases_lt k n)
+pub one_more : (l : Layout) (w : Want) (blocks : ℕ → Block) (start n : ℕ) → AreFineFrom l w blocks start n → looked l w blocks n ≡ None → AreFineFrom l w blocks start (n + 1)
+one_more l w blocks start n h e k from lt =
+    ⊎_elim (λ (below : k < n). h k from below) (λ (above : n ≤ k). let same : k ≡ n = omega arith in subst (λ m. looked l w blocks m ≡ None) (sym same) e) (cases_lt k n)
 
 -- the guard of the bytes before the tuple of block i
 pub guard_in_line : (l : Layout) (bytes : List ℕ) (i stride covered guard : ℕ) (kind : GuardKind) → stride ≡ stride_of l → covered ≡ covered_of l → kind ≡ kind_of l.guard →
@@ -33,12 +33,12 @@ looked_in_line l w bytes i stride covered guard t found s v g e f =
 
 -- a check has one answer
 
-pub one_answer : (l : Layout) (w : Want) (blocks : ℕ → Block) (n : ℕ) → HasOneAnswer l w blocks n
-one_answer l w blocks n None None fine also = refl
-one_answer l w blocks n None (Some g) fine first = let a = fine g.block first.inside in let b = first.differs in cc
-one_answer l w blocks n (Some f) None first fine = let a = fine f.block first.inside in let b = first.differs in cc
-one_answer l w blocks n (Some f) (Some g) first other = elim (cases_order f.block g.block) [
+pub one_answer : (l : Layout) (w : Want) (blocks : ℕ → Block) (start n : ℕ) → HasOneAnswer l w blocks start n
+one_answer l w blocks start n None None fine also = refl
+one_answer l w blocks start n None (Some g) fine first = let a = fine g.block first.behind first.inside in let b = first.differs in cc
+one_answer l w blocks start n (Some f) None first fine = let a = fine f.block first.behind first.inside in let b = first.differs in cc
+one_answer l w blocks start n (Some f) (Some g) first other = elim (cases_order f.block g.block) [
   | inl same ↦ sym first.differs ∙ (ap (looked l w blocks) same ∙ other.differs)
-  | inr (inl below) ↦ let a = other.first f.block below in let b = first.differs in cc
-  | inr (inr above) ↦ let a = first.first g.block above in let b = other.differs in cc
+  | inr (inl below) ↦ let a = other.first f.block first.behind below in let b = first.differs in cc
+  | inr (inr above) ↦ let a = first.first g.block other.behind above in let b = other.differs in cc
 ]

@@ -1,4 +1,4 @@
-use Rattle.std.specs.Prelude.{◌≡◌, ℕ, ◌+◌, ◌*◌, ◌<◌, Bool, not, eqb, if◌then◌else◌, List, ◌++◌, take, drop, Option, Some, None, bit_and}
+use Rattle.std.specs.Prelude.{◌≡◌, ℕ, ◌+◌, ◌*◌, ◌<◌, ◌≤◌, Bool, not, eqb, if◌then◌else◌, List, ◌++◌, take, drop, Option, Some, None, bit_and}
 use Rattle.pi_guard.specs.Guards.{guard_of}
 use Rattle.pi_tuple.specs.declared.tuple.Tuple.{Tuple}
 use Rattle.pi_tuple.specs.declared.checks.Checks.{Checks}
@@ -42,11 +42,11 @@ checks_of w = record { guard = is_asked w 2; rtag = is_asked w 8; app = w.app; m
 abbrev pub ref_of : Want → ℕ → ℕ
 ref_of w i = ref_tag (w.first_ref + i)
 
--- a check's number, which is also the additional sense code qualifier that tells it
+-- a check's flag
 abbrev pub number_of : Check → ℕ
-number_of Guard = 1
-number_of AppTag = 2
-number_of RefTag = 3
+number_of Guard = 2
+number_of AppTag = 4
+number_of RefTag = 8
 
 -- what is wanted, and what the tuple has
 abbrev pub expected_of : Want → ℕ → ℕ → Check → ℕ
@@ -74,17 +74,22 @@ compared l w i guard t = told_by (told_of w i guard t) (finding (type_of l.pi_ty
 abbrev pub looked : Layout → Want → (ℕ → Block) → ℕ → Option Found
 looked l w blocks i = compared l w i (guard_in l (blocks i)) (tuple_in (blocks i).tuple)
 
+-- none of n blocks differs, from this one on
+abbrev pub AreFineFrom : Layout → Want → (ℕ → Block) → (start n : ℕ) → Type 0
+AreFineFrom l w blocks start n = (k : ℕ) → start ≤ k → k < n → looked l w blocks k ≡ None
+
 -- none of the first n blocks differs
 abbrev pub AreFine : Layout → Want → (ℕ → Block) → ℕ → Type 0
 AreFine l w blocks n = (k : ℕ) → k < n → looked l w blocks k ≡ None
 
--- the first of n blocks to differ is told
-pub record IsFirst (l : Layout) (w : Want) (blocks : ℕ → Block) (n : ℕ) (told : Found) : Type 0 where
+-- the first of n blocks to differ is told, from this one on
+pub record IsFirst (l : Layout) (w : Want) (blocks : ℕ → Block) (start n : ℕ) (told : Found) : Type 0 where
+  pub behind : start ≤ told.block
   pub inside : told.block < n
   pub differs : looked l w blocks told.block ≡ Some told
-  pub first : AreFine l w blocks told.block
+  pub first : AreFineFrom l w blocks start told.block
 
--- what a check of n blocks answers
-abbrev pub Checked : Layout → Want → (ℕ → Block) → ℕ → Option Found → Type 0
-Checked l w blocks n None = AreFine l w blocks n
-Checked l w blocks n (Some told) = IsFirst l w blocks n told
+-- what a check of n blocks answers, from this one on
+abbrev pub Checked : Layout → Want → (ℕ → Block) → (start n : ℕ) → Option Found → Type 0
+Checked l w blocks start n None = AreFineFrom l w blocks start n
+Checked l w blocks start n (Some told) = IsFirst l w blocks start n told

@@ -18,8 +18,8 @@ abbrev pub IsClear : (ℕ → ℕ) → ℕ → ℕ → ℕ → ℕ → Type 0
 IsClear place width n at size = (i : ℕ) → i < n → (at + size ≤ place i) ⊎ (place i + width ≤ at)
 
 -- a check has one answer
-abbrev pub HasOneAnswer : Layout → Want → (ℕ → Block) → ℕ → Type 0
-HasOneAnswer l w blocks n = (a b : Option Found) → Checked l w blocks n a → Checked l w blocks n b → a ≡ b
+abbrev pub HasOneAnswer : Layout → Want → (ℕ → Block) → (start n : ℕ) → Type 0
+HasOneAnswer l w blocks start n = (a b : Option Found) → Checked l w blocks start n a → Checked l w blocks start n b → a ≡ b
 
 -- each tag is mapped by itself, and every other byte stays
 pub record MapsTagsAlone (l : Layout) (from to : ℕ) (bytes : List ℕ) : Type 0 where

@@ -1,4 +1,4 @@
-use Rattle.std.specs.Prelude.{◌≡◌, ℕ, ◌+◌, ◌^◌, ◌%◌, Bool, true, false, ◌&&◌, eqb, leb, ltb, if◌then◌else◌}
+use Rattle.std.specs.Prelude.{◌≡◌, ℕ, ◌+◌, ◌^◌, ◌%◌, Bool, true, false, ◌&&◌, ◌||◌, eqb, leb, ltb, if◌then◌else◌}
 use Rattle.pi_guard.specs.declared.GuardKind.{GuardKind}
 use Rattle.pi_guard.specs.declared.GuardKind.TheVariants.{Crc, Ip}
 use Rattle.pi_tuple.specs.declared.checks.PiType.{PiType}
@@ -6,6 +6,8 @@ use Rattle.pi_tuple.specs.declared.checks.PiType.TheVariants.{Zero, One, Two, Th
 use Rattle.pi_blocks.specs.declared.layout.Layout.{Layout}
 use Rattle.pi_blocks.specs.declared.layout.Refusal.{Refusal}
 use Rattle.pi_blocks.specs.declared.layout.Refusal.TheVariants.{BadLayout, BadLength}
+use Rattle.pi_blocks.specs.declared.layout.Unchecked.{Unchecked}
+use Rattle.pi_blocks.specs.declared.layout.Unchecked.TheVariants.{Blocks, Flags}
 use Rattle.pi_tuple.specs.declared.TheConstants.{TUPLE}
 
 -- the type and the guard of these numbers
@@ -35,6 +37,15 @@ pub record AreBlocks (l : Layout) (len : ℕ) : Type 0 where
 abbrev pub Refused : Layout → ℕ → Refusal → Type 0
 Refused l len BadLayout = is_good l ≡ false
 Refused l len BadLength = (is_good l ≡ true) × ¬ (len % stride_of l ≡ 0)
+
+-- flags that say what is checked: 2 the guard, 4 the application tag, 8 the reference tag, one of them at least and no other; or 1 alone, nothing
+abbrev pub are_flags : ℕ → Bool
+are_flags n = eqb n 1 || (leb 2 n && (ltb n 16 && eqb (n % 2) 0))
+
+-- why they aren't checked by these flags: they are no blocks, for this cause; or they are, and the flags are none
+abbrev pub NotChecked : (Are : Type 0) → (None : Refusal → Type 0) → (flags : ℕ) → Unchecked → Type 0
+NotChecked Are None flags (Blocks why) = None why
+NotChecked Are None flags Flags = Are × (are_flags flags ≡ false)
 
 -- a number is that of a protection type
 abbrev pub is_type : ℕ → Bool

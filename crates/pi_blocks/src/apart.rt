@@ -5,15 +5,15 @@ ghost use Rattle.std.specs.Prelude.{◌≡◌, ◌↔◌, ℕ, List, ◌+◌, �
 ghost use Rattle.std.specs.Prelude.{IfErr, IfOk, IfSome, IsTrue, OnOk};
 ghost use Rattle.pi_blocks.specs.Apart.{AreApart, RefusedApart};
 ghost use Rattle.pi_blocks.specs.Blocks.{Checked, apart, looked};
-ghost use Rattle.pi_blocks.specs.Layouts.{is_good};
+ghost use Rattle.pi_blocks.specs.Layouts.{NotChecked, are_flags, is_good};
 ghost use Rattle.pi_blocks.specs.Made.{made_apart, made_bytes, place_apart};
 ghost use Rattle.pi_blocks.specs.Parts.{IsIn, all_parts, left_of};
 ghost use Rattle.pi_blocks.specs.Puts.{put_at};
 
 use crate::block::{compare, tuple_at};
 use crate::making::set_tuple;
-use crate::parts::{Place, front, guard_of_next};
-use crate::{Found, Layout, Part, Refusal, Want};
+use crate::parts::{Place, front, guard_of_next, skip};
+use crate::{Found, Layout, Part, Refusal, Unchecked, Want};
 use pi_tuple::{Tuple, own_tag};
 
 // Whether the parts have so many bytes. They may be more than an address space has, as parts may share memory.
@@ -114,23 +114,41 @@ fn make(
     set_tuple(meta, end, tuple);
 }
 
-/// Checks blocks whose metadata lie in a buffer of their own, and answers the first difference, or `None` where there
-/// is none. A block's guard is of its data and of its metadata before the tuple.
+// The place of the data of block `start`, or of the end where there are no more than so many blocks.
+fn place_of(parts: &[Part], layout: Layout, count: usize, start: u64) -> Place
+    requires { length (all_parts parts.now) ≡ count * layout.data_size }
+    ensures placed { IsIn parts.now result }
+    ensures left { start ≤ count → left_of parts.now result ≡ drop (start * layout.data_size) (all_parts parts.now) }
+{
+    let mut place = front();
+    let before = start.min(count as u64);
+    skip(parts, &mut place, before as u128 * layout.data_size as u128);
+    place
+}
+
+/// Checks blocks whose metadata lie in a buffer of their own, from block `start` on, and answers the first difference,
+/// or `None` where there is none, as `verify` does. A block's guard is of its data and of its metadata before the tuple.
 pub fn dix_verify(
     body: &[Part],
     meta: &[u8],
     layout: &Layout,
     want: &Want,
-) -> Result<Option<Found>, Refusal>
+    start: u64,
+) -> Result<Option<Found>, Unchecked>
     ensures checked { IfOk result (λ found. AreApart layout.now (length (all_parts body.now)) (length meta.now)
-        × Checked layout.now want.now (apart layout.now (all_parts body.now) meta.now)
+        × (are_flags want.now.checks ≡ true) × Checked layout.now want.now (apart layout.now (all_parts body.now) meta.now) start
         (length meta.now / layout.now.meta_size) found) }
-    ensures refused { IfErr result (λ e. RefusedApart layout.now (length (all_parts body.now)) (length meta.now) e) }
+    ensures refused { IfErr result (NotChecked (AreApart layout.now (length (all_parts body.now)) (length meta.now))
+        (RefusedApart layout.now (length (all_parts body.now)) (length meta.now)) want.now.checks) }
 {
     let layout = *layout;
     let want = *want;
-    let mut place = front();
-    for i in 0..count_blocks(layout, body, meta)? {
+    let count = count_blocks(layout, body, meta)?;
+    if !want.has_flags() {
+        return Err(Unchecked::Flags);
+    }
+    let mut place = place_of(body, layout, count, start);
+    for i in start as usize..count {
         if let Some(found) = look(body, &mut place, meta, layout, want, i) {
             return Ok(Some(found));
         }

@@ -3,6 +3,7 @@
 ghost use Rattle.std.specs.Prelude.{◌≡◌, ◌+◌, ◌^◌, ◌<◌, ◌≤◌, length, take, drop, IfSome};
 ghost use Rattle.pi_tuple.specs.Tuples.{tuple_in};
 ghost use Rattle.pi_blocks.specs.Blocks.{checks_of, compared, number_of, ref_of, told_of};
+ghost use Rattle.pi_blocks.specs.Layouts.{are_flags};
 ghost use Rattle.pi_tuple.specs.declared.TheConstants.{TUPLE};
 
 use crate::Layout;
@@ -19,8 +20,8 @@ pub struct Want {
     pub app: u16,
     /// The bits of the application tag that are checked.
     pub mask: u16,
-    /// What is checked: the guard by 2, the application tag by 4, and by 8 the reference tag, in types 1 and 2. Other
-    /// bits say nothing.
+    /// What is checked: the guard by 2, the application tag by 4, and by 8 the reference tag, in types 1 and 2; or
+    /// nothing, by 1 alone.
     pub checks: u32,
 }
 
@@ -30,8 +31,8 @@ pub struct Want {
 pub struct Found {
     /// The number of its block, from 0.
     pub block: u64,
-    /// The check that found it, by the number that sense data have for it (SPC-4, additional sense code 10h): 1 for the
-    /// guard, 2 for the application tag, 3 for the reference tag.
+    /// The check that found it, by its flag in `Want::checks`: 2 for the guard, 4 for the application tag, 8 for the
+    /// reference tag.
     pub check: u32,
     /// What is wanted: the data's guard, or a tag.
     pub expected: u32,
@@ -40,6 +41,14 @@ pub struct Found {
 }
 
 impl Want {
+    /// Whether the flags name checks and nothing else, or say that nothing is checked.
+    pub(crate) fn has_flags(self) -> bool
+        ensures { result ≡ are_flags self.checks }
+    {
+        let flags = self.checks;
+        flags == 1 || 2 <= flags && flags < 16 && flags % 2 == 0
+    }
+
     fn checks(self) -> Checks
         ensures { result ≡ checks_of self }
     {
@@ -70,13 +79,14 @@ pub(crate) fn tuple_at(bytes: &[u8], at: usize) -> Tuple
     Tuple::from_bytes(eight)
 }
 
-fn number_of(check: Check) -> u32
+/// The check's flag.
+pub(crate) fn number_of(check: Check) -> u32
     ensures { result ≡ number_of check }
 {
     match check {
-        Check::Guard => 1,
-        Check::AppTag => 2,
-        Check::RefTag => 3,
+        Check::Guard => 2,
+        Check::AppTag => 4,
+        Check::RefTag => 8,
     }
 }
 

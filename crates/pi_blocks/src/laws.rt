@@ -14,7 +14,7 @@ ghost use Rattle.pi_blocks.specs.declared.layout.Layout.{Layout as AnyLayout};
 
 /// The check of blocks has one answer: the first difference, or that there is none.
 pub fn a_check_has_one_answer()
-    ensures { (l : AnyLayout) (w : AnyWant) (blocks : ℕ → Block) (n : ℕ) → HasOneAnswer l w blocks n }
+    ensures { (l : AnyLayout) (w : AnyWant) (blocks : ℕ → Block) (start n : ℕ) → HasOneAnswer l w blocks start n }
 {}
 
 /// Mapping reference tags maps each tag by itself, and every stretch of bytes without one stays.

@@ -2,6 +2,7 @@
 
 ghost use Rattle.std.specs.Prelude.{◌≡◌, ◌/◌, IfErr, IfOk};
 ghost use Rattle.pi_blocks.specs.Layouts.{AreBlocks, Refused, covered_of, is_good, kind_of, stride_of, type_of};
+ghost use Rattle.pi_blocks.specs.declared.layout.Unchecked.{Unchecked};
 
 use pi_guard::GuardKind;
 use pi_tuple::{PiType, TUPLE};
@@ -31,6 +32,23 @@ pub enum Refusal {
     BadLayout,
     /// The bytes are no whole blocks, or the data and the metadata are of other counts.
     BadLength,
+}
+
+/// Why blocks aren't checked.
+#[derive(Clone, Copy, Debug, PartialEq, Eq)]
+pub enum Unchecked {
+    /// They are no blocks.
+    Blocks(Refusal),
+    /// The flags name no check, or something else than checks.
+    Flags,
+}
+
+impl From<Refusal> for Unchecked {
+    ghost from_gives = { λ why unchecked. unchecked ≡ Unchecked.Blocks why };
+
+    fn from(why: Refusal) -> Unchecked {
+        Unchecked::Blocks(why)
+    }
 }
 
 /// The kind of guard of a number.

@@ -28,7 +28,7 @@ pub use laws::{
     making_writes_tuples_alone, mapped_blocks_stay_fine, mapping_back_undoes_mapping,
     mapping_changes_tags_alone, plain_commands_are_the_codecs,
 };
-pub use layout::{Layout, Refusal};
+pub use layout::{Layout, Refusal, Unchecked};
 pub use making::generate;
 pub use mapping::remap;
 pub use parts::{Part, crc16v, ip_sumv};

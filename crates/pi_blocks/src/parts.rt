@@ -75,29 +75,26 @@ fn rest_of<'a>(parts: &[Part<'a>], place: Place) -> &'a [u8]
     behind(parts[place.part].bytes, place.at)
 }
 
-// Takes at most so many bytes of one part into a run, and answers how many.
-fn feed_part(parts: &[Part], place: &mut Place, run: &mut GuardRun, wanted: usize) -> usize
+// Takes the next bytes that lie in one part, at most so many.
+fn take_part<'a>(parts: &[Part<'a>], place: &mut Place, wanted: usize) -> &'a [u8]
     requires inside { IsIn parts.now place.old }
     requires some { 0 < wanted }
     requires enough { wanted ≤ length (left_of parts.now place.old) }
-    ensures taken { result ≤ wanted }
+    ensures taken { length result.now ≤ wanted }
+    ensures bytes { result.now ≡ take (length result.now) (left_of parts.now place.old) }
     ensures inside { IsIn parts.now place.new }
-    ensures left { left_of parts.now place.new ≡ drop result (left_of parts.now place.old) }
-    ensures kind { kind_of run.new ≡ kind_of run.old }
-    ensures more { (b : List ℕ) → Stands run.old b → Stands run.new (b ++ take result (left_of parts.now place.old)) }
-    ensures less { wanted - result + (length parts.now - place.new.part)
+    ensures left { left_of parts.now place.new ≡ drop (length result.now) (left_of parts.now place.old) }
+    ensures less { wanted - length result.now + (length parts.now - place.new.part)
         < wanted + (length parts.now - place.old.part) }
 {
     let rest = rest_of(parts, *place);
     if wanted < rest.len() {
-        run.update(&rest[..wanted]);
         place.at += wanted;
-        return wanted;
+        return &rest[..wanted];
     }
-    run.update(rest);
     place.part += 1;
     place.at = 0;
-    rest.len()
+    rest
 }
 
 // Takes so many bytes into a run.
@@ -111,7 +108,23 @@ fn feed(parts: &[Part], place: &mut Place, run: &mut GuardRun, count: usize)
 {
     let mut wanted = count;
     while wanted > 0 {
-        wanted -= feed_part(parts, place, run, wanted);
+        let bytes = take_part(parts, place, wanted);
+        run.update(bytes);
+        wanted -= bytes.len();
+    }
+}
+
+/// Goes past so many bytes, which may be more than an address space has, as parts may share memory.
+pub(crate) fn skip(parts: &[Part], place: &mut Place, count: u128)
+    requires inside { IsIn parts.now place.old }
+    requires enough { count ≤ length (left_of parts.now place.old) }
+    ensures inside { IsIn parts.now place.new }
+    ensures left { left_of parts.now place.new ≡ drop count (left_of parts.now place.old) }
+{
+    let mut wanted = count;
+    while wanted > 0 {
+        let most = wanted.min(u64::MAX as u128) as usize;
+        wanted -= take_part(parts, place, most).len() as u128;
     }
 }
 

@@ -3,11 +3,11 @@
 ghost use Rattle.std.specs.Prelude.{◌≡◌, true, false, IfErr, IfOk};
 ghost use Rattle.pi_tuple.specs.Tuples.{tuple_bytes, tuple_in};
 ghost use Rattle.pi_blocks.specs.Blocks.{compared};
-ghost use Rattle.pi_blocks.specs.Layouts.{is_type, of_type};
+ghost use Rattle.pi_blocks.specs.Layouts.{NotChecked, are_flags, is_type, of_type};
 ghost use Rattle.pi_blocks.specs.Single.{fields_of, tuple_of};
 
 use crate::block::compare;
-use crate::{Found, Layout, Refusal, Want};
+use crate::{Found, Layout, Refusal, Unchecked, Want};
 use pi_tuple::Tuple;
 
 /// The fields of a tuple as plain numbers (SBC-3, 4.22.3).
@@ -59,13 +59,16 @@ pub fn check(
     guard: u16,
     want: &Want,
     i: u64,
-) -> Result<Option<Found>, Refusal>
-    ensures checked { IfOk result (λ found. (is_type pi_type ≡ true)
+) -> Result<Option<Found>, Unchecked>
+    ensures checked { IfOk result (λ found. (is_type pi_type ≡ true) × (are_flags want.now.checks ≡ true)
         × (found ≡ compared (of_type pi_type) want.now i guard (tuple_in eight.now))) }
-    ensures refused { IfErr result (λ e. (is_type pi_type ≡ false) × (e ≡ Refusal.BadLayout)) }
+    ensures refused { IfErr result (NotChecked (is_type pi_type ≡ true) (λ e. (is_type pi_type ≡ false) × (e ≡ Refusal.BadLayout)) want.now.checks) }
 {
     if pi_type < 1 || pi_type > 3 {
-        return Err(Refusal::BadLayout);
+        return Err(Unchecked::Blocks(Refusal::BadLayout));
+    }
+    if !want.has_flags() {
+        return Err(Unchecked::Flags);
     }
     let layout = Layout {
         data_size: 0,

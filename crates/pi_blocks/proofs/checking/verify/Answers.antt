@@ -4,4 +4,4 @@ use Rattle.pi_blocks.proofs.Checks.{one_more}
 use Rattle.pi_blocks.proofs.checking.verify.Goals as goal
 
 pub loop-i-preserved : goal.loop-i-preserved
-loop-i-preserved c = one_more c.args.layout.now c.args.want.now (in_line c.args.layout.now c.args.blocks.now) c.loop-i.i c.loop-i.invariant (sym c.look.ensures.found ∙ c.in_default.is)
+loop-i-preserved c = one_more c.args.layout.now c.args.want.now (in_line c.args.layout.now c.args.blocks.now) c.args.start c.loop-i.i c.loop-i.invariant (sym c.look.ensures.found ∙ c.in_default.is)
