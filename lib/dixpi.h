@@ -161,6 +161,11 @@ struct dixpi_sense {
 DIXPI_STATUS dixpi_sense_encode(const struct dixpi_sense *sense, uint8_t out[20], uint32_t *len);
 /* The inverse: DIXPI_BAD_LENGTH where the response code asks for more bytes, DIXPI_BAD_FIELD for any other form. */
 DIXPI_STATUS dixpi_sense_decode(const uint8_t *bytes, size_t len, struct dixpi_sense *sense);
+/* Sense data as devices send them: response codes 70h to 73h, of any length from the qualifier on, whatever stands
+   elsewhere. info is that of the fixed format or of the first information descriptor, where it is valid. *deferred is 1
+   for 71h and 73h, which tell of an earlier command. DIXPI_BAD_LENGTH: they end before the qualifier, by their number or
+   by the additional length. DIXPI_BAD_FIELD: another response code. Then nothing is written. */
+DIXPI_STATUS dixpi_sense_find(const uint8_t *bytes, size_t len, struct dixpi_sense *sense, uint32_t *deferred);
 /* The check that failed (enum dixpi_check), by additional sense code 10h, or 0. Else *by_target is 1 for ABORTED
    COMMAND, which the target answers, and 0 for ILLEGAL REQUEST, which the adapter does. */
 uint32_t dixpi_sense_check(const struct dixpi_sense *sense, uint32_t *by_target);

@@ -518,9 +518,57 @@ static void senses(void) {
         uint32_t status = sense_read_by_hand(bytes + 24 - cut, cut, &by_hand);
         memset(&back, 0x5A, sizeof back);
         IS(dixpi_sense_decode(bytes + 24 - cut, cut, &back) == status);
-        if (status == DIXPI_OK)
+        if (status == DIXPI_OK) {
+            struct dixpi_sense seen;
+            IS(dixpi_sense_find(bytes + 24 - cut, cut, &seen, &by_target) == DIXPI_OK && by_target == 0);
+            IS(seen.info == back.info && seen.key == back.key && seen.asc == back.asc && seen.ascq == back.ascq &&
+               seen.has_info == back.has_info);
             IS(back.info == by_hand.info && back.key == by_hand.key && back.asc == by_hand.asc &&
                back.ascq == by_hand.ascq && back.has_info == by_hand.has_info);
+        }
+    }
+}
+
+/* Sense data as devices send them, from the tables of SPC-4 and what drivers and targets write, with what they say. */
+static const struct {
+    const char *bytes;
+    size_t len;
+    uint32_t status;
+    struct dixpi_sense says;
+    uint32_t deferred;
+} SENT[] = {
+    /* Fixed format: 18 bytes, and cut off behind the qualifier or filled with zeros. */
+    {"\x70\0\x05\0\0\0\0\x0a\0\0\0\0\x24\0\0\xc0\0\x01", 18, 0, {.key = 5, .asc = 0x24}, 0},
+    {"\xf0\0\x0b\0\0\x12\x34\x0a\0\0\0\0\x10\x03\0\0\0\0", 14, 0, {0x1234, 0xb, 0x10, 3, 1}, 0},
+    {"\xf0\0\x0b\0\0\x12\x34\x06\0\0\0\0\x10\x01", 14, 0, {0x1234, 0xb, 0x10, 1, 1}, 0},
+    {"\x71\0\x03\0\0\0\x07\x58\0\0\0\0\x11\0\x85\0\0\0\0\0\0\0\0\0\0\0\0\0\0\0\0\0", 32, 0, {.key = 3, .asc = 0x11}, 1},
+    {"\xf1\0\xe3\0\0\0\x07\x0a\1\2\3\4\x0c\x02\0\0\0\0", 18, 0, {7, 3, 0x0c, 2, 1}, 1},
+    /* They end before the qualifier: by their number, or by what they say. */
+    {"\x70\0\x05\0\0\0\0\x0a\0\0\0\0\x24", 13, DIXPI_BAD_LENGTH, {0}, 0},
+    {"\x70\0\x05\0\0\0\0\x04\0\0\0\0\x24\0\0\0\0\0", 18, DIXPI_BAD_LENGTH, {0}, 0},
+    {"\x72\x0b\x10\x01\0\0\0", 7, DIXPI_BAD_LENGTH, {0}, 0},
+    {"", 0, DIXPI_BAD_LENGTH, {0}, 0},
+    /* No sense. */
+    {"\x6f\0\0\0\0\0\0\0", 8, DIXPI_BAD_FIELD, {0}, 0},
+    {"\0", 1, DIXPI_BAD_FIELD, {0}, 0},
+    /* Descriptor format: bare; with its information; behind a command specific one; not valid; cut off in it. */
+    {"\x72\x05\x24\0\0\0\0\0", 8, 0, {.key = 5, .asc = 0x24}, 0},
+    {"\x72\x0b\x10\x02\0\0\0\x0c\0\x0a\x80\0\0\0\0\1\0\0\0\2", 20, 0, {0x100000002, 0xb, 0x10, 2, 1}, 0},
+    {"\x73\x03\x11\0\0\0\0\x18\1\x0a\0\0\0\0\0\0\0\0\0\0\0\x0a\x80\0\0\0\0\0\0\0\0\x63", 32, 0, {0x63, 3, 0x11, 0, 1}, 1},
+    {"\x72\x0b\x10\x02\0\0\0\x0c\0\x0a\0\0\0\0\0\1\0\0\0\2", 20, 0, {.key = 0xb, .asc = 0x10, .ascq = 2}, 0},
+    {"\x72\x0b\x10\x02\0\0\0\x0c\0\x0a\x80\0\0\0\0\1\0\0\0\2", 19, 0, {.key = 0xb, .asc = 0x10, .ascq = 2}, 0},
+};
+
+static void sent_senses(void) {
+    for (size_t i = 0; i < sizeof SENT / sizeof *SENT; i++) {
+        struct dixpi_sense s = {9, 9, 9, 9, 9}, wanted = SENT[i].status ? s : SENT[i].says;
+        uint32_t deferred = 77;
+        uint8_t *bytes = fenced(SENT[i].len);
+        memcpy(bytes, SENT[i].bytes, SENT[i].len);
+        IS(dixpi_sense_find(bytes, SENT[i].len, &s, &deferred) == SENT[i].status);
+        IS(deferred == (SENT[i].status ? 77 : SENT[i].deferred));
+        IS(s.info == wanted.info && s.key == wanted.key && s.asc == wanted.asc && s.ascq == wanted.ascq &&
+           s.has_info == wanted.has_info);
     }
 }
 
@@ -601,6 +649,7 @@ int main(void) {
     guards();
     tuples();
     senses();
+    sent_senses();
     commands();
     for (size_t i = 0; i < sizeof LAYOUTS / sizeof *LAYOUTS; i++)
         for (uint32_t type = 1; type <= 3; type++)

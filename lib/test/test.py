@@ -78,6 +78,7 @@ TYPES = {
     "cdb_decode": (c_uint32, c_void_p, c_size_t, cdb_at),
     "sense_encode": (c_uint32, sense_at, c_void_p, number_at),
     "sense_decode": (c_uint32, c_void_p, c_size_t, sense_at),
+    "sense_find": (c_uint32, c_void_p, c_size_t, sense_at, number_at),
     "sense_check": (c_uint32, sense_at, number_at),
     "version": (c_uint32,),
 }
@@ -181,6 +182,10 @@ holds("sense_check", dixpi.dixpi_sense_check(sense, by_target) == 8 and by_targe
 back = Sense()
 holds("sense_decode", dixpi.dixpi_sense_decode(out, 18, back) == 0 and bytes(back)[:12] == bytes(sense)[:12])
 holds("sense_decode, a length", dixpi.dixpi_sense_decode(out, 17, back) == 3)
+long = memory(bytes.fromhex("f0000b0000123458000000001003") + bytes(82))
+holds("sense_decode, of a device", dixpi.dixpi_sense_decode(long, 96, back) == 5)
+holds("sense_find", dixpi.dixpi_sense_find(long, 96, back, by_target) == 0 and by_target.value == 0)
+holds("the sense found", (back.key, back.asc, back.ascq, back.info) == (0xB, 0x10, 3, 0x1234))
 sense.info = 1 << 32
 wide = bytes.fromhex("720b10030000000c000a80000000000100000000")
 holds("sense_encode, 64 bits", dixpi.dixpi_sense_encode(sense, out, length) == 0 and length.value == 20)

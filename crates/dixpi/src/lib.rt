@@ -19,6 +19,6 @@ pub use blocks::{dixpi_generate, dixpi_remap, dixpi_verify, dixpi_verify_from};
 pub use commands::{dixpi_cdb_decode, dixpi_cdb_encode};
 pub use guards::{dixpi_crc16, dixpi_crc16_after, dixpi_crc16v, dixpi_ip_sum, dixpi_ip_sumv};
 pub use runs::{dixpi_run_begin, dixpi_run_finish, dixpi_run_update};
-pub use senses::{dixpi_sense_check, dixpi_sense_decode, dixpi_sense_encode};
+pub use senses::{dixpi_sense_check, dixpi_sense_decode, dixpi_sense_encode, dixpi_sense_find};
 pub use single::{dixpi_check, dixpi_tuple_read, dixpi_tuple_write};
 pub use status::dixpi_version;

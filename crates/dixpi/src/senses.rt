@@ -1,8 +1,9 @@
 //! Sense data.
 
-ghost use Rattle.std.specs.Prelude.{◌≡◌, ◌<◌, ◌≤◌, ◌⊎◌, ◌++◌, drop, length};
+ghost use Rattle.std.specs.Prelude.{◌≡◌, ◌<◌, ◌≤◌, ◌⊎◌, ◌++◌, Bool, drop, if◌then◌else◌, length, true};
 ghost use Rattle.pi_tuple.specs.declared.checks.Check.{Check};
-ghost use Rattle.sense_codes.specs.Checks.{Tells};
+ghost use Rattle.sense_codes.specs.Checks.{Tells as TellsCheck};
+ghost use Rattle.pi_blocks.specs.Seen.{Tells, TellsNone, is_cut_off};
 ghost use Rattle.sense_codes.specs.Written.{Fits, fault_of, written};
 ghost use Rattle.sense_codes.specs.declared.Sense.{Sense as AnySense};
 ghost use Rattle.sense_codes.specs.declared.decode.SenseFault.TheVariants.{Short, Form};
@@ -12,7 +13,7 @@ ghost use Rattle.pi_blocks.specs.Senses.{sense_fields, sense_of};
 ghost use Rattle.dixpi.specs.Layers.{by_target_of};
 
 use crate::status::{BAD_FIELD, BAD_LENGTH, OK};
-use pi_blocks::SenseFields;
+use pi_blocks::{Seen, SenseFields};
 use pi_tuple::Check;
 use sense_codes::{Layer, SenseFault};
 
@@ -53,6 +54,31 @@ pub extern "C" fn dixpi_sense_decode(bytes: &[u8], sense: &mut SenseFields) -> u
     }
 }
 
+/// Finds what sense data tell as devices send them (SPC-4, 4.5): response codes 70h to 73h, in buffers of any length from
+/// the qualifier on, with any vendor's bytes behind it. The information is that of the fixed format or of the first
+/// information descriptor, where it is valid. `deferred` is 1 where the sense is of an earlier command. Answers `OK`,
+/// `BAD_LENGTH` where the bytes end before the qualifier, or `BAD_FIELD` where no sense has their response code; then
+/// nothing is written.
+#[unsafe(no_mangle)]
+pub extern "C" fn dixpi_sense_find(bytes: &[u8], sense: &mut SenseFields, deferred: &mut u32) -> u32
+    ensures found { result ≡ 0 → (s : AnySense) × (late : Bool) × Tells bytes.now s late
+        × (sense.new ≡ sense_fields s) × (deferred.new ≡ (if late then 1 else 0)) }
+    ensures bad_length { result ≡ 3 → is_cut_off bytes.now ≡ true }
+    ensures bad_field { result ≡ 5 → TellsNone bytes.now Form }
+    ensures one_of { (result ≡ 0) ⊎ ((result ≡ 3) ⊎ (result ≡ 5)) }
+    ensures stays { ¬ (result ≡ 0) → (sense.new ≡ sense.old) × (deferred.new ≡ deferred.old) }
+{
+    match Seen::find(bytes) {
+        Ok(seen) => {
+            *sense = SenseFields::of(seen.sense);
+            *deferred = u32::from(seen.is_deferred);
+            OK
+        }
+        Err(SenseFault::Short) => BAD_LENGTH,
+        Err(SenseFault::Form) => BAD_FIELD,
+    }
+}
+
 fn number_of_check(check: Check) -> u32
     ensures { result ≡ number_of check }
 {
@@ -76,8 +102,8 @@ fn is_target(layer: Layer) -> u32
 /// the target made it (ABORTED COMMAND), and 0 where the adapter did (ILLEGAL REQUEST); it is written only then.
 #[unsafe(no_mangle)]
 pub extern "C" fn dixpi_sense_check(sense: &SenseFields, by_target: &mut u32) -> u32
-    ensures found { ¬ (result ≡ 0) → (l : Layer) × (c : Check) × Tells l c (sense_of sense.now) }
-    ensures only { (l : Layer) → (c : Check) → Tells l c (sense_of sense.now)
+    ensures found { ¬ (result ≡ 0) → (l : Layer) × (c : Check) × TellsCheck l c (sense_of sense.now) }
+    ensures only { (l : Layer) → (c : Check) → TellsCheck l c (sense_of sense.now)
         → (result ≡ number_of c) × (by_target.new ≡ by_target_of l) }
     ensures stays { result ≡ 0 → by_target.new ≡ by_target.old }
 {

@@ -8,4 +8,5 @@ pub mod MapLaws
 pub mod Maps
 pub mod Puts
 pub mod StayLaws
+pub mod Seeing
 pub mod Tuples

@@ -9,5 +9,6 @@ pub mod Marks
 pub mod Parts
 pub mod Puts
 pub mod Runs
+pub mod Seen
 pub mod Senses
 pub mod Single

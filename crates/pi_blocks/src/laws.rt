@@ -1,6 +1,6 @@
 //! Laws of what the calls answer and write. Nothing runs here.
 
-ghost use Rattle.std.specs.Prelude.{◌≡◌, Ok, ◌<◌, ◌^◌, ℕ, List, length, true};
+ghost use Rattle.std.specs.Prelude.{◌≡◌, Ok, ◌<◌, ◌^◌, ℕ, List, length, false, true};
 ghost use Rattle.cdb_codec.specs.Forms.{Fits, form};
 ghost use Rattle.cdb_codec.specs.declared.command.Cdb.{Cdb as AnyCdb};
 ghost use Rattle.pi_blocks.specs.Blocks.{Block};
@@ -9,6 +9,9 @@ ghost use Rattle.pi_blocks.specs.declared.commands.CdbFields.{CdbFields as AnyCo
 ghost use Rattle.pi_blocks.specs.Laws.{AreBytes, AreFineWhenMade, AreFineWhenMadeApart, AreFree, HasOneAnswer};
 ghost use Rattle.pi_blocks.specs.Laws.{IsUndone, MakesTuplesAlone, MakesTuplesApart, MapsTagsAlone, StayFine};
 ghost use Rattle.pi_blocks.specs.Layouts.{AreBlocks, is_good};
+ghost use Rattle.pi_blocks.specs.Seen.{Tells as TellsSense};
+ghost use Rattle.sense_codes.specs.Written.{Fits as FitsSense, written};
+ghost use Rattle.sense_codes.specs.declared.Sense.{Sense as AnySense};
 ghost use Rattle.pi_blocks.specs.declared.block.Want.{Want as AnyWant};
 ghost use Rattle.pi_blocks.specs.declared.layout.Layout.{Layout as AnyLayout};
 
@@ -51,6 +54,12 @@ pub fn made_blocks_are_fine()
         → is_good l ≡ true → w.app < 2 ^ 16 → AreFineWhenMade l w bytes }
     ensures apart { (l : AnyLayout) (w : AnyWant) (body meta : List ℕ)
         → is_good l ≡ true → w.app < 2 ^ 16 → AreFineWhenMadeApart l w body meta }
+{}
+
+/// What is told by the bytes that a sense is written as is that sense, of this command: so where the exact decoder answers,
+/// the finder says the same.
+pub fn a_written_sense_is_found()
+    ensures { (s : AnySense) → FitsSense s → TellsSense (written s) s false }
 {}
 
 /// The codec's bytes of a command are those of its numbers with flags, group and control 0: with these, encoder and

@@ -16,6 +16,7 @@ mod mapping;
 mod marks;
 mod parts;
 mod run;
+mod seen;
 mod sensing;
 mod single;
 
@@ -24,14 +25,15 @@ pub use block::{Found, Want};
 pub use checking::verify;
 pub use commands::CdbFields;
 pub use laws::{
-    a_check_has_one_answer, commands_that_are_read_are_written, made_blocks_are_fine,
-    making_writes_tuples_alone, mapped_blocks_stay_fine, mapping_back_undoes_mapping,
-    mapping_changes_tags_alone, plain_commands_are_the_codecs,
+    a_check_has_one_answer, a_written_sense_is_found, commands_that_are_read_are_written,
+    made_blocks_are_fine, making_writes_tuples_alone, mapped_blocks_stay_fine,
+    mapping_back_undoes_mapping, mapping_changes_tags_alone, plain_commands_are_the_codecs,
 };
 pub use layout::{Layout, Refusal, Unchecked};
 pub use making::generate;
 pub use mapping::remap;
 pub use parts::{Part, crc16v, ip_sumv};
 pub use run::Run;
+pub use seen::Seen;
 pub use sensing::SenseFields;
 pub use single::{TupleFields, check};

@@ -43,6 +43,25 @@ impl SenseFields {
         }
     }
 
+    /// The numbers of a sense.
+    pub fn of(sense: Sense) -> SenseFields
+        ensures { result ≡ sense_fields sense }
+    {
+        let Sense {
+            key,
+            asc,
+            ascq,
+            info,
+        } = sense;
+        SenseFields {
+            info: info.unwrap_or(0),
+            key,
+            asc,
+            ascq,
+            has_info: u8::from(info.is_some()),
+        }
+    }
+
     /// Writes the bytes of the sense to the front of `out`, 18 in fixed format, or 20 in descriptor format where the
     /// information wants 64 bits, and answers how many. The rest of `out` stays. Where the key isn't below 16 all
     /// stays, and the answer is `None`.
@@ -66,19 +85,7 @@ impl SenseFields {
         ensures only { (s : AnySense) → Fits s → bytes.now ≡ written s → result ≡ Ok (sense_fields s) }
         ensures fault { IfErr result (λ e. e ≡ fault_of bytes.now) }
     {
-        let Sense {
-            key,
-            asc,
-            ascq,
-            info,
-        } = Sense::decode(bytes)?;
-        Ok(SenseFields {
-            info: info.unwrap_or(0),
-            key,
-            asc,
-            ascq,
-            has_info: u8::from(info.is_some()),
-        })
+        Ok(SenseFields::of(Sense::decode(bytes)?))
     }
 
     /// Who found a block altered, and by which check, where the sense tells that.
