@@ -22,12 +22,12 @@ use Rattle.mirror_laws.specs.declared.marks.Marks.{Marks}
 use Rattle.mirror_volume.specs.declared.mirror.Mirror.{Mirror}
 use Rattle.std.specs.declared.alloc.AllocError.{AllocError}
 use Rattle.mirror_volume.specs.declared.repair.Repair.{Repair as Done}
-use Rattle.mirror_volume.specs.Passed.{AllBacked, AllOwn, GoOn, LegRun, NamesNoMedium, RanLegs, all_mediums, all_records, IsRepairOf, RepairBy, stretches_in, OpAsks, OpBy, OpRan, OpTells, Sides, HasLegDevices, IsRepairedAs, KeepsToWalk, RepairsAsWalk, StandsAt, half_of, mirror_setting, op_at, walked}
+use Rattle.mirror_volume.specs.Passed.{AllBacked, AllOwn, GoOn, LegRun, NamesNoMedium, RanLegs, all_mediums, all_records, armed_after, IsRepairOf, RepairBy, stretches_in, OpAsks, OpBy, OpRan, OpTells, Sides, HasLegDevices, IsRepairedAs, KeepsToWalk, RepairsAsWalk, StandsAt, half_of, mirror_setting, op_at, walked}
 use Rattle.mirror_volume.specs.declared.legs.Plan.{Plan}
 use Rattle.mirror_volume.specs.Enough.{opening_over}
 use Rattle.mirror_volume.specs.Plans.{IsMirror}
 use Rattle.mirror_volume.specs.Running.{CanGoOn}
-use Rattle.mirror_volume.proofs.Passed.{lines-append, op-lines, rose-later, unnamed-first, unnamed-last, all_backed-append, all_mediums-append, all_records-append, go_on-append, rose-add}
+use Rattle.mirror_volume.proofs.Passed.{lines-append, op-lines, rose-later, unnamed-first, unnamed-last, all_backed-append, all_mediums-append, all_records-append, armed-append, go_on-append, rose-add}
 use Rattle.mirror_command.proofs.Naming.{op-named}
 use Rattle.mirror_command.specs.Stages.{Broke, Finished, HasServedMirror, InStretches, OneMore, Served, Stage, repair_over, walk_over}
 use Rattle.rig_api.specs.State.{RigState}
@@ -46,13 +46,14 @@ pub record Fell (t : Table) (devices : List DeviceInfo) (runs : List LegRun) (be
   pub records : after.log ≡ before.log ++ all_records runs
   pub backed : AllBacked t devices runs
   pub medium : RoseBy (all_mediums runs) before.faults after.faults
+  pub armed : after.armed ≡ armed_after runs before.armed
 
 ran-fell : (t : Table) (devices : List DeviceInfo) (runs : List LegRun) (before after : RigState) → RanLegs t devices runs before after → Fell t devices runs before after
-ran-fell t devices runs before after h = record { standing = h.standing; faults = h.faults; records = h.records; backed = h.backed; medium = h.medium }
+ran-fell t devices runs before after h = record { standing = h.standing; faults = h.faults; records = h.records; backed = h.backed; medium = h.medium; armed = h.armed }
 
-altered-fell : (t : Table) (devices : List DeviceInfo) (runs : List LegRun) (before after : RigState) → runs ≡ [] → after.standing ≡ before.standing → before.faults ≤ after.faults → after.log ≡ before.log → Fell t devices runs before after
-altered-fell t devices runs before after none standing faults log = subst (λ (rs : List LegRun). Fell t devices rs before after) (sym none)
-    (record { standing = standing; faults = faults; records = log ∙ sym (append-nil before.log); backed = tt; medium = inl (omega (arith, faults)) })
+altered-fell : (t : Table) (devices : List DeviceInfo) (runs : List LegRun) (before after : RigState) → runs ≡ [] → after.standing ≡ before.standing → before.faults ≤ after.faults → after.log ≡ before.log → after.armed ≡ before.armed → Fell t devices runs before after
+altered-fell t devices runs before after none standing faults log armed = subst (λ (rs : List LegRun). Fell t devices rs before after) (sym none)
+    (record { standing = standing; faults = faults; records = log ∙ sym (append-nil before.log); backed = tt; medium = inl (omega (arith, faults)); armed = armed })
 
 op-fell : (op : Op) (t : Table) (devices : List DeviceInfo) (runs : List LegRun) (before after : RigState) → OpRan op t devices runs before after → Fell t devices runs before after
 op-fell (Fill seg byte) t devices runs before after h = ran-fell t devices runs before after h
@@ -63,7 +64,7 @@ op-fell (Write v n body app) t devices runs before after h = ran-fell t devices 
 op-fell (Fetch v n body) t devices runs before after h = ran-fell t devices runs before after h
 op-fell (WritePi v n body tuples) t devices runs before after h = ran-fell t devices runs before after h
 op-fell (FetchPi v n body tuples) t devices runs before after h = ran-fell t devices runs before after h
-op-fell (Overwrite dev lba change) t devices runs before after h = altered-fell t devices runs before after h.none h.standing h.faults h.records
+op-fell (Overwrite dev lba change) t devices runs before after h = altered-fell t devices runs before after h.none h.standing h.faults h.records h.armed
 op-fell Wait t devices runs before after h = ran-fell t devices runs before after h
 
 stretches-more : (s : Script) (devices : List DeviceInfo) (runs more : List LegRun) (used used' : ℕ) (before between after : RigState) → InStretches s devices runs used before between → Fell (table_of s devices) devices more between after
@@ -74,6 +75,7 @@ stretches-more s devices runs more used used' before between after h k g = recor
   records = k.records ∙ ap (λ es. es ++ all_records more) h.records ∙ append_assoc before.log (all_records runs) (all_records more) ∙ ap (λ es. before.log ++ es) (sym (all_records-append runs more));
   backed = all_backed-append (table_of s devices) devices runs more h.backed k.backed;
   medium = subst (λ n. RoseBy n before.faults after.faults) (sym (all_mediums-append runs more)) (rose-add (all_mediums runs) (all_mediums more) before.faults between.faults after.faults h.faults k.faults h.medium k.medium);
+  armed = k.armed ∙ ap (armed_after more) h.armed ∙ sym (armed-append runs more before.armed);
   goes = go_on-append s.schedule 0 used used' runs more h.goes g;
 }
 
@@ -102,6 +104,7 @@ module _ (s : Script) (devices : List DeviceInfo) (begun : Stage) where
       records = sym (append-nil begun.outside.log) ∙ ap (λ (rs : List LegRun). begun.outside.log ++ all_records rs) (sym runs);
       backed = subst (λ (rs : List LegRun). AllBacked t devices rs) (sym runs) tt;
       medium = subst (λ (rs : List LegRun). RoseBy (all_mediums rs) begun.outside.faults begun.outside.faults) (sym runs) (inl (omega arith));
+      armed = sym (ap (λ (rs : List LegRun). armed_after rs begun.outside.armed) runs);
       goes = subst (λ (rs : List LegRun). GoOn s.schedule 0 rs begun.used) (sym runs) used;
     };
     lines = subst (λ (rs : List Reply). RoseBy (medium_lines rs) begun.outside.faults begun.outside.faults) (sym replies) (inl (omega arith));

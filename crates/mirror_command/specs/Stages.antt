@@ -12,7 +12,7 @@ use Rattle.mirror_laws.specs.declared.marks.Marks.{Marks}
 use Rattle.mirror_laws.specs.Mirror.{Mirror as Walk, mirror_replies, mirror_walk}
 use Rattle.mirror_laws.specs.Repair.{WalkedRepair, mirror_repair}
 use Rattle.mirror_volume.specs.declared.mirror.Mirror.{Mirror}
-use Rattle.mirror_volume.specs.Passed.{AllBacked, AllOwn, GoOn, LegRun, NamesNoMedium, RanLegs, all_mediums, all_records, IsRepairOf, RepairBy, stretches_in, OpAsks, OpBy, OpRan, OpTells, Sides, StandsAt, half_of, mirror_setting, op_at}
+use Rattle.mirror_volume.specs.Passed.{AllBacked, AllOwn, GoOn, LegRun, NamesNoMedium, RanLegs, all_mediums, all_records, armed_after, IsRepairOf, RepairBy, stretches_in, OpAsks, OpBy, OpRan, OpTells, Sides, StandsAt, half_of, mirror_setting, op_at}
 use Rattle.mirror_volume.specs.Enough.{opening_over}
 use Rattle.mirror_volume.specs.Plans.{sides_of}
 use Rattle.rig_api.specs.State.{RigState}
@@ -51,13 +51,14 @@ Stood s devices begun zero now = now ≡ begun
 Stood s devices begun (suc k) now = (old : Stage) × (Stood s devices begun k old × OneMore s devices k old now)
 
 -- The records between these moments are those of the runs, a stretch for each and in their order, and each stretch backs its run's replies,
--- whose lines that name the medium are at most as many as the count of faults rose. The runs go on in the schedule, one where the one before it ended.
+-- whose lines that name the medium are at most as many as the count of faults rose. The last one's faults are armed. The runs go on in the schedule, one where the one before it ended.
 pub record InStretches (s : Script) (devices : List DeviceInfo) (runs : List LegRun) (used : ℕ) (before after : RigState) : Type 0 where
   pub standing : after.standing ≡ before.standing
   pub faults : before.faults ≤ after.faults
   pub records : after.log ≡ before.log ++ all_records runs
   pub backed : AllBacked (table_of s devices) devices runs
   pub medium : RoseBy (all_mediums runs) before.faults after.faults
+  pub armed : after.armed ≡ armed_after runs before.armed
   pub goes : GoOn s.schedule 0 runs used
 
 -- After k ops, over any rig: the lines of the replies that name the medium are at most as many as the count of faults rose.

@@ -1,12 +1,13 @@
 -- Runs on the legs: none, one, and some after others.
 use Rattle.std.proofs.Common.{ℕ, ◌≡◌, ◌+◌, ◌≤◌, List, [], ◌∷◌, ◌++◌, length, min, inl, refl, sym, ap, subst, ◌∙◌, append_assoc, append-nil, arith}
+use Rattle.fault_schedule.specs.declared.fault.FaultLine.{FaultLine}
 use Rattle.rig_api.specs.Target.{Stored}
 use Rattle.script_text.specs.declared.script.Script.{Script}
 use Rattle.mirror_volume.specs.LegsPassed.{Ran, RoseBy, medium_lines, Stack}
 use Rattle.mirror_volume.proofs.LegsPassed.{known_from}
 use Rattle.volume_table.specs.declared.device.DeviceInfo.{DeviceInfo}
 use Rattle.volume_table.specs.Tables.{Table}
-use Rattle.mirror_volume.specs.LegRuns.{AllBacked, AllFallen, AllWalked, GoOn, LegRun, RanLegs, all_mediums, all_records}
+use Rattle.mirror_volume.specs.LegRuns.{AllBacked, AllFallen, AllWalked, GoOn, LegRun, RanLegs, all_mediums, all_records, armed_after}
 use Rattle.rig_api.specs.State.{RigState}
 
 pub all_records-append : (xs ys : List LegRun) → all_records (xs ++ ys) ≡ all_records xs ++ all_records ys
@@ -29,6 +30,10 @@ pub go_on-append : (schedule : List (ℕ × ℕ)) (used between used' : ℕ) (xs
 go_on-append schedule used between used' [] ys h k = subst (λ n. GoOn schedule n ys used') h k
 go_on-append schedule used between used' (x ∷ xs) ys h k = (h.0, go_on-append schedule (used + min (length x.words) x.stack.machine.steps) between used' xs ys h.1 k)
 
+pub armed-append : (xs ys : List LegRun) (was : List FaultLine) → armed_after (xs ++ ys) was ≡ armed_after ys (armed_after xs was)
+armed-append [] ys was = refl
+armed-append (x ∷ xs) ys was = armed-append xs ys x.own.faults
+
 pub all_mediums-append : (xs ys : List LegRun) → all_mediums (xs ++ ys) ≡ all_mediums xs + all_mediums ys
 all_mediums-append [] ys = omega arith
 all_mediums-append (x ∷ xs) ys = let e = all_mediums-append xs ys in omega (arith, e)
@@ -49,6 +54,7 @@ ran-append t devices xs ys before between after h k = record {
   records = k.records ∙ ap (λ es. es ++ all_records ys) h.records ∙ append_assoc before.log (all_records xs) (all_records ys) ∙ ap (λ es. before.log ++ es) (sym (all_records-append xs ys));
   backed = all_backed-append t devices xs ys h.backed k.backed;
   medium = subst (λ n. RoseBy n before.faults after.faults) (sym (all_mediums-append xs ys)) (rose-add (all_mediums xs) (all_mediums ys) before.faults between.faults after.faults h.faults k.faults h.medium k.medium);
+  armed = k.armed ∙ ap (armed_after ys) h.armed ∙ sym (armed-append xs ys before.armed);
   told = λ us e none.
       (let many = all_mediums-append xs ys in
       let x = h.told us e (omega (arith, many, none)) in
@@ -66,6 +72,7 @@ pub record AreSame (before after : RigState) : Type 0 where
   pub standing : after.standing ≡ before.standing
   pub log : after.log ≡ before.log
   pub faults : after.faults ≡ before.faults
+  pub armed : after.armed ≡ before.armed
 
 pub ran-none : (t : Table) (devices : List DeviceInfo) (before after : RigState) → AreSame before after → RanLegs t devices [] before after
 ran-none t devices before after h = record {
@@ -74,6 +81,7 @@ ran-none t devices before after h = record {
   records = h.log ∙ sym (append-nil before.log);
   backed = tt;
   medium = (let e = h.faults in inl (omega (arith, e)));
+  armed = h.armed;
   told = λ us e none. (us, (h.units ∙ e, refl));
   fallen = λ us e. (us, (h.units ∙ e, refl));
 }
@@ -86,10 +94,11 @@ ran-one s t devices words before after r h = record {
   records = h.records ∙ ap (λ es. before.log ++ es) (sym (append-nil h.more));
   backed = (h.backed, (h.sends, tt));
   medium = rose-one (medium_lines r.replies.items) before.faults after.faults h.medium;
+  armed = h.armed_there;
   told = λ us e none. (let known = known_from before after h.tells_blocks us e in (known.after, (known.ended, (known.after, (h.walked known (none-one (medium_lines r.replies.items) none), refl)))));
   fallen = λ us e. (let known = known_from before after h.tells_blocks us e in (known.after, (known.ended, (known.after, (h.fell known, refl)))));
 }
 
 -- nothing was run
 pub ran-nothing : (t : Table) (devices : List DeviceInfo) (now : RigState) → RanLegs t devices [] now now
-ran-nothing t devices now = ran-none t devices now now (record { units = refl; standing = refl; log = refl; faults = refl })
+ran-nothing t devices now = ran-none t devices now now (record { units = refl; standing = refl; log = refl; faults = refl; armed = refl })

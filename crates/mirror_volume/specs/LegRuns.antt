@@ -1,5 +1,6 @@
 use Rattle.std.specs.Prelude.{ℕ, ◌≡◌, ◌+◌, ◌<◌, ◌≤◌, min, List, [], ◌∷◌, ◌++◌, drop, length, replicate, set, Option, Some, None}
 use Rattle.bio_core.specs.declared.fate.Why.{Why}
+use Rattle.fault_schedule.specs.declared.fault.FaultLine.{FaultLine}
 use Rattle.rig_api.specs.Log.{LogEntry}
 use Rattle.rig_api.specs.State.{RigState}
 use Rattle.stack_ops.specs.declared.reply.BadBlock.{BadBlock}
@@ -48,6 +49,11 @@ abbrev pub all_mediums : List LegRun → ℕ
 all_mediums [] = 0
 all_mediums (r ∷ runs) = medium_lines (replies_of r) + all_mediums runs
 
+-- the faults that are armed after these runs: those of the last one's script, or those from before
+abbrev pub armed_after : List LegRun → List FaultLine → List FaultLine
+armed_after [] was = was
+armed_after (r ∷ runs) was = armed_after runs r.own.faults
+
 -- The records of each back its replies, and are those that its steps send by its words.
 abbrev pub AllBacked : Table → List DeviceInfo → List LegRun → Type 0
 AllBacked t devices [] = Unit {0}
@@ -73,7 +79,7 @@ pub record NamesNoMedium (runs : List LegRun) (replies : List Reply) : Type 0 wh
   pub legs : all_mediums runs ≡ 0
   pub report : medium_lines replies ≡ 0
 
--- These were run over a rig, one after another: their records stand there in order, and back their replies, whose lines that name the medium are at most as many as the count of faults rose.
+-- These were run over a rig, one after another: their records stand there in order, and back their replies, whose lines that name the medium are at most as many as the count of faults rose. The last one's faults are armed.
 -- Where the rig tells its blocks, and no line of theirs names the medium, each was done at the target; and whatever lines name it, so it was but for what the store calls that failed left.
 pub record RanLegs (t : Table) (devices : List DeviceInfo) (runs : List LegRun) (before after : RigState) : Type 0 where
   pub standing : after.standing ≡ before.standing
@@ -81,6 +87,7 @@ pub record RanLegs (t : Table) (devices : List DeviceInfo) (runs : List LegRun) 
   pub records : after.log ≡ before.log ++ all_records runs
   pub backed : AllBacked t devices runs
   pub medium : RoseBy (all_mediums runs) before.faults after.faults
+  pub armed : after.armed ≡ armed_after runs before.armed
   pub told : (us : List Stored) → before.units ≡ Some us → all_mediums runs ≡ 0 → (left : List Stored) × ((after.units ≡ Some left) × AllWalked t us runs left)
   pub fallen : (us : List Stored) → before.units ≡ Some us → (left : List Stored) × ((after.units ≡ Some left) × AllFallen t us runs left)
 

@@ -31,6 +31,7 @@ pub record Altered (dev lba : ℕ) (change : Change) (runs : List LegRun) (befor
   pub standing : after.standing ≡ before.standing
   pub faults : before.faults ≤ after.faults
   pub records : after.log ≡ before.log
+  pub armed : after.armed ≡ before.armed
   pub told : (us : List Stored) → before.units ≡ Some us → Calm before.faults after.faults → after.units ≡ Some (with_block us dev lba (changed us change (block_at us dev lba)))
 
 -- What an op of a mirror's script does, by its runs on the legs: over any rig, whatever these replied.

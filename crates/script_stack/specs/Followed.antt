@@ -121,6 +121,8 @@ pub record Ran (s : Script) (t : Table) (devices : List DeviceInfo) (words : Lis
   pub faults : old.faults ≤ new.faults
   pub more : List LogEntry
   pub records : new.log ≡ old.log ++ more
+  -- The faults that the rig has armed are the script's.
+  pub armed_there : new.armed ≡ s.faults
   -- The rig tells its blocks afterwards exactly where it did before.
   pub tells_blocks : is_some new.units ≡ is_some old.units
   -- The records back the replies.

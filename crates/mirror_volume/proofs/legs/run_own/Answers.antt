@@ -32,7 +32,7 @@ returns-in_err-stack-clause-ran g c =
     record {
       runs = [];
       ran = ran-none (table_of c.args.plan.now.script c.args.plan.now.devices.items) c.args.plan.now.devices.items _ _
-          (record { units = ap (λ (s : RigState). s.units) same; standing = ap (λ (s : RigState). s.standing) same; log = ap (λ (s : RigState). s.log) same; faults = ap (λ (s : RigState). s.faults) same });
+          (record { units = ap (λ (s : RigState). s.units) same; standing = ap (λ (s : RigState). s.standing) same; log = ap (λ (s : RigState). s.log) same; faults = ap (λ (s : RigState). s.faults) same; armed = ap (λ (s : RigState). s.armed) same });
       goes_on = refl;
       own = tt;
       came = search rules;

@@ -72,6 +72,7 @@ returns-clause-ran g c =
       faults = subst (λ n. n ≤ (g.R.Rig.state end).faults) count o.goes.faults;
       more = o.goes.more;
       records = o.goes.records ∙ ap (λ (x : RigState). x.log ++ o.goes.more) armed;
+      armed_there = c.run_all.ensures.rig.armed ∙ ap (λ (x : RigState). x.armed) armed;
       backed = backed_by s t devices words begun r (g.R.Rig.state ready).image (g.R.Rig.state end).image before after c.a_script_run_is_backed.ensures o;
       sends = sent_by s t devices words begun r (g.R.Rig.state ready).image (g.R.Rig.state end).image before after c.a_finished_stack_has_sent.ensures.few c.a_finished_stack_has_sent.ensures.all o;
       medium = subst (λ n. RoseBy (medium_lines r.replies.items) n (g.R.Rig.state end).faults) count (few_lines s t devices words begun r (g.R.Rig.state ready).image (g.R.Rig.state end).image before after c.a_finished_stack_names_the_medium_seldom.ensures o);
