@@ -10,12 +10,9 @@ ghost use Rattle.block_path.specs.Routes.{wire_size};
 ghost use Rattle.block_path.specs.WayOut.{to_wire};
 ghost use Rattle.rig_api.specs.Passed.{unless};
 ghost use Rattle.bio_core.specs.declared.fate.Fate.TheVariants.{Good};
-ghost use Rattle.cdb_codec.specs.Forms.{Fits, form};
+ghost use Rattle.cdb_codec.specs.Forms.{Fits};
 ghost use Rattle.cdb_codec.specs.declared.choice.Dir2.TheVariants.{Out};
 ghost use Rattle.pi_tuple.specs.Finds.{is_zero};
-ghost use Rattle.rig_api.specs.Log.{HasRoom};
-ghost use Rattle.rig_api.specs.Telling.{greatest_size};
-ghost use Rattle.rig_api.specs.State.{Exchanged};
 ghost use Rattle.dix_adapter.specs.Carried.{Gathers, WasSent, Unsent, any_fails, command_for, fails, is_bad_write, out_of, sends, sends_first, unsent};
 ghost use Rattle.dix_adapter.specs.Walking.{HasBlock, WentPast, cells_ahead};
 ghost use Rattle.dix_adapter.specs.Outcomes.{done_of as spec_done, rest_of};
@@ -65,7 +62,9 @@ impl Adapter {
             return;
         }
         let count = fill_labels(req, &mut scratch.labels);
-        let outcome = self.send(req, count, rig, &scratch.labels, &scratch.frames[..end]);
+        let cdb = self.command(req, Dir2::Out, count).encode();
+        let (dev, out) = (req[0].dev, &scratch.frames[..end]);
+        let outcome = rig.exchange(dev, &cdb, &scratch.labels, out, &mut []);
         set_fates(&outcome, count, fates);
     }
 
@@ -177,29 +176,6 @@ impl Adapter {
             self.ty, dir, req[0].lba, count, protect, self.app, self.mask,
         )
     }
-
-    /// Hands the frames of a group to its device.
-    fn send<R: Rig>(
-        &self,
-        req: &[Bio],
-        count: u32,
-        rig: &mut R,
-        labels: &[Label],
-        frames: &[u8],
-    ) -> Outcome
-        requires protect { IsProtect self.now.protect }
-        requires some { 1 ≤ length req.now }
-        requires count { 1 ≤ count }
-        requires ends { (first_of req.now).lba + count < 2 ^ 64 }
-        requires device { (first_of req.now).dev < (R.state rig.old).standing.devices }
-        requires spare { HasRoom (greatest_size (R.state rig.old).standing) 1 count (R.state rig.old).room }
-        ensures fits { Fits (command_for self.now Out (first_of req.now).lba count) }
-        ensures exchanged { Exchanged (R.state rig.old) (R.state rig.new)
-            (first_of req.now).dev (form (command_for self.now Out (first_of req.now).lba count)) labels.now frames.now [] [] result }
-    {
-        let cdb = self.command(req, Dir2::Out, count);
-        rig.exchange(req[0].dev, &cdb.encode(), labels, frames, &mut [])
-    }
 }
 
 /// The labels of a group's blocks in order, and how many they are.
@@ -232,16 +208,6 @@ fn add_labels(bio: &Bio, labels: &mut Vec<Label>)
     }
 }
 
-fn add_good(count: u32, fates: &mut Vec<Fate>)
-    requires { length fates.old.items + count ≤ vec_capacity fates.old }
-    ensures items { fates.new.items ≡ fates.old.items ++ replicate count Good }
-    ensures capacity { vec_capacity fates.new ≡ vec_capacity fates.old }
-{
-    for _ in 0..count {
-        fates.push_reserved(Fate::Good);
-    }
-}
-
 fn fate_out(found: Option<Check>) -> Fate
     ensures { (frame : List ℕ) → result ≡ unsent (unless found frame) }
 {
@@ -258,7 +224,9 @@ fn set_fates(outcome: &Outcome, count: u32, fates: &mut Vec<Fate>)
     ensures capacity { vec_capacity fates.new ≡ vec_capacity fates.old }
 {
     fates.clear();
-    add_good(done_of(outcome, count), fates);
+    for _ in 0..done_of(outcome, count) {
+        fates.push_reserved(Fate::Good);
+    }
     add_rest(outcome, count, fates);
 }
 

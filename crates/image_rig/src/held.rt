@@ -1,9 +1,8 @@
 //! What is kept, and the room for more.
 
-ghost use Rattle.std.specs.Prelude.{◌≡◌, ◌+◌, ◌≤◌, ◌<◌, ◌++◌, [], ◌∷◌, true, length, take, drop, OnOk};
-ghost use Rattle.image_rig.specs.Entries.{spare};
+ghost use Rattle.std.specs.Prelude.{◌≡◌, ◌+◌, ◌≤◌, ◌<◌, [], length, take, drop, OnOk};
 ghost use Rattle.image_rig.specs.Logs.{logged, room_in};
-ghost use Rattle.rig_api.specs.Log.{HasRoom, entry_at, has_key};
+ghost use Rattle.rig_api.specs.Log.{HasRoom, entry_at};
 ghost use Rattle.pi_tuple.specs.declared.TheConstants.{LARGEST_BLOCK};
 
 use crate::kept::Kept;
@@ -89,52 +88,6 @@ impl Log {
         self.kept.reserve(records as usize)?;
         self.free = records as usize;
         Ok(())
-    }
-
-    /// Appends a record, in room that was made before.
-    pub(crate) fn append(&mut self, what: Record, labels: &[Label], moved: &[u8])
-        requires records { 1 ≤ self.old.free }
-        requires labels { length labels.now ≤ spare self.old.labels }
-        requires moved { length moved.now ≤ spare self.old.moved }
-        requires key { has_key what.outcome.sense ≡ true }
-        ensures appended { logged self.new ≡ logged self.old ++ (record { what = what; labels = labels.now; moved = moved.now } ∷ []) }
-        ensures room_records { self.old.free ≤ self.new.free + 1 }
-        ensures room_labels { spare self.old.labels ≤ spare self.new.labels + length labels.now }
-        ensures room_moved { spare self.old.moved ≤ spare self.new.moved + length moved.now }
-    {
-        let kept = Kept {
-            what,
-            labels_at: self.labels.len(),
-            labels_len: labels.len(),
-            moved_at: self.moved.len(),
-            moved_len: moved.len(),
-        };
-        put_all(&mut self.labels, labels);
-        put_all(&mut self.moved, moved);
-        put_last(&mut self.kept, kept);
-        self.free -= 1;
-    }
-}
-
-fn put_all<T: Copy>(held: &mut Vec<T>, more: &[T])
-    requires { length more.now ≤ spare held.old }
-    ensures items { held.new.items ≡ held.old.items ++ more.now }
-    ensures room { spare held.old ≤ spare held.new + length more.now }
-{
-    match held.extend_from_slice(more) {
-        Ok(()) => {}
-        Err(_) => unreachable!(),
-    }
-}
-
-fn put_last(held: &mut Vec<Kept>, one: Kept)
-    requires { 1 ≤ spare held.old }
-    ensures items { held.new.items ≡ held.old.items ++ (one ∷ []) }
-    ensures room { spare held.old ≤ spare held.new + 1 }
-{
-    match held.push(one) {
-        Ok(()) => {}
-        Err(_) => unreachable!(),
     }
 }
 

@@ -1,8 +1,7 @@
 //! The steps of a stack, to the end.
 
-ghost use Rattle.std.specs.Prelude.{◌≡◌, ◌≤◌, List, length};
+ghost use Rattle.std.specs.Prelude.{◌≡◌, ◌≤◌, length};
 ghost use Rattle.rig_api.specs.State.{Stays as RigStays};
-ghost use Rattle.stack_laws.specs.Runs.{ScheduleEntry};
 ghost use Rattle.stack_core.specs.Going.{StandsOver, Went};
 ghost use Rattle.stack_core.specs.Stacks.{GoesOn, HasStep, IsFinished, StackStays, plan_in};
 ghost use Rattle.script_stack.specs.Sends.{SendsBy, entries_of};
@@ -29,23 +28,6 @@ fn run_schedule<R: Rig>(stack: &mut Stack, schedule: &[(u32, u32)], rig: &mut R)
     }
 }
 
-/// Does the first step that may be taken, until all ops have ended.
-fn run_rest<R: Rig>(stack: &mut Stack, rig: &mut R)
-    requires { StandsOver stack.old (R.state rig.old) }
-    ensures stands { StandsOver stack.new (R.state rig.new) }
-    ensures stays { StackStays stack.old stack.new }
-    ensures rig { RigStays (R.state rig.old) (R.state rig.new) }
-    ensures goes { GoesOn (R.state rig.old) (R.state rig.new) }
-    ensures went { Went stack.old (R.state rig.old) stack.new (R.state rig.new) }
-    ensures ended { IsFinished stack.new }
-    ensures sends { (es : List ScheduleEntry) → (HasStep (plan_in stack.old.sheet) stack.old.machine → length es ≤ stack.old.machine.steps)
-        → SendsBy es stack.old stack.new (R.state rig.old).log (R.state rig.new).log }
-{
-    while !stack.finished() {
-        stack.step(0, 0, rig);
-    }
-}
-
 /// Lets all ops of a stack come to their ends: by the steps of these words and cuts, then always by the first step that
 /// may be taken.
 pub fn run_all<R: Rig>(stack: &mut Stack, schedule: &[(u32, u32)], rig: &mut R)
@@ -59,5 +41,7 @@ pub fn run_all<R: Rig>(stack: &mut Stack, schedule: &[(u32, u32)], rig: &mut R)
     ensures sends { stack.old.machine.steps ≡ 0 → SendsBy (entries_of schedule.now) stack.old stack.new (R.state rig.old).log (R.state rig.new).log }
 {
     run_schedule(stack, schedule, rig);
-    run_rest(stack, rig);
+    while !stack.finished() {
+        stack.step(0, 0, rig);
+    }
 }
