@@ -1,5 +1,5 @@
-mod Ways
-mod Holds
+pub mod Ways
+pub mod Holds
 mod Steps
 mod Delivery
 mod Whole

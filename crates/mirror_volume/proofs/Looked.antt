@@ -21,8 +21,6 @@ use Rattle.script_text.specs.declared.script.Script.{Script}
 use Rattle.mirror_volume.specs.LegsPassed.{HasWalked, AreStored}
 use Rattle.mirror_laws.specs.OnLegs.{data_read, landed_by, why_of, whys_read}
 use Rattle.mirror_laws.specs.Repair.{good, reading}
-use Rattle.mirror_laws.proofs.Pieces.{each_shift}
-use Rattle.mirror_laws.proofs.WriteByLegs.{each_same}
 use Rattle.mirror_volume.specs.declared.piece.Piece.{Piece}
 use Rattle.mirror_volume.specs.Inner.{first_label, first_virt, pages_for, read_pi_script}
 use Rattle.mirror_volume.specs.Legs.{ReadPiOnLeg, blocks_of, by_app, mirror_setting, tuple_landed, tuples_read}
@@ -137,6 +135,14 @@ pub record IsLooked (size half : ℕ) (p : Piece) : Type 0 where
   pub small : size ≤ 4096
   pub inside : p.v + p.n ≤ half
 
+pub looked-part : (size half : ℕ) (p : Piece) → IsLooked size half p → (a c : ℕ) → 1 ≤ c → a + c ≤ p.n → IsPieceWithTuples size half (part_of p (a, c))
+looked-part size half p fit a c some within =
+    let few = fit.few in
+    let small = fit.small in
+    let inside = fit.inside in
+    let less : c * size ≤ 128 * size = mul-le-mul_right size (omega (arith, few, within)) in
+    record { some = some; room = omega (arith, less, small, few, within); inside = omega (arith, inside, within) }
+
 module _ (law : LookLaw) (s : Script) (t : Table) (half : ℕ) (is : IsMirrorScript s t half) (us : List Stored) (made : MadeFor t (map info_of (shapes_of us)) s.block) (stored : AreStored us)
     (p : Piece) (fit : IsLooked s.block half p) (block : ℕ → Block)
     (named : (a c j : ℕ) → record { op = p.op; k = first_label (part_of p (a, c)) + j; virt = first_virt half (part_of p (a, c)) + j } ≡ block (a + j)) where
@@ -155,14 +161,6 @@ module _ (law : LookLaw) (s : Script) (t : Table) (half : ℕ) (is : IsMirrorScr
   abbrev pub brings : ℕ → List ℕ
   brings j = tuple_landed s.block (came j)
 
-  part-fits : (a c : ℕ) → 1 ≤ c → a + c ≤ p.n → IsPieceWithTuples s.block half (part_of p (a, c))
-  part-fits a c some within =
-      let few = fit.few in
-      let small = fit.small in
-      let inside = fit.inside in
-      let less : c * s.block ≤ 128 * s.block = mul-le-mul_right s.block (omega (arith, few, within)) in
-      record { some = some; room = omega (arith, less, small, few, within); inside = omega (arith, inside, within) }
-
   -- the request of a stretch
   record PartLook (a c : ℕ) (left : List Stored) (run : LegRun) : Type 0 where
     pub left_is : left ≡ us
@@ -173,7 +171,7 @@ module _ (law : LookLaw) (s : Script) (t : Table) (half : ℕ) (is : IsMirrorScr
   part-look : (a c : ℕ) (left : List Stored) (run : LegRun) → 1 ≤ c → a + c ≤ p.n → run.own ≡ read_pi_script s half (part_of p (a, c)) → HasWalked run.own t us left (pool_of run) run.records (replies_of run) → PartLook a c left run
   part-look a c left run some within own w =
       let mine = subst (λ (x : Script). HasWalked x t us left (pool_of run) run.records (replies_of run)) own w in
-      let r = law s t half (part_of p (a, c)) us left (pool_of run) run.records (replies_of run) is (part-fits a c some within) made stored mine in
+      let r = law s t half (part_of p (a, c)) us left (pool_of run) run.records (replies_of run) is (looked-part s.block half p fit a c some within) made stored mine in
       let bs = blocks-are half p block named a c in
       let whys : map by_app (whys_read leg (blocks_of half (part_of p (a, c))) (blocks_told us)) ≡ each_from a c finds =
       ap (λ (xs : List Block). map by_app (whys_read leg xs (blocks_told us))) bs ∙ ap (map by_app) (map-each (λ b. why_of (reading leg b (blocks_told us))) a c block)

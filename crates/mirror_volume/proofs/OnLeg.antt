@@ -148,7 +148,7 @@ module _ (s : Script) (t : Table) (half : ℕ) (p : Piece) (is : IsMirrorScript 
     cells_are = body_cells size pages (n * size) k (pages_room (n * size)) (pages_least (n * size)) (block_ends size k n l)
 
     -- and what they hold, where its data stand at the begin of the pages
-    data_there : (bytes tail : List ℕ) → length bytes ≡ n * size → gather 0 (cells_at k) (bytes ++ tail) ≡ take size (drop (k * size) bytes)
+    pub data_there : (bytes tail : List ℕ) → length bytes ≡ n * size → gather 0 (cells_at k) (bytes ++ tail) ≡ take size (drop (k * size) bytes)
     data_there bytes tail e =
         let ends = block_ends size k n l in
         let a = length-append bytes tail in

@@ -49,11 +49,11 @@ use Rattle.mirror_volume.proofs.Wrote.{Goes, standing, write-goes}
 -- ---- a stored block is changed
 
 -- a unit has the address
-record IsSpot (us : List Stored) (dev lba : ℕ) : Type 0 where
+pub record IsSpot (us : List Stored) (dev lba : ℕ) : Type 0 where
   pub there : dev < length us
   pub inside : lba - (unit_at us dev).first < length (unit_at us dev).blocks
 
-spot : (us : List Stored) (ty : PiType) (size dev lba : ℕ) → IsOn (map info_of (shapes_of us)) ty size dev lba 1 → IsSpot us dev lba
+pub spot : (us : List Stored) (ty : PiType) (size dev lba : ℕ) → IsOn (map info_of (shapes_of us)) ty size dev lba 1 → IsSpot us dev lba
 spot us ty size dev lba h =
     let l = known-in us dev h.known in
     let d = device-is us dev l in
@@ -64,7 +64,7 @@ spot us ty size dev lba h =
 here-is : (us : List Stored) (dev lba : ℕ) → IsSpot us dev lba → get_or (blocks_told us) (cell_in (shapes_of us) dev lba) [] ≡ block_at us dev lba
 here-is us dev lba h = ap (λ c. get_or (blocks_told us) c []) (cell-is us dev lba h.there) ∙ told-at us dev (lba - (unit_at us dev).first) h.there h.inside
 
-put-here : (us : List Stored) (dev lba : ℕ) (block : List ℕ) → IsSpot us dev lba → blocks_told (with_block us dev lba block) ≡ set (blocks_told us) (cell_in (shapes_of us) dev lba) block
+pub put-here : (us : List Stored) (dev lba : ℕ) (block : List ℕ) → IsSpot us dev lba → blocks_told (with_block us dev lba block) ≡ set (blocks_told us) (cell_in (shapes_of us) dev lba) block
 put-here us dev lba block h =
     let inside = h.inside in
     told-puts us dev (lba - (unit_at us dev).first) (block ∷ []) h.there (omega (arith, inside)) ∙ ap (λ c. set (blocks_told us) c block) (sym (cell-is us dev lba h.there))

@@ -95,7 +95,7 @@ needs-long size [] others e = refl
 needs-long size (one ∷ ones) [] e = absurd (omega (arith, e))
 needs-long size (one ∷ ones) (other ∷ others) e = ap suc (needs-long size ones others (omega (arith, e)))
 
-marks-long : (u : ℕ) (ns : List Need) (whys : List (Option Why)) (marks : List Marks) → length (marks_mended u ns whys marks) ≡ length marks
+pub marks-long : (u : ℕ) (ns : List Need) (whys : List (Option Why)) (marks : List Marks) → length (marks_mended u ns whys marks) ≡ length marks
 marks-long u [] whys marks = refl
 marks-long u (Fine ∷ ns) whys marks = marks-long (suc u) ns whys marks
 marks-long u (Lost ∷ ns) whys marks = marks-long (suc u) ns whys marks

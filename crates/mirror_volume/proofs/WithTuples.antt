@@ -47,7 +47,7 @@ later_of at n xs gap ys rest e z =
     ap (λ t. take n (drop at t)) (sym (append_assoc xs gap (ys ++ rest))) ∙ ap (take n) (drop_at (xs ++ gap) (ys ++ rest) at (omega (arith, a, e))) ∙ take_at ys rest n z
 
 -- of the first pages as of all
-within_pages : (at n more : ℕ) (all : List ℕ) → n ≤ more → take n (drop at all) ≡ take n (drop at (take (at + more) all))
+pub within_pages : (at n more : ℕ) (all : List ℕ) → n ≤ more → take n (drop at all) ≡ take n (drop at (take (at + more) all))
 within_pages at n more all l = sym (ap (take n) (drop-take at more all) ∙ take-take n more (drop at all) l)
 
 module _ (s : Script) (t : Table) (half : ℕ) (p : Piece) (is : IsMirrorScript s t half) (fits : IsPieceWithTuples s.block half p) (us : List Stored) (law : TargetSuits)

@@ -5,6 +5,7 @@ pub mod Plans
 pub mod Premises
 pub mod Rows
 pub mod Running
+pub mod Spared
 pub mod Inner
 pub mod Legs
 pub mod MirrorScript
