@@ -18,6 +18,7 @@ use Rattle.mirror_volume.specs.declared.mirror.Mirror.{Mirror}
 use Rattle.mirror_volume.proofs.Enough.{repaired-all}
 use Rattle.mirror_volume.specs.Enough.{WasEnough}
 use Rattle.mirror_volume.specs.Premises.{HoldsBytes, IsFormedMirror, IsOneGoodRun, IsStillMirror}
+use Rattle.mirror_command.proofs.Sparing.{kept-block}
 use Rattle.mirror_command.specs.Stages.{Broke, Finished, HasServedMirror, stage_of}
 use Rattle.mirror_command.specs.Verdict.{HasMirrored, IsBegun, StoppedMidway}
 use Rattle.mirror_command.specs.declared.mirrored.Mirrored.{Mirrored}
@@ -122,6 +123,9 @@ module _ (law : EnoughLaw) (by_form : FormedLaw) (unfaulted : StillLaw) (s : Scr
       still = still run ended known none;
     };
     failing = λ known. ended.faults known.before known.began;
+    spared = λ known u leg p fine.
+        kept-block s devices known.before (over-told s name devices old told begun known.before up known.began) u p leg (stage_of begun [] told) known.began up.starts.marks run.mirror run.repair.repaired run.repair.lost new ended
+        known.after known.ended fine;
   }
 
   pub midway : Broke s devices (stage_of begun [] told) new → StoppedMidway s name old new

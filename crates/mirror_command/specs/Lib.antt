@@ -1,4 +1,5 @@
 pub mod Passed
+pub mod Spared
 pub mod Stages
 pub mod Texts
 pub mod Verdict

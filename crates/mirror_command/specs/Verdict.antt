@@ -1,4 +1,4 @@
-use Rattle.std.specs.Prelude.{All, ℕ, ◌≡◌, ◌*◌, ◌⊎◌, replicate, List, [], ◌++◌, is_some, Some, None, Ok}
+use Rattle.std.specs.Prelude.{All, ℕ, ◌≡◌, ◌*◌, ◌⊎◌, length, replicate, List, [], ◌++◌, is_some, Some, None, Ok}
 use Rattle.dix_base.specs.Told.{Calm}
 use Rattle.page_pool.specs.Cells.{flat}
 use Rattle.rig_api.specs.Head.{head_fault, head_of}
@@ -23,6 +23,7 @@ use Rattle.mirror_volume.specs.Passed.{NamesNoMedium, IsBoundMirror, half_of}
 use Rattle.mirror_volume.specs.declared.mirror.Mirror.{Mirror}
 use Rattle.mirror_volume.specs.Enough.{WasEnough}
 use Rattle.mirror_volume.specs.Premises.{IsFormedMirror, IsOneGoodRun, IsStillMirror}
+use Rattle.mirror_command.specs.Spared.{KeepsSpared}
 use Rattle.mirror_command.specs.Stages.{Broke, Finished, stage_of}
 use Rattle.mirror_command.specs.declared.mirrored.Mirrored.{Mirrored}
 use Rattle.page_pool.specs.declared.TheConstants.{PAGE}
@@ -69,6 +70,8 @@ pub record HasMirrored (run : Mirrored) (s : Script) (name : List ℕ) (old new 
   pub intact : (known : KnownBlocks told new) → NamesNoMedium (ended.stage.runs ++ ended.runs) run.mirror.replies.items → OnIntactLegs s devices known.before known.after run.repair.lost
   -- Over known blocks, whatever store calls failed, each block that is listed was found bad by the check of a layer, or failed at the medium.
   pub failing : KnownBlocks told new → All NamesFaults run.mirror.replies.items
+  -- And so each block that nothing alters, with a leg on which no request names it for the medium: each read of it is right, and the repair leaves it right on that leg.
+  pub spared : (known : KnownBlocks told new) → KeepsSpared s devices (stage_of begun [] told) (length s.ops) ended.stage ended.served.stood known.before known.after (ended.stage.runs ++ ended.runs)
 
 -- The source was read to its end, and its script was run on a mirror.
 pub record HasMirroredSource (run : Mirrored) (f : Facts) : Type 0 where
