@@ -1,4 +1,8 @@
 mod Answering
+mod Opens
+pub mod Bytes
+pub mod Devices
+pub mod Opened
 pub mod Passed
 mod Steps
 pub mod Telling

@@ -1,3 +1,4 @@
 pub mod Answers
 pub mod Discovery
+pub mod Openings
 pub mod Passed

@@ -3,9 +3,8 @@ use Rattle.std.proofs.Common.{List, ℕ, ◌≡◌, Some, None, ◌∙◌, Optio
 use Rattle.rig_api.specs.declared.rig.RigFault.{RigFault}
 use Rattle.rig_api.specs.State.{RigState}
 use Rattle.rig_api.specs.Head.{head_fault, head_of}
-use Rattle.image_commands.specs.Views.{ImageWasOpened}
+use Rattle.rig_discovery.specs.Openings.{ImageWasOpened, IsBad}
 use Rattle.rig_api.proofs.HeadLaws.{headed}
-use Rattle.image_commands.specs.Causes.{IsBad}
 use Rattle.std.specs.Prelude.{is_some}
 use Rattle.rig_api.specs.Telling.{units_told}
 

@@ -13,7 +13,7 @@ use Rattle.rig_api.proofs.HeadLaws.{right_layout}
 use Rattle.volume_table.specs.declared.device.DeviceInfo.{DeviceInfo}
 use Rattle.rig_discovery.specs.Discovery.{LookAnswer, Ends, HasFound, all_told, info_of, told, with_info}
 use Rattle.rig_discovery.proofs.Telling.{shape_is}
-use Rattle.pi_scrub.specs.Scrubbed.{HasDevices, device_of}
+use Rattle.rig_discovery.specs.Openings.{HasDevices, device_of}
 
 pub second_true : (a b c : Bool) → (a && (b && c)) ≡ true → b ≡ true
 second_true a b c h = grind arith
