@@ -1,1 +1,2 @@
+pub mod Untelling
 pub mod WantOfMemory

@@ -1,3 +1,4 @@
+pub mod Causes
 pub mod Passed
 pub mod Refusals
 pub mod Texts

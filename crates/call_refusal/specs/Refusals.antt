@@ -1,6 +1,8 @@
 use Rattle.rig_api.specs.declared.rig.RigFault.{RigFault}
 use Rattle.rig_api.specs.declared.rig.RigFault.TheVariants as rig
 use Rattle.rig_discovery.specs.declared.discovery.BadCapacity.{BadCapacity}
+use Rattle.rig_discovery.specs.declared.opening.Untold.{Untold}
+use Rattle.rig_discovery.specs.declared.opening.Untold.TheVariants as untold
 use Rattle.script_lines.specs.declared.kind.ScriptKind.{ScriptKind}
 use Rattle.script_lines.specs.declared.kind.ScriptKind.TheVariants as kind
 use Rattle.script_text.specs.declared.fault.ScriptFault.{ScriptFault}
@@ -24,6 +26,11 @@ of_rig fault = refusal.Image fault
 -- the refusal of a device
 abbrev pub of_capacity : BadCapacity → Refusal
 of_capacity bad = refusal.BadCapacity bad.dev
+
+-- the refusal of an image whose devices aren't told
+abbrev pub of_untold : Untold → Refusal
+of_untold (untold.Rig fault) = of_rig fault
+of_untold (untold.Device bad) = of_capacity bad
 
 -- the refusal of a volume
 abbrev pub of_volume : VolumeFault → Refusal

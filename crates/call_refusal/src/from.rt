@@ -1,12 +1,12 @@
 //! The refusal that the fault of a part is.
 
 ghost use Rattle.std.specs.Prelude.{◌≡◌};
-ghost use Rattle.call_refusal.specs.Refusals.{of_capacity, of_memory, of_rig, of_script, of_source, of_volume};
+ghost use Rattle.call_refusal.specs.Refusals.{of_capacity, of_memory, of_rig, of_script, of_source, of_untold, of_volume};
 
 use crate::refusal::{Refusal, TOO_LONG};
 use dix_base::Unread;
 use rig_api::RigFault;
-use rig_discovery::BadCapacity;
+use rig_discovery::{BadCapacity, Untold};
 use script_lines::ScriptKind;
 use script_text::ScriptFault;
 use std::alloc::AllocError;
@@ -39,6 +39,17 @@ impl From<BadCapacity> for Refusal {
 
     fn from(bad: BadCapacity) -> Refusal {
         Refusal::BadCapacity { dev: bad.dev }
+    }
+}
+
+impl From<Untold> for Refusal {
+    ghost from_gives = { λ untold refusal. refusal ≡ of_untold untold };
+
+    fn from(untold: Untold) -> Refusal {
+        match untold {
+            Untold::Rig(fault) => Refusal::from(fault),
+            Untold::Device(bad) => Refusal::from(bad),
+        }
     }
 }
 

@@ -5,7 +5,7 @@ use Rattle.dix_base.proofs.Counts.{never_rose}
 use Rattle.rig_api.specs.Head.{head_fault, head_of}
 use Rattle.rig_api.specs.State.{RigState}
 use Rattle.image_commands.specs.Causes.{CauseUnformatted, CauseUnmigrated, CauseUnscrubbed}
-use Rattle.image_commands.proofs.Opened.{right_head, told_is_good}
+use Rattle.rig_discovery.proofs.Opened.{right_head, told_is_good}
 use Rattle.nvme_command.specs.Causes.{CauseNotDone}
 use Rattle.nvme_command.proofs.Completes.{spared_alone}
 use Rattle.unit_words.specs.Words.{image_in}

@@ -12,7 +12,7 @@ use Rattle.script_words.specs.Decimals.{number_in}
 use Rattle.unit_words.specs.Units.{type_in}
 use Rattle.dix_run.specs.declared.command.Command.{Command}
 use Rattle.dix_run.specs.declared.command.Command.TheVariants.{Run, Trace, Format, Migrate, Mirror, Scrub, Nvme, Big}
-use Rattle.image_commands.proofs.Devices.{second_true}
+use Rattle.rig_discovery.proofs.Devices.{second_true}
 
 on_image_not : (c : Command) (words : List (List ℕ)) (us : List UnitSpec) → (c ≡ Format us → ⊥) → on_image c words ≡ Some (Format us) → ⊥
 on_image_not c words us n e = by (is_one_name words) e

@@ -1,7 +1,8 @@
 -- The rig is opened at most once in a call.
 use Rattle.std.proofs.Common.{ℕ, ◌≡◌, ◌⊎◌, inl, inr, List, Option, Some, None, ap, ◌∙◌}
-use Rattle.image_commands.specs.Causes.{CauseUnformatted, CauseUnmigrated, CauseUnscrubbed, CauseUntold, HasOpened}
-use Rattle.image_commands.specs.Views.{OpenedOnce}
+use Rattle.rig_discovery.specs.Openings.{HasOpened, OpenedOnce}
+use Rattle.call_refusal.specs.Causes.{CauseUntold}
+use Rattle.image_commands.specs.Causes.{CauseUnformatted, CauseUnmigrated, CauseUnscrubbed}
 use Rattle.nvme_command.proofs.Completes.{done_opens, not_done_opens}
 use Rattle.rig_api.specs.Telling.{Standing, Stayed}
 use Rattle.rig_api.specs.State.{RigState}

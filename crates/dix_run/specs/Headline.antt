@@ -1,5 +1,5 @@
 use Rattle.std.specs.Prelude.{ℕ, List, Option}
-use Rattle.image_commands.specs.Views.{OpenedOnce}
+use Rattle.rig_discovery.specs.Openings.{OpenedOnce}
 use Rattle.unit_words.specs.Words.{image_in}
 use Rattle.dix_run.specs.Grammar.{command_in}
 use Rattle.dix_run.specs.Commands.{Ended, work_of}

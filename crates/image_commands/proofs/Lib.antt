@@ -1,3 +1,1 @@
-pub mod Devices
-pub mod Bytes
-pub mod Opened
+mod Unscrubbed

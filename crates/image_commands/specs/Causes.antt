@@ -1,19 +1,18 @@
-use Rattle.std.specs.Prelude.{ℕ, ◌≡◌, ◌≤◌, ◌⊎◌, false, List, [], Some, None, is_some}
+use Rattle.std.specs.Prelude.{ℕ, ◌≡◌, ◌≤◌, ◌⊎◌, List, [], Some, None}
 use Rattle.dix_base.specs.Told.{Becomes, Calm, Rose}
 use Rattle.rig_api.specs.Image.{formatted}
 use Rattle.rig_api.specs.Target.{Stored}
 use Rattle.rig_api.specs.declared.units.UnitSpec.{UnitSpec}
 use Rattle.rig_api.specs.Head.{IsHeadOf, head_fault, units_of, version_in}
-use Rattle.rig_api.specs.Telling.{IsMigrated, KeepsBlocks, KeepsUnits, LeavesShort, Opened, migrated_count, units_told}
+use Rattle.rig_api.specs.Telling.{IsMigrated, KeepsBlocks, KeepsUnits, LeavesShort, Opened, migrated_count}
 use Rattle.rig_api.specs.State.{RigState}
-use Rattle.rig_discovery.specs.Passed.{Answers}
+use Rattle.rig_discovery.specs.Openings.{HasKept, ImageWasOpened, OpenedOnce, WasTold}
 use Rattle.volume_table.specs.declared.device.DeviceInfo.{DeviceInfo}
-use Rattle.rig_discovery.specs.Discovery.{HasFault, HasFound}
 use Rattle.pi_scrub.specs.Faults.{all_faults}
 use Rattle.pi_scrub.specs.Looks.{LookedPlace, all_places}
-use Rattle.pi_scrub.specs.Scrubbed.{HasDevices, Looked}
+use Rattle.pi_scrub.specs.Scrubbed.{Looked}
 use Rattle.pi_scrub.specs.declared.found.Found.{Found}
-use Rattle.image_commands.specs.Views.{HasKept, OpenedOnce, ImageWasOpened}
+use Rattle.call_refusal.specs.Causes.{CauseUntold}
 use Rattle.call_refusal.specs.declared.refusal.Refusal.{Refusal}
 use Rattle.call_refusal.specs.declared.refusal.Refusal.TheVariants as refusal
 
@@ -55,41 +54,6 @@ CauseUnmigrated (refusal.Image f) name old new = ImageWasOpened name (Some f) ol
 CauseUnmigrated refusal.RigFault name old new = Rose old.faults new.faults × Opened name old.standing new.standing × KeepsBlocks old.image new.image × (new.log ≡ old.log) × (new.armed ≡ old.armed)
 CauseUnmigrated refusal.Memory name old new = HasKept old new × OpenedOnce name old.standing new.standing
 CauseUnmigrated _ name old new = ⊥
-
--- The image of this name was opened, and its head is right. Neither this nor what came since changed a byte of it.
-pub record HasOpened (name : List ℕ) (old between new : RigState) : Type 0 where
-  pub opened : ImageWasOpened name None old between
-  pub kept : HasKept old between
-  pub laid : between.units ≡ units_told between.standing between.image
-  pub image : new.image ≡ between.image
-  pub units : new.units ≡ between.units
-  pub standing : new.standing ≡ between.standing
-  pub count : between.faults ≤ new.faults
-
--- Then each device was asked once what it is. The armed faults are those that were before it was opened. Where the rig tells its blocks, the records are its units' answers.
-pub record WasTold (name : List ℕ) (devices : List DeviceInfo) (old new : RigState) : Type 0 where
-  pub between : RigState
-  pub since : HasOpened name old between new
-  pub armed : new.armed ≡ old.armed
-  pub found : HasFound between.standing devices between.log new.log
-  pub devices_are : HasDevices devices new.standing new.units
-  pub answered : (us : List Stored) → between.units ≡ Some us → Answers us between new
-
--- The device of this number gave an answer at fault, the first. The blocks aren't told then, and the armed faults are those that were before the image was opened.
-pub record IsBad (name : List ℕ) (dev : ℕ) (old new : RigState) : Type 0 where
-  pub between : RigState
-  pub since : HasOpened name old between new
-  pub armed : new.armed ≡ old.armed
-  pub fault : HasFault between.standing dev between.log new.log
-  pub untold : is_some between.units ≡ false
-
--- Why it isn't known what the devices of an image are: it isn't opened, a device's answer is at fault, or there is no memory.
-abbrev pub CauseUntold : Refusal → List ℕ → RigState → RigState → Type 0
-CauseUntold (refusal.Image f) name old new = ImageWasOpened name (Some f) old new × HasKept old new
-CauseUntold (refusal.BadCapacity dev) name old new = IsBad name dev old new
-CauseUntold refusal.RigFault name old new = Rose old.faults new.faults × Opened name old.standing new.standing × HasKept old new
-CauseUntold refusal.Memory name old new = HasKept old new × OpenedOnce name old.standing new.standing
-CauseUntold _ name old new = ⊥
 
 -- The image was opened, its devices told what they are, and then every stored block was looked at.
 -- What was found is what the records say; where the blocks are told and the count of faults didn't rise, it is exactly the blocks at fault. The armed faults are as before.

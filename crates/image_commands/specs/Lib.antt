@@ -1,3 +1,1 @@
 pub mod Causes
-pub mod Passed
-pub mod Views

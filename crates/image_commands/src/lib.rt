@@ -9,4 +9,4 @@ mod scrubbing;
 pub use formatting::format_image;
 pub use migrating::migrate_image;
 pub use opening::open_image;
-pub use scrubbing::{scrub_image, told_devices};
+pub use scrubbing::scrub_image;

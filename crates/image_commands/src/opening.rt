@@ -2,7 +2,7 @@
 
 ghost use Rattle.std.specs.Prelude.{◌≡◌, length, MatchResult, OnOk};
 ghost use Rattle.rig_api.specs.Head.{units_of};
-ghost use Rattle.image_commands.specs.Views.{HasKept, OpenedOnce, ImageWasOpened};
+ghost use Rattle.rig_discovery.specs.Openings.{HasKept, OpenedOnce, ImageWasOpened};
 ghost use Rattle.image_commands.specs.Causes.{CauseUnopened};
 
 use call_refusal::Refusal;

@@ -2,33 +2,17 @@
 
 ghost use Rattle.std.specs.Prelude.{◌≡◌, [], MatchResult, OnOk, length};
 ghost use Rattle.rig_api.specs.Head.{units_of};
-ghost use Rattle.image_commands.specs.Causes.{CauseUnscrubbed, CauseUntold, WasScrubbed, WasTold};
+ghost use Rattle.rig_discovery.specs.Openings.{WasTold};
+ghost use Rattle.call_refusal.specs.Causes.{CauseUntold};
+ghost use Rattle.image_commands.specs.Causes.{CauseUnscrubbed, WasScrubbed};
 
-use crate::opening::open_image;
 use arrayvec::ArrayVec;
 use call_refusal::Refusal;
 use pi_scrub::{Found, scrub};
 use rig_api::Rig;
-use rig_discovery::discover;
+use rig_discovery::told_devices;
 use std::alloc::Global;
 use volume_table::DeviceInfo;
-
-/// Opens the image of this name and asks each of its devices what it is.
-pub fn told_devices<R: Rig>(
-    alloc: Global,
-    name: &str,
-    rig: &mut R,
-) -> Result<ArrayVec<DeviceInfo, 8>, Refusal>
-    ensures told { let old = R.state rig.old in
-        let new = R.state rig.new in
-        MatchResult result (λ v. WasTold name.now v.items old new) (λ r. CauseUntold r name.now old new) }
-    ensures all { OnOk result ((R.state rig.new).standing.devices ≡ length (units_of (R.state rig.new).standing.head)) }
-{
-    open_image(alloc, name, rig)?;
-    let count = rig.devices();
-    rig.reserve(alloc, count, 0)?;
-    Ok(discover(rig)?)
-}
 
 /// Looks at every stored block of the image of this name, and puts those at fault into `found`, which
 /// is empty at first; answers the devices, as the rig told them. No stored block changes.

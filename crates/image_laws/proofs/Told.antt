@@ -18,7 +18,7 @@ use Rattle.walk_laws.specs.PlainMap.{as_expected}
 use Rattle.walk_laws.specs.Settings.{Setting}
 use Rattle.run_laws.specs.ShownRun.{DevicesAreClean}
 use Rattle.dix_base.specs.Told.{Becomes}
-use Rattle.run_command.specs.Passed.{WasFormatted}
+use Rattle.image_commands.specs.Causes.{WasFormatted}
 use Rattle.image_rig.proofs.Heads.{layout_parts}
 use Rattle.run_command.specs.Verdict.{WasAsked, devices_of}
 use Rattle.run_command.proofs.Devices.{image_devices}

@@ -23,7 +23,7 @@ use Rattle.rig_api.specs.Head.{IsHeadOf, units_of}
 use Rattle.rig_api.specs.Log.{LogEntry}
 use Rattle.rig_api.specs.Telling.{IsStanding, Standing, specs_of, units_told}
 use Rattle.rig_discovery.specs.Discovery.{LookAnswer as Looked, info_of, looks}
-use Rattle.pi_scrub.specs.Scrubbed.{device_of}
+use Rattle.rig_discovery.specs.Openings.{device_of}
 use Rattle.volume_table.specs.Tables.{MadeFor, Table}
 use Rattle.volume_table.specs.declared.device.DeviceInfo.{DeviceInfo}
 use Rattle.block_path.specs.Moves.{hidden}

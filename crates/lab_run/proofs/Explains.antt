@@ -9,8 +9,8 @@ use Rattle.call_verdict.proofs.Verdicts.{done_is}
 use Rattle.dix_base.specs.Stores.{StoreState}
 use Rattle.dix_base.specs.Told.{Calm, Rose}
 use Rattle.dix_base.proofs.Counts.{never_rose}
-use Rattle.image_commands.specs.Causes.{CauseUntold, HasOpened}
-use Rattle.image_commands.specs.Views.{OpenedOnce}
+use Rattle.rig_discovery.specs.Openings.{HasOpened, OpenedOnce}
+use Rattle.call_refusal.specs.Causes.{CauseUntold}
 use Rattle.lab_run.specs.declared.command.Command.TheVariants.{Explain}
 use Rattle.rig_api.specs.Head.{head_fault, head_of}
 use Rattle.rig_api.specs.Telling.{Standing}

@@ -1,6 +1,6 @@
 use Rattle.std.specs.Prelude.{ℕ, ◌≡◌, ◌≤◌, ◌⊎◌, List}
 use Rattle.dix_base.specs.Stores.{StoreState}
-use Rattle.image_commands.specs.Views.{OpenedOnce as RigOpenedOnce}
+use Rattle.rig_discovery.specs.Openings.{OpenedOnce as RigOpenedOnce}
 use Rattle.image_rig.specs.Heads.{called}
 use Rattle.rig_api.specs.Telling.{Opened, Stayed}
 use Rattle.unit_words.specs.Words.{image_in}

@@ -14,7 +14,7 @@ use Rattle.call_refusal.specs.declared.refusal.Refusal.{Refusal}
 use Rattle.call_refusal.specs.declared.refusal.Refusal.TheVariants as refusal
 use Rattle.mirror_command.specs.Verdict.{CauseRefused, CauseStopped, HasMirroredSource, IsComplete, IsMirrorUnbound}
 use Rattle.mirror_command.specs.declared.mirrored.Mirrored.{Mirrored}
-use Rattle.image_commands.proofs.Opened.{right_head, told_is_good}
+use Rattle.rig_discovery.proofs.Opened.{right_head, told_is_good}
 
 not_unbound : (image : List ℕ) (s : Script) (bad : ScriptFault) (name : List ℕ) (old new : RigState) → old.image ≡ Some image → mirror_fault s (table_over s.entries (devices_of image)) (devices_of image) ≡ None → IsMirrorUnbound bad s name old new → ⊥
 not_unbound image s bad name old new i b u =

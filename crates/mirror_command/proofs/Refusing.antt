@@ -2,7 +2,7 @@
 use Rattle.std.proofs.Common.{ℕ, ◌≡◌, ◌⊎◌, ◌≤◌, inl, inr, List, length, Some, None, Result, Ok, Err, refl, sym, subst}
 use Rattle.std.specs.Prelude.{MatchResult}
 use Rattle.rig_api.specs.State.{RigState}
-use Rattle.image_commands.specs.Causes.{CauseUntold}
+use Rattle.call_refusal.specs.Causes.{CauseUntold}
 use Rattle.call_refusal.specs.Refusals.{of_script}
 use Rattle.call_refusal.proofs.WantOfMemory.{of_either}
 use Rattle.script_text.specs.declared.fault.ScriptFault.{ScriptFault}

@@ -3,7 +3,7 @@ use Rattle.dix_base.specs.Told.{Calm}
 use Rattle.page_pool.specs.Cells.{flat}
 use Rattle.rig_api.specs.Head.{head_fault, head_of}
 use Rattle.rig_api.specs.State.{RigState}
-use Rattle.image_commands.specs.Causes.{CauseUntold}
+use Rattle.call_refusal.specs.Causes.{CauseUntold}
 use Rattle.rig_api.specs.Target.{Stored}
 use Rattle.volume_table.specs.Faults.{table_fault}
 use Rattle.volume_table.specs.Tables.{Table}

@@ -7,9 +7,9 @@ ghost use Rattle.mirror_command.specs.Verdict.{CauseStopped};
 ghost use Rattle.mirror_command.specs.Working.{CauseUnbound, IsMirrorBound, IsFree};
 
 use call_refusal::Refusal;
-use image_commands::told_devices;
 use mirror_script::bind_mirror;
 use rig_api::Rig;
+use rig_discovery::told_devices;
 use run_command::table_of;
 use script_text::Script;
 use std::alloc::Global;

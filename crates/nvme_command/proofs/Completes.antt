@@ -14,8 +14,8 @@ use Rattle.rig_api.specs.State.{RigState}
 use Rattle.rig_api.proofs.HeadLaws.{headed}
 use Rattle.volume_table.specs.declared.device.DeviceInfo.{DeviceInfo}
 use Rattle.rig_discovery.specs.Discovery.{info_of}
-use Rattle.image_commands.specs.Views.{OpenedOnce}
-use Rattle.image_commands.proofs.Opened.{right_head, told_is_good}
+use Rattle.rig_discovery.specs.Openings.{OpenedOnce}
+use Rattle.rig_discovery.proofs.Opened.{right_head, told_is_good}
 use Rattle.call_refusal.specs.declared.refusal.Refusal.{Refusal}
 use Rattle.call_refusal.specs.declared.refusal.Refusal.TheVariants as refusal
 use Rattle.nvme_command.proofs.Kept.{told-is}

@@ -15,7 +15,7 @@ use Rattle.rig_discovery.specs.Discovery.{LookAnswer, HasFound, all_told, told, 
 use Rattle.rig_discovery.proofs.Telling.{all_at, last_true}
 use Rattle.rig_discovery.proofs.ToldSizes.{told_size}
 use Rattle.rig_api.specs.Target.{Stored}
-use Rattle.image_commands.specs.Passed.{HasDevices as Discovered}
+use Rattle.rig_discovery.specs.Openings.{HasDevices as Discovered}
 use Rattle.nvme_front.specs.Answers.{HasNamespaces}
 use Rattle.nvme_front.specs.Refusals.{has_size}
 

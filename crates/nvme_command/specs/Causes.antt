@@ -8,7 +8,8 @@ use Rattle.rig_api.specs.State.{RigState}
 use Rattle.script_lines.specs.declared.kind.ScriptKind.TheVariants.{TooMany}
 use Rattle.volume_table.specs.declared.device.DeviceInfo.{DeviceInfo}
 use Rattle.rig_discovery.specs.Discovery.{HasFound}
-use Rattle.image_commands.specs.Causes.{CauseUntold, HasOpened}
+use Rattle.rig_discovery.specs.Openings.{HasOpened}
+use Rattle.call_refusal.specs.Causes.{CauseUntold}
 use Rattle.call_refusal.specs.declared.refusal.Refusal.{Refusal}
 use Rattle.call_refusal.specs.declared.refusal.Refusal.TheVariants as refusal
 use Rattle.nvme_front.specs.Answers.{HasNamespaces}

@@ -16,7 +16,8 @@ use Rattle.block_path.specs.Senses.{is_medium_why, why_ended}
 use Rattle.walk_laws.proofs.Named.{medium_is}
 use Rattle.pi_scrub.specs.Faults.{all_faults, faults_from, faults_of, listed, stored_finding}
 use Rattle.pi_scrub.specs.Looks.{AreFit, Look, LookedPlace, all_entries, all_found, all_looked, all_places, entry_of, found_at, found_by, info_at, looked_at, place_of, places, settled}
-use Rattle.pi_scrub.specs.Scrubbed.{Looked, RoseBy, device_of, is_medium}
+use Rattle.rig_discovery.specs.Openings.{device_of}
+use Rattle.pi_scrub.specs.Scrubbed.{Looked, RoseBy, is_medium}
 use Rattle.pi_scrub.specs.Steps.{Did}
 use Rattle.pi_scrub.specs.declared.found.Found.{Found}
 

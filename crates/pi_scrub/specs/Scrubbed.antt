@@ -1,8 +1,5 @@
-use Rattle.std.specs.Prelude.{ℕ, ◌≡◌, ◌+◌, ◌^◌, ◌≤◌, ◌⊎◌, Bool, List, ◌++◌, length, map, count_by, Option, Some}
-use Rattle.rig_api.specs.Target.{Stored}
+use Rattle.std.specs.Prelude.{ℕ, ◌≡◌, ◌+◌, ◌^◌, ◌≤◌, ◌⊎◌, Bool, List, ◌++◌, count_by}
 use Rattle.rig_api.specs.Log.{LogEntry}
-use Rattle.rig_api.specs.Telling.{Standing}
-use Rattle.rig_discovery.specs.Discovery.{Ends}
 use Rattle.volume_table.specs.declared.device.DeviceInfo.{DeviceInfo}
 use Rattle.block_path.specs.Senses.{is_medium_why}
 use Rattle.pi_scrub.specs.Looks.{AreFit, Look, LookedPlace, all_entries, all_found, all_looked}
@@ -24,14 +21,3 @@ pub record Looked (devices : List DeviceInfo) (due left : List LookedPlace) (fou
   pub found_is : found' ≡ found ++ all_found looks
   pub once : due ≡ all_looked looks ++ left
   pub medium : RoseBy (count_by is_medium (all_found looks)) f f'
-
--- a device as its stored blocks tell it
-abbrev pub device_of : Stored → DeviceInfo
-device_of u = record { ty = u.ty; blocks = length u.blocks; size = u.size; first = u.first }
-
--- The rig has just these devices, at most 8, and where it tells its blocks they are its units. An address behind a device's last block fits 64 bits.
-pub record HasDevices (devices : List DeviceInfo) (s : Standing) (units : Option (List Stored)) : Type 0 where
-  pub count : length devices ≡ s.devices
-  pub few : length devices ≤ 8
-  pub ends : Ends devices
-  pub told : (us : List Stored) → units ≡ Some us → devices ≡ map device_of us

@@ -7,7 +7,8 @@ ghost use Rattle.rig_api.specs.State.{Stays};
 ghost use Rattle.rig_api.specs.Target.{Stored};
 ghost use Rattle.pi_scrub.specs.Faults.{all_faults, faults_of};
 ghost use Rattle.pi_scrub.specs.Looks.{LookedPlace, all_places, info_at, places};
-ghost use Rattle.pi_scrub.specs.Scrubbed.{HasDevices, Looked};
+ghost use Rattle.rig_discovery.specs.Openings.{HasDevices};
+ghost use Rattle.pi_scrub.specs.Scrubbed.{Looked};
 
 use crate::found::Found;
 use crate::look::look;

@@ -4,7 +4,7 @@ use Rattle.std.specs.Prelude.{IfErr, MatchResult, nat_lt}
 use Rattle.std.proofs.lemmas.Bool.{lt-ltb}
 use Rattle.dix_base.specs.Told.{Calm, Took}
 use Rattle.dix_base.proofs.Counts.{never_rose}
-use Rattle.image_commands.proofs.Opened.{right_head, told_is_good}
+use Rattle.rig_discovery.proofs.Opened.{right_head, told_is_good}
 use Rattle.pi_tuple.specs.declared.checks.PiType.{PiType}
 use Rattle.rig_api.specs.State.{RigState}
 use Rattle.script_text.specs.Bindings.{binding_fault}

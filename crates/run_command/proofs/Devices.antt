@@ -1,9 +1,9 @@
 -- The devices that a rig told, where it tells its image.
 use Rattle.std.proofs.Common.{ℕ, ◌≡◌, ◌<◌, true, List, [], ◌∷◌, ◌++◌, length, take, drop, Option, Some, None, refl, sym, ap, ◌∙◌, arith}
 use Rattle.std.specs.Prelude.{is_some, map}
-use Rattle.image_commands.proofs.Bytes.{bytes_told, holds_blocks, some_unit}
-use Rattle.image_commands.proofs.Devices.{shapes}
-use Rattle.image_commands.specs.Passed.{HasDevices}
+use Rattle.rig_discovery.proofs.Bytes.{bytes_told, holds_blocks, some_unit}
+use Rattle.rig_discovery.proofs.Devices.{shapes}
+use Rattle.rig_discovery.specs.Openings.{HasDevices}
 use Rattle.rig_api.specs.Head.{head_of, units_of}
 use Rattle.rig_api.specs.Telling.{IsStanding, Standing, specs_of, units_told}
 use Rattle.rig_api.specs.State.{RigState}

@@ -2,7 +2,7 @@
 use Rattle.std.proofs.Common.{ℕ, ◌≡◌, ◌⊎◌, inl, inr, ◌+◌, List, Option, Some, Result, Ok, Err, sym, ap, subst, arith}
 use Rattle.std.specs.Prelude.{MatchResult}
 use Rattle.record_laws.proofs.Going.{answers_room}
-use Rattle.image_commands.specs.Causes.{CauseUntold}
+use Rattle.call_refusal.specs.Causes.{CauseUntold}
 use Rattle.script_lines.specs.declared.kind.ScriptKind.{ScriptKind}
 use Rattle.script_lines.specs.declared.kind.ScriptKind.TheVariants.{Memory as MemoryKind}
 use Rattle.call_refusal.specs.Refusals.{of_kind, of_script}

@@ -1,6 +1,5 @@
 -- Words of the crates below, for the crates above that stand on this one alone.
-pub use Rattle.image_commands.specs.Causes.{WasFormatted}
-pub use Rattle.image_commands.specs.Passed.{device_of}
+pub use Rattle.rig_discovery.specs.Openings.{device_of}
 pub use Rattle.stack_walk_laws.specs.Falls.{of_blocks}
 pub use Rattle.stack_walk_laws.specs.Flips.{with_flips}
 pub use Rattle.script_stack.specs.Causes.{table_of}

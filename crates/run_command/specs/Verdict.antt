@@ -2,8 +2,8 @@ use Rattle.std.specs.Prelude.{ℕ, ◌≡◌, ◌+◌, ◌⊎◌, List, length, 
 use Rattle.dix_base.specs.Told.{Calm, Rose}
 use Rattle.page_pool.specs.Pages.{IsBlank}
 use Rattle.stack_walk_laws.specs.Passed.{mode_of, Holds}
-use Rattle.image_commands.specs.Causes.{CauseUntold, WasTold}
-use Rattle.image_commands.specs.Views.{HasKept, OpenedOnce}
+use Rattle.rig_discovery.specs.Openings.{HasKept, OpenedOnce, WasTold}
+use Rattle.call_refusal.specs.Causes.{CauseUntold}
 use Rattle.rig_api.specs.Head.{head_fault, head_of, units_of}
 use Rattle.rig_api.specs.State.{RigState}
 use Rattle.call_refusal.specs.Passed.{info_of}

@@ -10,8 +10,8 @@ use crate::scripts::take_script;
 use arrayvec::ArrayVec;
 use call_refusal::Refusal;
 use dix_base::Source;
-use image_commands::told_devices;
 use rig_api::Rig;
+use rig_discovery::told_devices;
 use run_laws::a_read_is_the_last_write_or_names_the_first_layer;
 use script_form_laws::{a_script_is_shown_by_its_form, a_script_supplies_no_escape_by_its_form};
 use script_stack::{

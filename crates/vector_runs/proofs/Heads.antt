@@ -9,9 +9,8 @@ use Rattle.vector_lines.specs.Texts.{head_read, is_list, list_in}
 use Rattle.dix_base.proofs.Taking.{whole_text}
 use Rattle.dix_base.specs.Told.{Calm}
 use Rattle.dix_base.proofs.Counts.{never_rose}
-use Rattle.image_commands.specs.Causes.{HasOpened}
-use Rattle.image_commands.specs.Views.{ImageWasOpened}
-use Rattle.image_commands.proofs.Opened.{right_head}
+use Rattle.rig_discovery.specs.Openings.{HasOpened, ImageWasOpened}
+use Rattle.rig_discovery.proofs.Opened.{right_head}
 use Rattle.rig_api.specs.Head.{head_fault, head_of, units_of}
 use Rattle.rig_api.specs.declared.rig.RigFault.{RigFault}
 use Rattle.rig_api.specs.State.{RigState}

@@ -1,7 +1,7 @@
 -- The rig is opened at most once, and its count of faults doesn't fall.
 use Rattle.std.proofs.Common.{ℕ, ◌≡◌, ◌⊎◌, inl, inr, ◌≤◌, List, ap, ◌∙◌, arith, refl}
-use Rattle.image_commands.specs.Causes.{CauseUntold, HasOpened}
-use Rattle.image_commands.specs.Views.{HasKept, OpenedOnce}
+use Rattle.rig_discovery.specs.Openings.{HasKept, HasOpened, OpenedOnce}
+use Rattle.call_refusal.specs.Causes.{CauseUntold}
 use Rattle.rig_api.specs.Telling.{Opened, Standing}
 use Rattle.rig_api.specs.State.{RigState}
 use Rattle.script_text.specs.declared.script.Script.{Script}

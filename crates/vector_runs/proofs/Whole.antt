@@ -25,7 +25,7 @@ use Rattle.vector_runs.specs.Taken.{CauseNotTaken, HoldsFault, HoldsList, HoldsS
 use Rattle.vector_runs.specs.Unplayed.{unplayed}
 use Rattle.vector_runs.specs.declared.playing.Played.{Played}
 use Rattle.vector_runs.specs.declared.playing.Played.TheVariants as played
-use Rattle.image_commands.proofs.Opened.{right_head}
+use Rattle.rig_discovery.proofs.Opened.{right_head}
 
 pub list_right : (text : List ℕ) (lines : List VectorLine) → is_list (lines_of text) ≡ true → list_in text ≡ Ok lines → text_fault text ≡ None
 list_right text lines l e = ap (λ b. if b then list_fault (list_in text) else script_fault (script_in text)) l ∙ ap list_fault e

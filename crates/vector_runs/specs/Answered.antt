@@ -3,7 +3,7 @@ use Rattle.rig_api.specs.Head.{units_of}
 use Rattle.rig_api.specs.Telling.{units_told}
 use Rattle.rig_api.specs.State.{RigState}
 use Rattle.image_commands.specs.Causes.{CauseUnopened}
-use Rattle.image_commands.specs.Views.{HasKept, OpenedOnce, ImageWasOpened}
+use Rattle.rig_discovery.specs.Openings.{HasKept, OpenedOnce, ImageWasOpened}
 use Rattle.call_refusal.specs.declared.refusal.Refusal.{Refusal}
 use Rattle.call_refusal.specs.declared.refusal.Refusal.TheVariants as refusal
 use Rattle.vector_lines.specs.declared.line.VectorLine.{VectorLine}

@@ -1,6 +1,6 @@
 use Rattle.std.specs.Prelude.{ℕ, ◌≡◌, ◌+◌, ◌≤◌, ◌⊎◌, true, false, List, ◌++◌, length, drop, Some, None, Result, Ok, IfErr, IfOk, MatchResult}
 use Rattle.dix_base.specs.Told.{Calm}
-use Rattle.image_commands.specs.Views.{OpenedOnce}
+use Rattle.rig_discovery.specs.Openings.{OpenedOnce}
 use Rattle.rig_api.specs.Head.{head_fault, head_of, units_of}
 use Rattle.rig_api.specs.Log.{LogEntry}
 use Rattle.rig_api.specs.State.{RigState}

@@ -1,6 +1,6 @@
 use Rattle.std.proofs.Common.{◌∙◌, arith, ap}
 use Rattle.std.proofs.lemmas.Result.{err_from_is_err_and}
-use Rattle.image_commands.proofs.Bytes.{image_kept, some_unit}
+use Rattle.rig_discovery.proofs.Bytes.{image_kept, some_unit}
 use Rattle.nvme_command.proofs.Opening.{closed_by}
 use Rattle.nvme_command.proofs.doing.open.Goals as goal
 use Rattle.rig_api.specs.State.{RigState}

@@ -5,7 +5,7 @@ use Rattle.std.proofs.lemmas.Result.{err_from_is_err_and}
 use Rattle.rig_api.specs.Telling.{Standing}
 use Rattle.rig_api.specs.State.{RigState}
 use Rattle.nvme_front.specs.Refusals.{has_size}
-use Rattle.image_commands.proofs.Devices.{devices_are, few_units, silent}
+use Rattle.rig_discovery.proofs.Devices.{devices_are, few_units, silent}
 use Rattle.nvme_command.proofs.Sizes.{for-front, sizes-found}
 use Rattle.nvme_command.proofs.session_opening.front_of.Goals as goal
 

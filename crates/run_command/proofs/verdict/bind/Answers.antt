@@ -1,5 +1,6 @@
 use Rattle.std.proofs.lemmas.Result.{err_from_is_err_and}
-use Rattle.call_refusal.specs.Refusals.{of_script}
+use Rattle.call_refusal.specs.Refusals.{of_script, of_untold}
+use Rattle.call_refusal.proofs.Untelling.{refused}
 use Rattle.run_command.proofs.Refusing.{tableless, unbound, unfit, untold}
 use Rattle.run_command.proofs.verdict.bind.Goals as goal
 
@@ -28,4 +29,4 @@ returns-in_err-bind_script g c =
 pub returns-in_err-devices : goal.returns-in_err-devices
 returns-in_err-devices g c =
     let p = err_from_is_err_and c.from_residual.result c.from_residual.ensures.1 in
-    rw (p.1, p.2) (untold c.in_err-devices.field-0.0 c.args.script.now c.args.image.now _ _ c.in_err-devices.ensures.told)
+    rw (p.1, p.2) (untold (of_untold c.in_err-devices.field-0.0) c.args.script.now c.args.image.now _ _ (refused c.in_err-devices.field-0.0 c.args.image.now _ _ c.in_err-devices.ensures.told))

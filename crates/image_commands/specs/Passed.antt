@@ -1,2 +1,0 @@
--- Words of the crates below, for the crates above that stand on this one alone.
-pub use Rattle.pi_scrub.specs.Scrubbed.{HasDevices, device_of}
