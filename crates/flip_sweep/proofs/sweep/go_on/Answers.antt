@@ -3,4 +3,4 @@ use Rattle.report_text.proofs.Written.{as_text, stops}
 use Rattle.flip_sweep.proofs.sweep.go_on.Goals as goal
 
 pub returns-in_err-write_row-clause-wrote : goal.returns-in_err-write_row-clause-wrote
-returns-in_err-write_row-clause-wrote g c = as_text (search rules) (stops c.from_residual.result c.from_residual.ensures.0 c.in_err-write_row.ensures)
+returns-in_err-write_row-clause-wrote g c = as_text (search rules) (stops c.from_residual.result c.from_residual.ensures.0 c.in_err-write_row.ensures.wrote)

@@ -1,4 +1,4 @@
-use Rattle.std.proofs.Common.{◌≡◌, ℕ, ◌+◌, ◌-◌, ◌<◌, [], refl, ap, subst, arith}
+use Rattle.std.proofs.Common.{◌≡◌, ℕ, ◌+◌, ◌-◌, ◌<◌, [], refl, ap, subst, ◌∙◌, arith}
 use Rattle.report_text.proofs.Flow.{Left, at_end, at_start, breaks_off, goes_on, stops}
 use Rattle.flip_sweep.specs.Ground.{swept_in}
 use Rattle.flip_sweep.specs.Rows.{next_open, row, row_before}
@@ -32,7 +32,7 @@ loop-current-init g c =
       counted = counted_first w at s c.args.counts c.with-counted.result c.in_ok-opened.ensures c.with-counted.ensures;
       small = small_first w at s c.args.counts c.with-counted.result c.in_ok-opened.ensures c.with-counted.ensures c.requires.small;
       within = omega (arith, none);
-      count = omega arith;
+      count = refl;
     }
 
 pub returns-in_err-verdict-clause-part : goal.returns-in_err-verdict-clause-part
@@ -69,7 +69,7 @@ loop-current-preserved g c =
       counted = counted_next w at s next v c.loop-current.counted c.with-more.result _ c.in_ok-verdict.ensures l c.in_ok-next.ensures.current c.with-more.ensures inv.counted;
       small = small_on w s next v c.loop-current.counted c.with-more.result l c.in_ok-next.ensures.current c.with-more.ensures inv.small;
       within = omega (arith, last_on w s next v l c.in_ok-next.ensures.current, l);
-      count = omega (arith, c.go_on.ensures.wrote.count, inv.count);
+      count = c.in_ok-next.ensures.wrote.calm ∙ inv.count;
     }
 
 less_left : (len last next : ℕ) → next ≡ last + 1 → last + 1 < len → len - next < len - last
@@ -90,7 +90,7 @@ returns-in_err-write_row-clause-part g c =
     let s = c.loop-current.current in
     on_err c.from_residual-in_err-write_row.result (breaks_off (rows_at w at) (row at s) [] _ _ _
     (subst (λ t. Left (rows_at w at) t (g.O.Sink.taken c.args.out.now) (g.O.Sink.taken c.loop-current.out)) (rows_last w at s (omega (arith, c.loop-current-test.false, c.frame_len-len.ensures.len))) c.loop-current.invariant.rows)
-    c.in_err-write_row.ensures.part)
+    c.in_err-write_row.ensures.wrote.part)
 
 pub returns-clause-counts : goal.returns-clause-counts
 returns-clause-counts g c =
@@ -104,4 +104,4 @@ returns-clause-whole g c =
     let s = c.loop-current.current in
     at_end (rows_at w at) [] _ _ (goes_on (rows_at w at) (row at s) [] _ _ _
     (subst (λ t. Left (rows_at w at) t (g.O.Sink.taken c.args.out.now) (g.O.Sink.taken c.loop-current.out)) (rows_last w at s (omega (arith, c.loop-current-test.false, c.frame_len-len.ensures.len))) c.loop-current.invariant.rows)
-    c.in_ok-write_row.ensures.whole) refl
+    c.in_ok-write_row.ensures.wrote.whole) refl

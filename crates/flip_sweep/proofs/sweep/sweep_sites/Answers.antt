@@ -1,4 +1,4 @@
-use Rattle.std.proofs.Common.{◌*◌, List, length, ap, subst, ◌∙◌, arith}
+use Rattle.std.proofs.Common.{◌*◌, List, length, refl, ap, subst, ◌∙◌}
 use Rattle.report_text.proofs.Flow.{Left, at_end, at_start, breaks_off, goes_on}
 use Rattle.flip_sweep.specs.Flips.{AreSites}
 use Rattle.flip_sweep.specs.Ground.{swept_in}
@@ -26,7 +26,7 @@ loop-site-init g c =
       counted = ap (λ (x : Counts). counts_with w x c.args.sites.now) c.none-counts.ensures;
       small = small_begin (length c.args.sites.now) c.none-counts.result c.none-counts.ensures c.requires.few;
       sites = c.requires.sites;
-      count = omega arith;
+      count = refl;
     }
 
 pub returns-in_err-more-clause-part : goal.returns-in_err-more-clause-part
@@ -53,7 +53,7 @@ loop-site-preserved g c =
       small = small_site w at c.loop-site.counts more (length behind) (block_few c.args.base.now.script.now c.requires.base.sound) c.in_ok-more.ensures.counts
           (subst (λ (xs : List Site). IsSmall c.loop-site.counts (4104 * length xs)) cut inv.small);
       sites = (subst AreSites cut inv.sites).1;
-      count = omega (arith, c.sweep_site.ensures.count, inv.count);
+      count = c.in_ok-more.ensures.calm (λ e. absurd (cc)) ∙ inv.count;
     }
 
 pub returns-clause-counts : goal.returns-clause-counts

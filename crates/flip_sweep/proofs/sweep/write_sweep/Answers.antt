@@ -7,7 +7,7 @@ use Rattle.flip_sweep.proofs.sweep.write_sweep.Goals as goal
 use Rattle.small_laws.proofs.Results.{on_err}
 
 pub returns-in_err-write_first-clause-part : goal.returns-in_err-write_first-clause-part
-returns-in_err-write_first-clause-part g c = on_err c.from_residual.result (first_breaks (swept_in c.args.base.now) _ _ c.in_err-write_first.ensures.part)
+returns-in_err-write_first-clause-part g c = on_err c.from_residual.result (first_breaks (swept_in c.args.base.now) _ _ c.in_err-write_first.ensures.wrote.part)
 
 pub sweep_sites-requires-clause-sites : goal.sweep_sites-requires-clause-sites
 sweep_sites-requires-clause-sites g c = subst AreSites (sym c.requires.sites) (all_sites c.args.base.now.script.now c.requires.base.sound.keeps)
@@ -17,12 +17,12 @@ sweep_sites-requires-clause-few g c = let few = few_sites c.args.base.now.script
 
 pub returns-in_err-counts-clause-part : goal.returns-in_err-counts-clause-part
 returns-in_err-counts-clause-part g c =
-    on_err c.from_residual-in_err-counts.result (rows_break (swept_in c.args.base.now) c.args.sites.now _ _ _ c.requires.sites c.in_ok-write_first.ensures.whole c.in_err-counts.ensures.part)
+    on_err c.from_residual-in_err-counts.result (rows_break (swept_in c.args.base.now) c.args.sites.now _ _ _ c.requires.sites c.in_ok-write_first.ensures.wrote.whole c.in_err-counts.ensures.part)
 
 pub returns-in_err-write_last-clause-part : goal.returns-in_err-write_last-clause-part
 returns-in_err-write_last-clause-part g c =
     on_err c.from_residual-in_err-write_last.result (last_breaks (swept_in c.args.base.now) c.args.sites.now c.in_ok-counts.counts _ _ _ _ c.requires.sites c.in_ok-counts.ensures.counts
-    c.in_ok-write_first.ensures.whole c.in_ok-counts.ensures.whole c.in_err-write_last.ensures.part)
+    c.in_ok-write_first.ensures.wrote.whole c.in_ok-counts.ensures.whole c.in_err-write_last.ensures.wrote.part)
 
 pub returns-clause-counts : goal.returns-clause-counts
 returns-clause-counts g c = all_counts (swept_in c.args.base.now) c.args.sites.now c.in_ok-counts.counts c.requires.sites c.in_ok-counts.ensures.counts
@@ -30,4 +30,4 @@ returns-clause-counts g c = all_counts (swept_in c.args.base.now) c.args.sites.n
 pub returns-clause-whole : goal.returns-clause-whole
 returns-clause-whole g c =
     all_written (swept_in c.args.base.now) c.args.sites.now c.in_ok-counts.counts _ _ _ _ c.requires.sites c.in_ok-counts.ensures.counts
-    c.in_ok-write_first.ensures.whole c.in_ok-counts.ensures.whole c.in_ok-write_last.ensures.whole
+    c.in_ok-write_first.ensures.wrote.whole c.in_ok-counts.ensures.whole c.in_ok-write_last.ensures.wrote.whole
