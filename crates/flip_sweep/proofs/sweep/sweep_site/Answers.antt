@@ -4,6 +4,7 @@ use Rattle.flip_sweep.specs.Ground.{swept_in}
 use Rattle.flip_sweep.specs.Rows.{next_open, row, row_before}
 use Rattle.flip_sweep.specs.Swept.{rows_at}
 use Rattle.flip_sweep.specs.declared.stretch.Stretch.{Stretch}
+use Rattle.flip_sweep.proofs.Ending.{not_calm, passed_on}
 use Rattle.flip_sweep.proofs.Rowing.{small_less}
 use Rattle.flip_sweep.proofs.Sweeping.{counted_first, counted_last, counted_next, last_on, open_rows, rows_first, rows_last, rows_next, small_first, small_on}
 use Rattle.flip_sweep.proofs.sweep.sweep_site.Goals as goal
@@ -105,3 +106,19 @@ returns-clause-whole g c =
     at_end (rows_at w at) [] _ _ (goes_on (rows_at w at) (row at s) [] _ _ _
     (subst (λ t. Left (rows_at w at) t (g.O.Sink.taken c.args.out.now) (g.O.Sink.taken c.loop-current.out)) (rows_last w at s (omega (arith, c.loop-current-test.false, c.frame_len-len.ensures.len))) c.loop-current.invariant.rows)
     c.in_ok-write_row.ensures.wrote.whole) refl
+
+pub returns-in_err-verdict-clause-calm : goal.returns-in_err-verdict-clause-calm
+returns-in_err-verdict-clause-calm g c = λ h. c.loop-current.invariant.count
+
+pub returns-in_err-next-clause-calm : goal.returns-in_err-next-clause-calm
+returns-in_err-next-clause-calm g c =
+    let r = c.from_residual-in_err-next in
+    λ h. not_calm r.result (passed_on r.result c.in_err-next.field-0.0 r.ensures.1 c.in_err-next.ensures.sink) h
+
+pub returns-in_err-write_row-clause-calm : goal.returns-in_err-write_row-clause-calm
+returns-in_err-write_row-clause-calm g c =
+    let r = c.from_residual-in_err-write_row in
+    λ h. not_calm r.result (passed_on r.result c.in_err-write_row.field-0.0 r.ensures.1 c.in_err-write_row.ensures.sink) h
+
+pub returns-clause-calm : goal.returns-clause-calm
+returns-clause-calm g c = λ h. c.in_ok-write_row.ensures.wrote.calm ∙ c.loop-current.invariant.count

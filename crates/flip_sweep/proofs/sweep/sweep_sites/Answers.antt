@@ -6,6 +6,7 @@ use Rattle.flip_sweep.specs.Rows.{IsSmall}
 use Rattle.flip_sweep.specs.Swept.{all_rows, counts_with, rows_at}
 use Rattle.flip_sweep.specs.declared.counts.Counts.{Counts}
 use Rattle.flip_sweep.specs.declared.flips.Site.{Site}
+use Rattle.flip_sweep.proofs.Ending.{not_sink}
 use Rattle.flip_sweep.proofs.Sounding.{block_few}
 use Rattle.flip_sweep.proofs.Sweeping.{counts_next, no_counts, no_rows, rows_behind, small_begin, small_here, small_site}
 use Rattle.flip_sweep.proofs.sweep.sweep_sites.Goals as goal
@@ -64,3 +65,9 @@ pub returns-clause-whole : goal.returns-clause-whole
 returns-clause-whole g c =
     let w = swept_in c.args.base.now in
     at_end (all_rows w c.args.sites.now) (all_rows w c.loop-site.rest.now) _ _ c.loop-site.invariant.rows (no_rows w c.loop-site.rest.now c.in_default.ensures.cases)
+
+pub returns-in_err-more-clause-calm : goal.returns-in_err-more-clause-calm
+returns-in_err-more-clause-calm g c = λ h. c.in_err-more.ensures.calm (not_sink c.from_residual.result c.in_err-more.field-0.0 c.from_residual.ensures.1 h) ∙ c.loop-site.invariant.count
+
+pub returns-clause-calm : goal.returns-clause-calm
+returns-clause-calm g c = λ h. c.loop-site.invariant.count
