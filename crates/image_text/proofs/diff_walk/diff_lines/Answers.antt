@@ -1,4 +1,4 @@
-use Rattle.std.proofs.Common.{length, refl, subst, arith}
+use Rattle.std.proofs.Common.{◌∙◌, length, refl, subst, arith}
 use Rattle.image_blocks.specs.Images.{units_open}
 use Rattle.image_text.specs.Compared.{HasCompared, counts, lines_of, places}
 use Rattle.image_text.proofs.Comparing.{at_first, at_last, breaks_off, few_counted, goes_on, passed_on, pieces_compare, room_for}
