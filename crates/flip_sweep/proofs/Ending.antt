@@ -32,7 +32,7 @@ by_sink (Err y) h = h
 pub not_calm : {T P : Type 0} (r : Result T Halt) → IsErrAnd r (λ y. y ≡ halt.Sink) → (IsErrOf r halt.Sink → ⊥) → P
 not_calm r h calm = let p = err_from_is_err_and r h in absurd (calm (p.1 ∙ ap Err p.2))
 
-halt_in : {T : Type 0} → Result T Halt → Halt
+abbrev halt_in : {T : Type 0} → Result T Halt → Halt
 halt_in (Err x) = x
 halt_in (Ok v) = halt.Memory
 

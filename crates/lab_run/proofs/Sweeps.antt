@@ -81,7 +81,7 @@ halted words h left left' reads reads' rig second byte units script halt.Sink ta
 pub ends_over : (r : Result Bool Unswept) (byte : ℕ) (us units : List UnitSpec) (script : Script) (o n : ℕ) (taken taken' : Option (List ℕ)) → us ≡ units → SweepEnds r (swept byte us script) o n taken taken' → SweepEnds r (swept byte units script) o n taken taken'
 ends_over r byte us units script o n taken taken' e h = subst (λ (x : List UnitSpec). SweepEnds r (swept byte x script) o n taken taken') e h
 
-halt_in : Result Bool Unswept → Halt
+abbrev halt_in : Result Bool Unswept → Halt
 halt_in (Err (unswept.Halted x)) = x
 halt_in (Err (unswept.Stopped r)) = halt.Memory
 halt_in (Ok unseen) = halt.Memory
