@@ -78,10 +78,10 @@ abbrev pub Cause : (P : Program) → (w : Work P) → Verdict P.Refusal w.Yield 
 Cause P w (Refused r) f = w.WasRefused r f
 Cause P w (Done x) f = w.WasDone x f
 
--- The text was written whole, and the status is the verdict's; or the sink failed, and a prefix of the text was written.
+-- The text was written whole, the sink's count of faults stayed, and the status is the verdict's; or the sink failed, and a prefix of the text was written.
 abbrev pub Written : Status → List ℕ → Option (List ℕ) → Option (List ℕ) → ℕ → ℕ → Status → Type 0
 Written verdict text old new o n result =
-    ((result ≡ verdict) × Appended text old new) ⊎ ((result ≡ status.WriteFault) × Rose o n × AppendedSome text old new)
+    ((result ≡ verdict) × Appended text old new × (n ≡ o)) ⊎ ((result ≡ status.WriteFault) × Rose o n × AppendedSome text old new)
 
 -- Unless the sink failed, it has passed on all that it took.
 abbrev pub IsPassedOn : Status → (passed taken : Option (List ℕ)) → Type 0

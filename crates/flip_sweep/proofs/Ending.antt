@@ -1,6 +1,7 @@
 -- How the parts of a sweep's text follow one another, and what a sweep comes to.
 use Rattle.std.proofs.Common.{◌≡◌, ℕ, ◌≤◌, Bool, ltb, List, ◌++◌, Option, Result, Ok, Err, OnErr, refl, sym, ap, subst, ◌∙◌}
-use Rattle.std.specs.Prelude.{IfOk, IsErrOf, OnOk}
+use Rattle.std.specs.Prelude.{IfErr, IfOk, IsErrAnd, IsErrOf, OnOk}
+use Rattle.std.proofs.lemmas.Result.{err_from_is_err_and}
 use Rattle.dix_base.specs.Told.{Appended, AppendedSome, Rose}
 use Rattle.dix_base.proofs.Appending.{appended_both}
 use Rattle.report_text.proofs.Flow.{part_first, part_second, whole_is_part}
@@ -16,6 +17,27 @@ use Rattle.flip_sweep.specs.declared.sweep.Unswept.{Unswept}
 use Rattle.flip_sweep.specs.declared.sweep.Unswept.TheVariants as unswept
 
 -- ---- counts of faults
+
+-- what a part that ended in a fault passes on
+pub passed_on : {T : Type 0} (r : Result T Halt) (x : Halt) → IsErrAnd r (λ y. y ≡ x) → x ≡ halt.Sink → IsErrAnd r (λ y. y ≡ halt.Sink)
+passed_on (Ok v) x h e = h
+passed_on (Err y) x h e = h ∙ e
+
+-- a sink that failed is said to have failed
+pub by_sink : {T : Type 0} (r : Result T Halt) → IsErrAnd r (λ y. y ≡ halt.Sink) → IfErr r (λ y. y ≡ halt.Sink)
+by_sink (Ok v) h = tt
+by_sink (Err y) h = h
+
+-- and no call that let it be says so
+pub not_calm : {T P : Type 0} (r : Result T Halt) → IsErrAnd r (λ y. y ≡ halt.Sink) → (IsErrOf r halt.Sink → ⊥) → P
+not_calm r h calm = let p = err_from_is_err_and r h in absurd (calm (p.1 ∙ ap Err p.2))
+
+abbrev halt_in : {T : Type 0} → Result T Halt → Halt
+halt_in (Err x) = x
+halt_in (Ok v) = halt.Memory
+
+pub not_sink : {T U : Type 0} (r : Result T Halt) (x : Halt) → IsErrAnd r (λ y. y ≡ x) → (IsErrOf r halt.Sink → ⊥) → IsErrOf {T = U} (Err x) halt.Sink → ⊥
+not_sink r x h calm e = let p = err_from_is_err_and r h in calm (p.1 ∙ ap Err (p.2 ∙ ap halt_in e))
 
 -- ---- the parts of the text
 

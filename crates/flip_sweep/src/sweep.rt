@@ -105,6 +105,7 @@ fn go_on<O: Sink>(
     requires { current.last + 1 < 2 ^ 32 }
     ensures current { IfOk result (λ s. s ≡ next_open current verdict) }
     ensures wrote { Wrote O.taken O.faults (row_before site current verdict) out.old out.new result }
+    ensures sink { IfErr result (λ halt. halt ≡ Halt.Sink) }
 {
     let next = current.last + 1;
     if is_same_verdict(current.verdict, verdict) {
@@ -122,7 +123,8 @@ fn go_on<O: Sink>(
 }
 
 fn write_row<O: Sink>(out: &mut O, site: Site, stretch: Stretch) -> Result<(), Halt>
-    ensures { Wrote O.taken O.faults (row site stretch) out.old out.new result }
+    ensures wrote { Wrote O.taken O.faults (row site stretch) out.old out.new result }
+    ensures sink { IfErr result (λ halt. halt ≡ Halt.Sink) }
 {
     write_all(out, row(site, stretch).as_slice())?;
     Ok(())
@@ -143,6 +145,7 @@ fn sweep_site<O: Sink>(
     ensures whole { OnOk result (Appended (rows_at (swept_in base.now) site) (O.taken out.old) (O.taken out.new)) }
     ensures part { OnErr result (AppendedSome (rows_at (swept_in base.now) site) (O.taken out.old) (O.taken out.new)) }
     ensures cause { IsErrOf result Halt.Sink → Rose (O.faults out.old) (O.faults out.new) }
+    ensures calm { (IsErrOf result Halt.Sink → ⊥) → O.faults out.new ≡ O.faults out.old }
     ensures count { O.faults out.old ≤ O.faults out.new }
 {
     let len = frame_len(base.script);
@@ -174,6 +177,7 @@ fn sweep_sites<O: Sink>(
     ensures whole { OnOk result (Appended (all_rows (swept_in base.now) sites.now) (O.taken out.old) (O.taken out.new)) }
     ensures part { OnErr result (AppendedSome (all_rows (swept_in base.now) sites.now) (O.taken out.old) (O.taken out.new)) }
     ensures cause { IsErrOf result Halt.Sink → Rose (O.faults out.old) (O.faults out.new) }
+    ensures calm { (IsErrOf result Halt.Sink → ⊥) → O.faults out.new ≡ O.faults out.old }
     ensures count { O.faults out.old ≤ O.faults out.new }
 {
     let mut counts = Counts::none();
@@ -187,20 +191,23 @@ fn sweep_sites<O: Sink>(
 }
 
 fn write_text<O: Sink>(out: &mut O, text: &[u8]) -> Result<(), Halt>
-    ensures { Wrote O.taken O.faults text.now out.old out.new result }
+    ensures wrote { Wrote O.taken O.faults text.now out.old out.new result }
+    ensures sink { IfErr result (λ halt. halt ≡ Halt.Sink) }
 {
     write_all(out, text)?;
     Ok(())
 }
 
 fn write_first<O: Sink>(out: &mut O) -> Result<(), Halt>
-    ensures { Wrote O.taken O.faults first_line out.old out.new result }
+    ensures wrote { Wrote O.taken O.faults first_line out.old out.new result }
+    ensures sink { IfErr result (λ halt. halt ≡ Halt.Sink) }
 {
     write_text(out, b"dix sweep 1\n")
 }
 
 fn write_last<O: Sink>(out: &mut O, counts: Counts) -> Result<(), Halt>
-    ensures { Wrote O.taken O.faults (last_line counts) out.old out.new result }
+    ensures wrote { Wrote O.taken O.faults (last_line counts) out.old out.new result }
+    ensures sink { IfErr result (λ halt. halt ≡ Halt.Sink) }
 {
     write_text(out, last_line(counts).as_slice())
 }
@@ -218,6 +225,7 @@ fn write_sweep<O: Sink>(
     ensures whole { OnOk result (Appended (sweep_text (swept_in base.now)) (O.taken out.old) (O.taken out.new)) }
     ensures part { OnErr result (AppendedSome (sweep_text (swept_in base.now)) (O.taken out.old) (O.taken out.new)) }
     ensures cause { IsErrOf result Halt.Sink → Rose (O.faults out.old) (O.faults out.new) }
+    ensures calm { (IsErrOf result Halt.Sink → ⊥) → O.faults out.new ≡ O.faults out.old }
     ensures count { O.faults out.old ≤ O.faults out.new }
 {
     write_first(out)?;
@@ -286,6 +294,7 @@ fn sweep_ground<O: Sink>(alloc: Global, base: &Ground<'_>, out: &mut O) -> Resul
     ensures count { O.faults out.old ≤ O.faults out.new }
     ensures handed { OnOk result (O.passed out.new ≡ O.taken out.new) }
     ensures halted { result ≡ Err (Unswept.Halted Halt.Memory) → O.passed out.new ≡ O.taken out.new }
+    ensures calm { (result ≡ Err (Unswept.Halted Halt.Sink) → ⊥) → O.faults out.new ≡ O.faults out.old }
 {
     let Ok(sites) = sites_of(alloc, base.script.ops.as_slice()) else {
         return Err(Unswept::Stopped(Refusal::Memory));
@@ -304,7 +313,7 @@ fn sweep_ground<O: Sink>(alloc: Global, base: &Ground<'_>, out: &mut O) -> Resul
 ///
 /// `Stopped` comes where the script comes to no run, or has a `fault`, `shift` or `overwrite` line of its own; then
 /// nothing was written. After `Halted` the beginning of the text was written; `Sink` comes only where the sink's count
-/// of faults rose.
+/// of faults rose, and with any other answer it stayed.
 pub fn sweep_script<O: Sink>(
     alloc: Global,
     byte: u8,
@@ -319,6 +328,7 @@ pub fn sweep_script<O: Sink>(
     ensures count { O.faults out.old ≤ O.faults out.new }
     ensures handed { OnOk result (O.passed out.new ≡ O.taken out.new) }
     ensures halted { result ≡ Err (Unswept.Halted Halt.Memory) → O.passed out.new ≡ O.taken out.new }
+    ensures calm { (result ≡ Err (Unswept.Halted Halt.Sink) → ⊥) → O.faults out.new ≡ O.faults out.old }
 {
     let base = match begun(alloc, byte, units, script) {
         Ok(base) => base,

@@ -31,6 +31,7 @@ fn show_piece<S: Store, O: Sink>(
         (S.state store.old).faults (S.state store.new).faults (O.faults out.old) (O.faults out.new) (O.taken out.old) (O.taken out.new) }
     ensures store { WasRead (S.state store.old) (S.state store.new) }
     ensures sinks { O.faults out.old ≤ O.faults out.new }
+    ensures calm { (result ≡ Err WalkFault.Sink → ⊥) → O.faults out.new ≡ O.faults out.old }
 {
     match read_blocks(store, image, at, into) {
         Ok(()) => {}
@@ -72,6 +73,7 @@ fn show_lines<S: Store, O: Sink>(
         (S.state store.old).faults (S.state store.new).faults (O.faults out.old) (O.faults out.new) (O.taken out.old) (O.taken out.new) }
     ensures store { WasRead (S.state store.old) (S.state store.new) }
     ensures sinks { O.faults out.old ≤ O.faults out.new }
+    ensures calm { (result ≡ Err WalkFault.Sink → ⊥) → O.faults out.new ≡ O.faults out.old }
 {
     let len = block_bytes(image, place.dev);
     let most = blocks_in(room.len(), len);
@@ -109,6 +111,7 @@ fn show_all<S: Store, O: Sink>(
         (S.state store.old).faults (S.state store.new).faults (O.faults out.old) (O.faults out.new) (O.taken out.old) (O.taken out.new) }
     ensures store { WasRead (S.state store.old) (S.state store.new) }
     ensures sinks { O.faults out.old ≤ O.faults out.new }
+    ensures calm { (result ≡ Err WalkFault.Sink → ⊥) → O.faults out.new ≡ O.faults out.old }
 {
     match write_first(out) {
         Ok(()) => {}
@@ -129,7 +132,7 @@ fn show_all<S: Store, O: Sink>(
 /// The sink passes on all that it holds.
 ///
 /// `Store` and `Sink` come only where their count of faults rose; then the beginning of the text was written.
-/// No byte of the store changes.
+/// No byte of the store changes. Unless `Sink` comes the sink's count stayed.
 pub fn show_blocks<S: Store, O: Sink>(
     store: &mut S,
     image: &Image,
@@ -145,6 +148,7 @@ pub fn show_blocks<S: Store, O: Sink>(
         (S.state store.old).faults (S.state store.new).faults (O.faults out.old) (O.faults out.new) (O.taken out.old) (O.taken out.new) }
     ensures store { WasRead (S.state store.old) (S.state store.new) }
     ensures sinks { O.faults out.old ≤ O.faults out.new }
+    ensures calm { (result ≡ Err WalkFault.Sink → ⊥) → O.faults out.new ≡ O.faults out.old }
     ensures handed { (result ≡ Err WalkFault.Sink → ⊥) → O.passed out.new ≡ O.taken out.new }
 {
     let ended = show_all(store, image, place, room, only_bad, out);

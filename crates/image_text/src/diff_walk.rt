@@ -57,6 +57,7 @@ fn diff_piece<S: Store, T: Store, O: Sink>(
     ensures first { WasRead (S.state store.old) (S.state store.new) }
     ensures second { WasRead (T.state other.old) (T.state other.new) }
     ensures sinks { O.faults out.old ≤ O.faults out.new }
+    ensures calm { (result ≡ Err DiffFault.Sink → ⊥) → O.faults out.new ≡ O.faults out.old }
 {
     match read_blocks(store, sides.image, sides.place, into) {
         Ok(()) => {}
@@ -103,6 +104,7 @@ fn diff_lines<S: Store, T: Store, O: Sink>(
     ensures first { WasRead (S.state store.old) (S.state store.new) }
     ensures second { WasRead (T.state other.old) (T.state other.new) }
     ensures sinks { O.faults out.old ≤ O.faults out.new }
+    ensures calm { (result ≡ Err DiffFault.Sink → ⊥) → O.faults out.new ≡ O.faults out.old }
 {
     let Sides {
         image,
@@ -166,6 +168,7 @@ fn diff_all<S: Store, T: Store, O: Sink>(
     ensures first { WasRead (S.state store.old) (S.state store.new) }
     ensures second { WasRead (T.state other.old) (T.state other.new) }
     ensures sinks { O.faults out.old ≤ O.faults out.new }
+    ensures calm { (result ≡ Err DiffFault.Sink → ⊥) → O.faults out.new ≡ O.faults out.old }
 {
     match write_diff_first(out) {
         Ok(()) => {}
@@ -186,7 +189,7 @@ fn diff_all<S: Store, T: Store, O: Sink>(
 /// into half of `room`, in pieces of as many as both halves hold. The sink passes on all that it holds.
 ///
 /// `First`, `Second` and `Sink` come only where that count of faults rose; then the beginning of the text was written.
-/// No byte of a store changes.
+/// No byte of a store changes. Unless `Sink` comes the sink's count stayed.
 pub fn diff_blocks<S: Store, T: Store, O: Sink>(
     store: &mut S,
     image: &Image,
@@ -206,6 +209,7 @@ pub fn diff_blocks<S: Store, T: Store, O: Sink>(
     ensures first { WasRead (S.state store.old) (S.state store.new) }
     ensures second { WasRead (T.state other.old) (T.state other.new) }
     ensures sinks { O.faults out.old ≤ O.faults out.new }
+    ensures calm { (result ≡ Err DiffFault.Sink → ⊥) → O.faults out.new ≡ O.faults out.old }
     ensures handed { (result ≡ Err DiffFault.Sink → ⊥) → O.passed out.new ≡ O.taken out.new }
 {
     let half = room.len() / 2;

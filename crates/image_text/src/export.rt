@@ -88,6 +88,7 @@ fn export_piece<S: Store, O: Sink>(
         (S.state store.old).faults (S.state store.new).faults (O.faults out.old) (O.faults out.new) (O.taken out.old) (O.taken out.new) }
     ensures store { WasRead (S.state store.old) (S.state store.new) }
     ensures sinks { O.faults out.old ≤ O.faults out.new }
+    ensures calm { (result ≡ Err WalkFault.Sink → ⊥) → O.faults out.new ≡ O.faults out.old }
 {
     match read_blocks(store, image, at, into) {
         Ok(()) => {}
@@ -117,6 +118,7 @@ fn export_all<S: Store, O: Sink>(
         (S.state store.old).faults (S.state store.new).faults (O.faults out.old) (O.faults out.new) (O.taken out.old) (O.taken out.new) }
     ensures store { WasRead (S.state store.old) (S.state store.new) }
     ensures sinks { O.faults out.old ≤ O.faults out.new }
+    ensures calm { (result ≡ Err WalkFault.Sink → ⊥) → O.faults out.new ≡ O.faults out.old }
 {
     let len = block_bytes(image, place.dev);
     let most = blocks_in(room.len(), len);
@@ -137,7 +139,7 @@ fn export_all<S: Store, O: Sink>(
 /// stretches of as many as it holds. The sink passes on all that it holds.
 ///
 /// `Store` and `Sink` come only where their count of faults rose; then the beginning of the dump was written.
-/// No byte of the store changes.
+/// No byte of the store changes. Unless `Sink` comes the sink's count stayed.
 pub fn export_blocks<S: Store, O: Sink>(
     store: &mut S,
     image: &Image,
@@ -153,6 +155,7 @@ pub fn export_blocks<S: Store, O: Sink>(
         (S.state store.old).faults (S.state store.new).faults (O.faults out.old) (O.faults out.new) (O.taken out.old) (O.taken out.new) }
     ensures store { WasRead (S.state store.old) (S.state store.new) }
     ensures sinks { O.faults out.old ≤ O.faults out.new }
+    ensures calm { (result ≡ Err WalkFault.Sink → ⊥) → O.faults out.new ≡ O.faults out.old }
     ensures handed { (result ≡ Err WalkFault.Sink → ⊥) → O.passed out.new ≡ O.taken out.new }
 {
     let ended = export_all(store, image, place, layout, room, out);

@@ -164,33 +164,33 @@ reads_both words one other old mid new old_second mid_second new_second left rea
 
 pub compared : (words : List (List ℕ)) (one other : PlaceWord) (old mid new old_second mid_second new_second : StoreState) (left : Option (List ℕ)) (reads : ℕ) (rig : RigState) (x y : Found) (r : Result ℕ DiffFault) (taken taken' : Option (List ℕ)) (o n : ℕ) (s : Status) →
     AreFound words one other old mid old_second mid_second x y → Walked mid new mid_second new_second → AreOneSize (of_both x y) → x.at.count ≡ y.at.count →
-    DiffEnds r (diff_of (of_both x y)) (of_both x y) mid.bytes mid_second.bytes (counts mid.faults new.faults mid_second.faults new_second.faults o n) taken taken' → s ≡ compared_status r →
+    DiffEnds r (diff_of (of_both x y)) (of_both x y) mid.bytes mid_second.bytes (counts mid.faults new.faults mid_second.faults new_second.faults o n) taken taken' → ((r ≡ Err compare.Sink → ⊥) → n ≡ o) → s ≡ compared_status r →
     Came (Some (Diff one other)) (Ok s) (on_both words old new old_second new_second left reads rig) taken taken' o n
-compared words one other old mid new old_second mid_second new_second left reads rig x y (Ok differ) taken taken' o n s h g z m e w = record {
+compared words one other old mid new old_second mid_second new_second left reads rig x y (Ok differ) taken taken' o n s h g z m e calm w = record {
   comes = (
     both_read x y e.ones e.twos None,
     has_compared words one other old mid new old_second mid_second new_second left reads rig x y e.ones e.twos None h g z m e.has tt,
-    inl (w ∙ ap (λ (k : ℕ). done_status (ltb 0 k)) e.counted, e.written),
+    inl (w ∙ ap (λ (k : ℕ). done_status (ltb 0 k)) e.counted, e.written, calm (λ v. absurd (cc))),
   );
   kept = reads_both words one other old mid new old_second mid_second new_second left reads rig x y h g;
 }
-compared words one other old mid new old_second mid_second new_second left reads rig x y (Err compare.First) taken taken' o n s h g z m e w = record {
+compared words one other old mid new old_second mid_second new_second left reads rig x y (Err compare.First) taken taken' o n s h g z m e calm w = record {
   comes = (
     both_read x y e.1.ones e.1.twos (Some e.1.written.0),
     has_compared words one other old mid new old_second mid_second new_second left reads rig x y e.1.ones e.1.twos (Some e.1.written.0) h g z m e.1.has (inl (rose_since old.faults mid.faults new.faults h.kept.count e.0)),
-    inl (w, e.1.written.1),
+    inl (w, e.1.written.1, calm (λ v. absurd (cc))),
   );
   kept = reads_both words one other old mid new old_second mid_second new_second left reads rig x y h g;
 }
-compared words one other old mid new old_second mid_second new_second left reads rig x y (Err compare.Second) taken taken' o n s h g z m e w = record {
+compared words one other old mid new old_second mid_second new_second left reads rig x y (Err compare.Second) taken taken' o n s h g z m e calm w = record {
   comes = (
     both_read x y e.1.ones e.1.twos (Some e.1.written.0),
     has_compared words one other old mid new old_second mid_second new_second left reads rig x y e.1.ones e.1.twos (Some e.1.written.0) h g z m e.1.has (inr (rose_since old_second.faults mid_second.faults new_second.faults h.second_kept.count e.0)),
-    inl (w, e.1.written.1),
+    inl (w, e.1.written.1, calm (λ v. absurd (cc))),
   );
   kept = reads_both words one other old mid new old_second mid_second new_second left reads rig x y h g;
 }
-compared words one other old mid new old_second mid_second new_second left reads rig x y (Err compare.Sink) taken taken' o n s h g z m e w = record {
+compared words one other old mid new old_second mid_second new_second left reads rig x y (Err compare.Sink) taken taken' o n s h g z m e calm w = record {
   comes = (both_read x y e.1.ones e.1.twos None, has_compared words one other old mid new old_second mid_second new_second left reads rig x y e.1.ones e.1.twos None h g z m e.1.has tt, inr (w, e.0, e.1.written));
   kept = reads_both words one other old mid new old_second mid_second new_second left reads rig x y h g;
 }

@@ -129,9 +129,9 @@ found_since : (x : Found) (place : PlaceWord) (layout : Layout) (name : List ℕ
 found_since x place layout name old mid new n k h = has_since (units_open x.image) x.at place name old mid new n k h.has
 
 pub exported : (words : List (List ℕ)) (place : PlaceWord) (layout : Layout) (old mid new : StoreState) (left : Option (List ℕ)) (reads : ℕ) (rig : RigState) (second : StoreState) (x : Found) (r : Result (Unit {0}) WalkFault) (taken taken' : Option (List ℕ)) (o n : ℕ) (s : Status) →
-    IsFound x place (image_in words) old mid → ReadsOnce (image_in words) old mid → WasRead mid new → fits layout (spec_of (units_open x.image) x.at.dev).ty ≡ true → DumpEnds r layout (units_open x.image) x.at mid.bytes mid.faults new.faults o n taken taken' → s ≡ dumped_status r →
+    IsFound x place (image_in words) old mid → ReadsOnce (image_in words) old mid → WasRead mid new → fits layout (spec_of (units_open x.image) x.at.dev).ty ≡ true → DumpEnds r layout (units_open x.image) x.at mid.bytes mid.faults new.faults o n taken taken' → ((r ≡ Err walk.Sink → ⊥) → n ≡ o) → s ≡ dumped_status r →
     Came (Some (Export place layout)) (Ok s) (on_first words old new left reads rig second) taken taken' o n
-exported words place layout old mid new left reads rig second x (Ok y) taken taken' o n s h k g z e w = record {
+exported words place layout old mid new left reads rig second x (Ok y) taken taken' o n s h k g z e calm w = record {
   comes = (
     record { units = units_open x.image; at = x.at; blocks = e.blocks; broken = None },
     record {
@@ -139,11 +139,11 @@ exported words place layout old mid new left reads rig second x (Ok y) taken tak
       has = subst (λ (b : Option (List ℕ)). HasStretch (units_open x.image) x.at e.blocks b) k.same e.has;
       ends = tt;
     },
-    inl (w, e.written),
+    inl (w, e.written, calm (λ v. absurd (cc))),
   );
   kept = reads_first words old new left reads rig second (reads_on (image_in words) old mid new k g);
 }
-exported words place layout old mid new left reads rig second x (Err walk.Store) taken taken' o n s h k g z e w = record {
+exported words place layout old mid new left reads rig second x (Err walk.Store) taken taken' o n s h k g z e calm w = record {
   comes = (
     record { units = units_open x.image; at = x.at; blocks = e.1.blocks; broken = Some e.1.written.0 },
     record {
@@ -151,11 +151,11 @@ exported words place layout old mid new left reads rig second x (Err walk.Store)
       has = subst (λ (b : Option (List ℕ)). HasStretch (units_open x.image) x.at e.1.blocks b) k.same e.1.has;
       ends = rose_since old.faults mid.faults new.faults k.count e.0;
     },
-    inl (w, e.1.written.1),
+    inl (w, e.1.written.1, calm (λ v. absurd (cc))),
   );
   kept = reads_first words old new left reads rig second (reads_on (image_in words) old mid new k g);
 }
-exported words place layout old mid new left reads rig second x (Err walk.Sink) taken taken' o n s h k g z e w = record {
+exported words place layout old mid new left reads rig second x (Err walk.Sink) taken taken' o n s h k g z e calm w = record {
   comes = (
     record { units = units_open x.image; at = x.at; blocks = e.1.blocks; broken = None },
     record {

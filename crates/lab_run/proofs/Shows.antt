@@ -86,17 +86,17 @@ spared words only_bad place h left reads rig second r taken o e =
     record { comes = (subst (λ (y : Refusal). CauseNotShown place y f) (sym e) tt, refl, refl); kept = reads_first words h h left reads rig second (reads_none (image_in words) h) }
 
 pub shown : (words : List (List ℕ)) (only_bad : Bool) (place : PlaceWord) (old mid new : StoreState) (left : Option (List ℕ)) (reads : ℕ) (rig : RigState) (second : StoreState) (x : Found) (r : Result Tally WalkFault) (taken taken' : Option (List ℕ)) (o n : ℕ) (s : Status) →
-    IsFound x place (image_in words) old mid → ReadsOnce (image_in words) old mid → WasRead mid new → ShowEnds r (text_of only_bad (units_open x.image) x.at) (units_open x.image) x.at mid.bytes mid.faults new.faults o n taken taken' → s ≡ shown_status r →
+    IsFound x place (image_in words) old mid → ReadsOnce (image_in words) old mid → WasRead mid new → ShowEnds r (text_of only_bad (units_open x.image) x.at) (units_open x.image) x.at mid.bytes mid.faults new.faults o n taken taken' → ((r ≡ Err walk.Sink → ⊥) → n ≡ o) → s ≡ shown_status r →
     Came (Some (ShowBlocks only_bad place)) (Ok s) (on_first words old new left reads rig second) taken taken' o n
-shown words only_bad place old mid new left reads rig second x (Ok tally) taken taken' o n s h k g e w = record {
+shown words only_bad place old mid new left reads rig second x (Ok tally) taken taken' o n s h k g e calm w = record {
   comes = (
     record { units = units_open x.image; at = x.at; blocks = e.blocks; broken = None },
     record { first = has_since (units_open x.image) x.at place (image_in words) old mid new g.named g.opened h.has; has = subst (λ (b : Option (List ℕ)). HasStretch (units_open x.image) x.at e.blocks b) k.same e.has; ends = tt },
-    inl (w ∙ ap (λ (m : ℕ). done_status (ltb 0 m)) e.bad, e.written),
+    inl (w ∙ ap (λ (m : ℕ). done_status (ltb 0 m)) e.bad, e.written, calm (λ z. absurd (cc))),
   );
   kept = reads_first words old new left reads rig second (reads_on (image_in words) old mid new k g);
 }
-shown words only_bad place old mid new left reads rig second x (Err walk.Store) taken taken' o n s h k g e w = record {
+shown words only_bad place old mid new left reads rig second x (Err walk.Store) taken taken' o n s h k g e calm w = record {
   comes = (
     record { units = units_open x.image; at = x.at; blocks = e.1.blocks; broken = Some e.1.written.0 },
     record {
@@ -104,11 +104,11 @@ shown words only_bad place old mid new left reads rig second x (Err walk.Store) 
       has = subst (λ (b : Option (List ℕ)). HasStretch (units_open x.image) x.at e.1.blocks b) k.same e.1.has;
       ends = rose_since old.faults mid.faults new.faults k.count e.0;
     },
-    inl (w, e.1.written.1),
+    inl (w, e.1.written.1, calm (λ z. absurd (cc))),
   );
   kept = reads_first words old new left reads rig second (reads_on (image_in words) old mid new k g);
 }
-shown words only_bad place old mid new left reads rig second x (Err walk.Sink) taken taken' o n s h k g e w = record {
+shown words only_bad place old mid new left reads rig second x (Err walk.Sink) taken taken' o n s h k g e calm w = record {
   comes = (
     record { units = units_open x.image; at = x.at; blocks = e.1.blocks; broken = None },
     record { first = has_since (units_open x.image) x.at place (image_in words) old mid new g.named g.opened h.has; has = subst (λ (b : Option (List ℕ)). HasStretch (units_open x.image) x.at e.1.blocks b) k.same e.1.has; ends = tt },

@@ -60,19 +60,19 @@ unswept_so words h left left' reads reads' rig second byte units script r taken 
     record { comes = (inr (script, read, e.0), e.1, e.2); kept = reads_source words h left left' reads reads' rig second k }
 
 pub whole : (words : List (List ℕ)) (h : StoreState) (left left' : Option (List ℕ)) (reads reads' : ℕ) (rig : RigState) (second : StoreState) (byte : ℕ) (units : List UnitSpec) (script : Script) (unseen : Bool) (taken taken' : Option (List ℕ)) (o n : ℕ) (s : Status) →
-    reads ≤ reads' → HasRead script left left' reads reads' → SweepEnds (Ok unseen) (swept byte units script) o n taken taken' → s ≡ done_status unseen → Came (Some (Sweep byte units)) (Ok s) (on_input words h h left left' reads reads' rig second) taken taken' o n
-whole words h left left' reads reads' rig second byte units script unseen taken taken' o n s k read e w = record {
-  comes = (record { script = script; broken = None }, record { read = read; own = e.0 }, inl (w ∙ ap done_status e.1, e.2));
+    reads ≤ reads' → HasRead script left left' reads reads' → SweepEnds (Ok unseen) (swept byte units script) o n taken taken' → n ≡ o → s ≡ done_status unseen → Came (Some (Sweep byte units)) (Ok s) (on_input words h h left left' reads reads' rig second) taken taken' o n
+whole words h left left' reads reads' rig second byte units script unseen taken taken' o n s k read e calm w = record {
+  comes = (record { script = script; broken = None }, record { read = read; own = e.0 }, inl (w ∙ ap done_status e.1, e.2, calm));
   kept = reads_source words h left left' reads reads' rig second k;
 }
 
 pub halted : (words : List (List ℕ)) (h : StoreState) (left left' : Option (List ℕ)) (reads reads' : ℕ) (rig : RigState) (second : StoreState) (byte : ℕ) (units : List UnitSpec) (script : Script) (x : Halt) (taken taken' : Option (List ℕ)) (o n : ℕ) (s : Status) →
-    reads ≤ reads' → HasRead script left left' reads reads' → SweepEnds (Err (unswept.Halted x)) (swept byte units script) o n taken taken' → s ≡ halt_status x → Came (Some (Sweep byte units)) (Ok s) (on_input words h h left left' reads reads' rig second) taken taken' o n
-halted words h left left' reads reads' rig second byte units script halt.Memory taken taken' o n s k read e w = record {
-  comes = (record { script = script; broken = Some e.1.0 }, record { read = read; own = e.0 }, inl (w, e.1.1));
+    reads ≤ reads' → HasRead script left left' reads reads' → SweepEnds (Err (unswept.Halted x)) (swept byte units script) o n taken taken' → ((x ≡ halt.Sink → ⊥) → n ≡ o) → s ≡ halt_status x → Came (Some (Sweep byte units)) (Ok s) (on_input words h h left left' reads reads' rig second) taken taken' o n
+halted words h left left' reads reads' rig second byte units script halt.Memory taken taken' o n s k read e calm w = record {
+  comes = (record { script = script; broken = Some e.1.0 }, record { read = read; own = e.0 }, inl (w, e.1.1, calm (λ z. absurd (cc))));
   kept = reads_source words h left left' reads reads' rig second k;
 }
-halted words h left left' reads reads' rig second byte units script halt.Sink taken taken' o n s k read e w = record {
+halted words h left left' reads reads' rig second byte units script halt.Sink taken taken' o n s k read e calm w = record {
   comes = (record { script = script; broken = None }, record { read = read; own = e.0 }, inr (w, e.1, e.2));
   kept = reads_source words h left left' reads reads' rig second k;
 }
@@ -80,6 +80,15 @@ halted words h left left' reads reads' rig second byte units script halt.Sink ta
 -- what a sweep ends in, by the units of the words
 pub ends_over : (r : Result Bool Unswept) (byte : ℕ) (us units : List UnitSpec) (script : Script) (o n : ℕ) (taken taken' : Option (List ℕ)) → us ≡ units → SweepEnds r (swept byte us script) o n taken taken' → SweepEnds r (swept byte units script) o n taken taken'
 ends_over r byte us units script o n taken taken' e h = subst (λ (x : List UnitSpec). SweepEnds r (swept byte x script) o n taken taken') e h
+
+abbrev halt_in : Result Bool Unswept → Halt
+halt_in (Err (unswept.Halted x)) = x
+halt_in (Err (unswept.Stopped r)) = halt.Memory
+halt_in (Ok unseen) = halt.Memory
+
+-- a sweep that was halted, but not by the sink
+pub not_by_sink : (u : Unswept) (x : Halt) → u ≡ unswept.Halted x → (x ≡ halt.Sink → ⊥) → Err u ≡ Err (unswept.Halted halt.Sink) → ⊥
+not_by_sink u x e calm h = calm (ap (λ (y : Unswept). halt_in (Err y)) (sym e) ∙ ap halt_in h)
 
 pub as_ends : (u v : Unswept) (w : Swept) (o n : ℕ) (taken taken' : Option (List ℕ)) → u ≡ v → SweepEnds (Err u) w o n taken taken' → SweepEnds (Err v) w o n taken taken'
 as_ends u v w o n taken taken' e h = subst (λ (x : Unswept). SweepEnds (Err x) w o n taken taken') e h

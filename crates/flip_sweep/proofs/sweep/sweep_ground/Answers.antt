@@ -1,6 +1,7 @@
 use Rattle.std.proofs.Common.{inr, None, refl, ap, ◌≡◌, ◌∙◌}
 use Rattle.flip_sweep.specs.Flips.{own_fault, sites_from, sites_of}
 use Rattle.flip_sweep.specs.Ground.{swept_in}
+use Rattle.flip_sweep.specs.Swept.{unseen_in}
 use Rattle.flip_sweep.proofs.Ending.{ends, fails}
 use Rattle.flip_sweep.proofs.sweep.sweep_ground.Goals as goal
 
@@ -26,3 +27,6 @@ returns-clause-swept g c =
     let e = c.write_sweep-ended.ensures in
     fails c.write_sweep-ended.result (swept_in c.args.base.now) _ _ _ _ _ _
     (record { free = c.requires.base.own; counts = e.counts; whole = e.whole; part = e.part; cause = e.cause; count = e.count }) c.in-Err.ensures.cause c.flush.ensures.same
+
+pub returns-in-Ok-flush-clause-calm : goal.returns-in-Ok-flush-clause-calm
+returns-in-Ok-flush-clause-calm g c = λ h. c.in-Ok-flush.ensures.calm ∙ c.write_sweep-ended.ensures.calm (λ e. h (c.has_unseen.ensures ∙ ap unseen_in e))

@@ -1,9 +1,10 @@
-use Rattle.std.proofs.Common.{◌≡◌, ℕ, ◌+◌, ◌-◌, ◌<◌, [], refl, ap, subst, arith}
+use Rattle.std.proofs.Common.{◌≡◌, ℕ, ◌+◌, ◌-◌, ◌<◌, [], refl, ap, subst, ◌∙◌, arith}
 use Rattle.report_text.proofs.Flow.{Left, at_end, at_start, breaks_off, goes_on, stops}
 use Rattle.flip_sweep.specs.Ground.{swept_in}
 use Rattle.flip_sweep.specs.Rows.{next_open, row, row_before}
 use Rattle.flip_sweep.specs.Swept.{rows_at}
 use Rattle.flip_sweep.specs.declared.stretch.Stretch.{Stretch}
+use Rattle.flip_sweep.proofs.Ending.{not_calm, passed_on}
 use Rattle.flip_sweep.proofs.Rowing.{small_less}
 use Rattle.flip_sweep.proofs.Sweeping.{counted_first, counted_last, counted_next, last_on, open_rows, rows_first, rows_last, rows_next, small_first, small_on}
 use Rattle.flip_sweep.proofs.sweep.sweep_site.Goals as goal
@@ -32,7 +33,7 @@ loop-current-init g c =
       counted = counted_first w at s c.args.counts c.with-counted.result c.in_ok-opened.ensures c.with-counted.ensures;
       small = small_first w at s c.args.counts c.with-counted.result c.in_ok-opened.ensures c.with-counted.ensures c.requires.small;
       within = omega (arith, none);
-      count = omega arith;
+      count = refl;
     }
 
 pub returns-in_err-verdict-clause-part : goal.returns-in_err-verdict-clause-part
@@ -69,7 +70,7 @@ loop-current-preserved g c =
       counted = counted_next w at s next v c.loop-current.counted c.with-more.result _ c.in_ok-verdict.ensures l c.in_ok-next.ensures.current c.with-more.ensures inv.counted;
       small = small_on w s next v c.loop-current.counted c.with-more.result l c.in_ok-next.ensures.current c.with-more.ensures inv.small;
       within = omega (arith, last_on w s next v l c.in_ok-next.ensures.current, l);
-      count = omega (arith, c.go_on.ensures.wrote.count, inv.count);
+      count = c.in_ok-next.ensures.wrote.calm ∙ inv.count;
     }
 
 less_left : (len last next : ℕ) → next ≡ last + 1 → last + 1 < len → len - next < len - last
@@ -90,7 +91,7 @@ returns-in_err-write_row-clause-part g c =
     let s = c.loop-current.current in
     on_err c.from_residual-in_err-write_row.result (breaks_off (rows_at w at) (row at s) [] _ _ _
     (subst (λ t. Left (rows_at w at) t (g.O.Sink.taken c.args.out.now) (g.O.Sink.taken c.loop-current.out)) (rows_last w at s (omega (arith, c.loop-current-test.false, c.frame_len-len.ensures.len))) c.loop-current.invariant.rows)
-    c.in_err-write_row.ensures.part)
+    c.in_err-write_row.ensures.wrote.part)
 
 pub returns-clause-counts : goal.returns-clause-counts
 returns-clause-counts g c =
@@ -104,4 +105,20 @@ returns-clause-whole g c =
     let s = c.loop-current.current in
     at_end (rows_at w at) [] _ _ (goes_on (rows_at w at) (row at s) [] _ _ _
     (subst (λ t. Left (rows_at w at) t (g.O.Sink.taken c.args.out.now) (g.O.Sink.taken c.loop-current.out)) (rows_last w at s (omega (arith, c.loop-current-test.false, c.frame_len-len.ensures.len))) c.loop-current.invariant.rows)
-    c.in_ok-write_row.ensures.whole) refl
+    c.in_ok-write_row.ensures.wrote.whole) refl
+
+pub returns-in_err-verdict-clause-calm : goal.returns-in_err-verdict-clause-calm
+returns-in_err-verdict-clause-calm g c = λ h. c.loop-current.invariant.count
+
+pub returns-in_err-next-clause-calm : goal.returns-in_err-next-clause-calm
+returns-in_err-next-clause-calm g c =
+    let r = c.from_residual-in_err-next in
+    λ h. not_calm r.result (passed_on r.result c.in_err-next.field-0.0 r.ensures.1 c.in_err-next.ensures.sink) h
+
+pub returns-in_err-write_row-clause-calm : goal.returns-in_err-write_row-clause-calm
+returns-in_err-write_row-clause-calm g c =
+    let r = c.from_residual-in_err-write_row in
+    λ h. not_calm r.result (passed_on r.result c.in_err-write_row.field-0.0 r.ensures.1 c.in_err-write_row.ensures.sink) h
+
+pub returns-clause-calm : goal.returns-clause-calm
+returns-clause-calm g c = λ h. c.in_ok-write_row.ensures.wrote.calm ∙ c.loop-current.invariant.count

@@ -1,4 +1,4 @@
-use Rattle.std.proofs.Common.{◌≡◌, ◌+◌, ◌-◌, ◌<◌, ◌≤◌}
+use Rattle.std.proofs.Common.{◌≡◌, ◌+◌, ◌-◌, ◌<◌}
 use Rattle.report_text.proofs.Flow.{Left}
 use Rattle.flip_sweep.specs.Ground.{swept_in}
 use Rattle.flip_sweep.specs.Rows.{IsSmall, all_counted}
@@ -15,7 +15,7 @@ invariant-loop-current g l =
       counted : all_counted l.counted (behind w l.site l.current) ≡ all_counted l.fn.counts (verdicts_at w l.site);
       small : IsSmall l.counted (len - (l.current.last + 1));
       within : l.current.last < len;
-      count : g.O.Sink.faults l.initial.out ≤ g.O.Sink.faults l.out;
+      count : g.O.Sink.faults l.out ≡ g.O.Sink.faults l.initial.out;
     }
 
 abbrev pub decreases-loop-current : goal.decreases-loop-current

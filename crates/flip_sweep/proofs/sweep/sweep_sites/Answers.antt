@@ -1,4 +1,4 @@
-use Rattle.std.proofs.Common.{◌*◌, List, length, ap, subst, ◌∙◌, arith}
+use Rattle.std.proofs.Common.{◌*◌, List, length, refl, ap, subst, ◌∙◌}
 use Rattle.report_text.proofs.Flow.{Left, at_end, at_start, breaks_off, goes_on}
 use Rattle.flip_sweep.specs.Flips.{AreSites}
 use Rattle.flip_sweep.specs.Ground.{swept_in}
@@ -6,6 +6,7 @@ use Rattle.flip_sweep.specs.Rows.{IsSmall}
 use Rattle.flip_sweep.specs.Swept.{all_rows, counts_with, rows_at}
 use Rattle.flip_sweep.specs.declared.counts.Counts.{Counts}
 use Rattle.flip_sweep.specs.declared.flips.Site.{Site}
+use Rattle.flip_sweep.proofs.Ending.{not_sink}
 use Rattle.flip_sweep.proofs.Sounding.{block_few}
 use Rattle.flip_sweep.proofs.Sweeping.{counts_next, no_counts, no_rows, rows_behind, small_begin, small_here, small_site}
 use Rattle.flip_sweep.proofs.sweep.sweep_sites.Goals as goal
@@ -26,7 +27,7 @@ loop-site-init g c =
       counted = ap (λ (x : Counts). counts_with w x c.args.sites.now) c.none-counts.ensures;
       small = small_begin (length c.args.sites.now) c.none-counts.result c.none-counts.ensures c.requires.few;
       sites = c.requires.sites;
-      count = omega arith;
+      count = refl;
     }
 
 pub returns-in_err-more-clause-part : goal.returns-in_err-more-clause-part
@@ -53,7 +54,7 @@ loop-site-preserved g c =
       small = small_site w at c.loop-site.counts more (length behind) (block_few c.args.base.now.script.now c.requires.base.sound) c.in_ok-more.ensures.counts
           (subst (λ (xs : List Site). IsSmall c.loop-site.counts (4104 * length xs)) cut inv.small);
       sites = (subst AreSites cut inv.sites).1;
-      count = omega (arith, c.sweep_site.ensures.count, inv.count);
+      count = c.in_ok-more.ensures.calm (λ e. absurd (cc)) ∙ inv.count;
     }
 
 pub returns-clause-counts : goal.returns-clause-counts
@@ -64,3 +65,9 @@ pub returns-clause-whole : goal.returns-clause-whole
 returns-clause-whole g c =
     let w = swept_in c.args.base.now in
     at_end (all_rows w c.args.sites.now) (all_rows w c.loop-site.rest.now) _ _ c.loop-site.invariant.rows (no_rows w c.loop-site.rest.now c.in_default.ensures.cases)
+
+pub returns-in_err-more-clause-calm : goal.returns-in_err-more-clause-calm
+returns-in_err-more-clause-calm g c = λ h. c.in_err-more.ensures.calm (not_sink c.from_residual.result c.in_err-more.field-0.0 c.from_residual.ensures.1 h) ∙ c.loop-site.invariant.count
+
+pub returns-clause-calm : goal.returns-clause-calm
+returns-clause-calm g c = λ h. c.loop-site.invariant.count

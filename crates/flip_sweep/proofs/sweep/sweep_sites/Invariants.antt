@@ -1,4 +1,4 @@
-use Rattle.std.proofs.Common.{◌≡◌, ◌*◌, ◌≤◌, length}
+use Rattle.std.proofs.Common.{◌≡◌, ◌*◌, length}
 use Rattle.report_text.proofs.Flow.{Left}
 use Rattle.flip_sweep.specs.Flips.{AreSites}
 use Rattle.flip_sweep.specs.Ground.{swept_in}
@@ -12,7 +12,7 @@ invariant-loop-site g l = record {
   counted : counts_with (swept_in l.base) l.counts l.rest ≡ counts_with (swept_in l.base) none_yet l.sites;
   small : IsSmall l.counts (4104 * length l.rest);
   sites : AreSites l.rest;
-  count : g.O.Sink.faults l.initial.out ≤ g.O.Sink.faults l.out;
+  count : g.O.Sink.faults l.out ≡ g.O.Sink.faults l.initial.out;
 }
 
 abbrev pub decreases-loop-site : goal.decreases-loop-site

@@ -1,4 +1,4 @@
-use Rattle.std.proofs.Common.{refl, arith}
+use Rattle.std.proofs.Common.{◌∙◌, refl, arith}
 use Rattle.image_blocks.specs.Images.{units_open}
 use Rattle.image_text.specs.Shown.{lines_of, text_of}
 use Rattle.image_text.proofs.ShowShowing.{first_some, last_some, last_whole, lines_some, passed_on}
@@ -31,3 +31,9 @@ pub returns-in-Ok-write_last-clause-shown : goal.returns-in-Ok-write_last-clause
 returns-in-Ok-write_last-clause-shown g c =
     last_whole c.args.only_bad (units_open c.args.image.now) c.args.place c.in-Ok-show_lines.tally (g.S.Store.state c.args.store.now).bytes (g.O.Sink.taken c.args.out.now) (g.O.Sink.taken c.write_first.new.out) (g.O.Sink.taken c.show_lines.new.out) (g.O.Sink.taken c.write_last.new.out)
     c.in-Ok.ensures.whole c.in-Ok-show_lines.ensures.shown c.in-Ok-write_last.ensures.whole
+
+pub returns-in-Err-show_lines-clause-calm : goal.returns-in-Err-show_lines-clause-calm
+returns-in-Err-show_lines-clause-calm g c = λ h. c.in-Err-show_lines.ensures.calm h ∙ c.in-Ok.ensures.calm
+
+pub returns-in-Ok-write_last-clause-calm : goal.returns-in-Ok-write_last-clause-calm
+returns-in-Ok-write_last-clause-calm g c = λ h. c.in-Ok-write_last.ensures.calm ∙ (c.in-Ok-show_lines.ensures.calm (λ e. absurd (cc)) ∙ c.in-Ok.ensures.calm)

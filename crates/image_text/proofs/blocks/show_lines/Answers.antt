@@ -15,7 +15,7 @@ returns-in-Err-clause-shown g c =
     let inv = c.loop-left.invariant in
     passed_on c.in-Err.fault (lines_of c.args.only_bad us piece) (lines_of c.args.only_bad us c.args.place) us piece c.args.place (g.S.Store.state c.loop-left.store).bytes (g.S.Store.state c.args.store.now).bytes
     (g.S.Store.state c.args.store.now).faults (g.S.Store.state c.loop-left.store).faults (g.S.Store.state c.show_piece.new.store).faults (g.O.Sink.faults c.args.out.now) (g.O.Sink.faults c.loop-left.out) (g.O.Sink.faults c.show_piece.new.out)
-    (g.O.Sink.taken c.loop-left.out) (g.O.Sink.taken c.args.out.now) (g.O.Sink.taken c.show_piece.new.out) inv.store.same inv.store.count inv.sinks
+    (g.O.Sink.taken c.loop-left.out) (g.O.Sink.taken c.args.out.now) (g.O.Sink.taken c.show_piece.new.out) inv.store.same inv.store.count (omega (arith, inv.sinks))
     (λ h. breaks_off c.args.only_bad us c.args.place c.loop-left.left piece _ c.loop-left.tally (g.S.Store.state c.args.store.now).length (g.S.Store.state c.args.store.now).bytes (g.O.Sink.taken c.args.out.now) (g.O.Sink.taken c.loop-left.out) (g.O.Sink.taken c.show_piece.new.out)
     inv.there c.requires.held (g.met.S.Store.told c.args.store.now) inv.lines c.front_of-piece.ensures.value h)
     c.in-Err.ensures.shown
@@ -26,7 +26,7 @@ loop-left-init g c = record {
   lines = at_first c.args.only_bad (units_open c.args.image.now) c.args.place (g.S.Store.state c.args.store.now).bytes (g.O.Sink.taken c.args.out.now);
   room = refl;
   store = not_read _;
-  sinks = omega arith;
+  sinks = refl;
 }
 
 pub both-tally-requires-clause-bad : goal.both-tally-requires-clause-bad
@@ -54,7 +54,7 @@ loop-left-preserved g c =
           (subst (λ i. HasShown (lines_of c.args.only_bad us piece) us piece i c.in-Ok.more (g.O.Sink.taken c.loop-left.out) (g.O.Sink.taken c.show_piece.new.out)) inv.store.same c.in-Ok.ensures.shown));
       room = refilled _ _ _ c.show_piece.auto.into (omega (arith, in_room piece c.loop-left.left c.blocks_in-most.result (length c.args.room.now) c.block_bytes-len.result c.front_of-piece.ensures.value c.blocks_in-most.ensures, inv.room)) ∙ inv.room;
       store = read_on _ _ _ inv.store c.show_piece.ensures.store;
-      sinks = omega (arith, c.show_piece.ensures.sinks, inv.sinks);
+      sinks = c.in-Ok.ensures.calm (λ e. absurd (cc)) ∙ inv.sinks;
     }
 
 pub returns-clause-shown : goal.returns-clause-shown

@@ -1,4 +1,4 @@
-use Rattle.std.proofs.Common.{◌≡◌, ◌≤◌, length}
+use Rattle.std.proofs.Common.{◌≡◌, length}
 use Rattle.image_blocks.specs.Images.{units_open}
 use Rattle.image_blocks.specs.Places.{IsStretch}
 use Rattle.dix_base.specs.Stores.{WasRead}
@@ -11,7 +11,7 @@ invariant-loop-left g l = record {
   lines : SoFar l.only_bad (units_open l.image) l.fn.place l.left (g.S.Store.state l.initial.store).bytes l.tally (g.O.Sink.taken l.initial.out) (g.O.Sink.taken l.out);
   room : length l.room ≡ length l.initial.room;
   store : WasRead (g.S.Store.state l.initial.store) (g.S.Store.state l.store);
-  sinks : g.O.Sink.faults l.initial.out ≤ g.O.Sink.faults l.out;
+  sinks : g.O.Sink.faults l.out ≡ g.O.Sink.faults l.initial.out;
 }
 
 abbrev pub decreases-loop-left : goal.decreases-loop-left

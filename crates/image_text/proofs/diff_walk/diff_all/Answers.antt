@@ -1,4 +1,4 @@
-use Rattle.std.proofs.Common.{refl, arith}
+use Rattle.std.proofs.Common.{◌∙◌, refl, arith}
 use Rattle.image_blocks.specs.Images.{units_open}
 use Rattle.image_text.specs.Compared.{counts, lines_of, places, diff_of}
 use Rattle.image_text.proofs.Comparing.{first_some, last_some, last_whole, lines_some, passed_on}
@@ -35,3 +35,9 @@ pub returns-in-Ok-write_compared-clause-compared : goal.returns-in-Ok-write_comp
 returns-in-Ok-write_compared-clause-compared g c =
     last_whole (places (units_open c.args.sides.image.now) c.args.sides.place (units_open c.args.sides.other_image.now) c.args.sides.to) c.in-Ok-diff_lines.differ (g.S.Store.state c.args.store.now).bytes (g.T.Store.state c.args.other.now).bytes
     (g.O.Sink.taken c.args.out.now) (g.O.Sink.taken c.write_diff_first.new.out) (g.O.Sink.taken c.diff_lines.new.out) (g.O.Sink.taken c.write_compared.new.out) c.in-Ok.ensures.whole c.in-Ok-diff_lines.ensures.compared c.in-Ok-write_compared.ensures.whole
+
+pub returns-in-Err-diff_lines-clause-calm : goal.returns-in-Err-diff_lines-clause-calm
+returns-in-Err-diff_lines-clause-calm g c = λ h. c.in-Err-diff_lines.ensures.calm h ∙ c.in-Ok.ensures.calm
+
+pub returns-in-Ok-write_compared-clause-calm : goal.returns-in-Ok-write_compared-clause-calm
+returns-in-Ok-write_compared-clause-calm g c = λ h. c.in-Ok-write_compared.ensures.calm ∙ (c.in-Ok-diff_lines.ensures.calm (λ e. absurd (cc)) ∙ c.in-Ok.ensures.calm)

@@ -1,4 +1,4 @@
-use Rattle.std.proofs.Common.{length, refl, subst, arith}
+use Rattle.std.proofs.Common.{◌∙◌, length, refl, subst, arith}
 use Rattle.image_blocks.specs.Images.{units_open}
 use Rattle.image_text.specs.Compared.{HasCompared, counts, lines_of, places}
 use Rattle.image_text.proofs.Comparing.{at_first, at_last, breaks_off, few_counted, goes_on, passed_on, pieces_compare, room_for}
@@ -23,7 +23,7 @@ returns-in-Err-clause-compared g c =
     passed_on c.in-Err.fault (lines_of part) (lines_of p) part p (g.S.Store.state c.loop-left.store).bytes (g.T.Store.state c.loop-left.other).bytes (g.S.Store.state c.args.store.now).bytes (g.T.Store.state c.args.other.now).bytes
     (counts (g.S.Store.state c.loop-left.store).faults (g.S.Store.state c.diff_piece.new.store).faults (g.T.Store.state c.loop-left.other).faults (g.T.Store.state c.diff_piece.new.other).faults (g.O.Sink.faults c.loop-left.out) (g.O.Sink.faults c.diff_piece.new.out))
     (counts (g.S.Store.state c.args.store.now).faults (g.S.Store.state c.diff_piece.new.store).faults (g.T.Store.state c.args.other.now).faults (g.T.Store.state c.diff_piece.new.other).faults (g.O.Sink.faults c.args.out.now) (g.O.Sink.faults c.diff_piece.new.out))
-    (g.O.Sink.taken c.loop-left.out) (g.O.Sink.taken c.args.out.now) (g.O.Sink.taken c.diff_piece.new.out) inv.first.same inv.second.same inv.first.count inv.second.count inv.sinks refl refl refl
+    (g.O.Sink.taken c.loop-left.out) (g.O.Sink.taken c.args.out.now) (g.O.Sink.taken c.diff_piece.new.out) inv.first.same inv.second.same inv.first.count inv.second.count (omega (arith, inv.sinks)) refl refl refl
     (λ h. breaks_off p c.loop-left.left c.loop-left.other_left piece other_piece _ c.loop-left.differ (g.S.Store.state c.args.store.now).length (g.T.Store.state c.args.other.now).length (g.S.Store.state c.args.store.now).bytes (g.T.Store.state c.args.other.now).bytes
     (g.O.Sink.taken c.args.out.now) (g.O.Sink.taken c.loop-left.out) (g.O.Sink.taken c.diff_piece.new.out) c.requires.places.many inv.there inv.other_there
     (record { held = c.requires.places.held; told = g.met.S.Store.told c.args.store.now; other_held = c.requires.places.other_held; other_told = g.met.T.Store.told c.args.other.now }) inv.lines c.front_of-piece.ensures.value c.front_of-other_piece.ensures.value h)
@@ -36,7 +36,7 @@ loop-left-init g c = record {
   lines = at_first (places (units_open c.args.sides.image.now) c.args.sides.place (units_open c.args.sides.other_image.now) c.args.sides.to) (g.S.Store.state c.args.store.now).bytes (g.T.Store.state c.args.other.now).bytes (g.O.Sink.taken c.args.out.now);
   first = not_read _;
   second = not_read _;
-  sinks = omega arith;
+  sinks = refl;
 }
 
 pub overflow_add-differ : goal.overflow_add-differ
@@ -64,7 +64,7 @@ loop-left-preserved g c =
           (subst (λ i. HasCompared (lines_of part) part (g.S.Store.state c.loop-left.store).bytes i c.in-Ok.more (g.O.Sink.taken c.loop-left.out) (g.O.Sink.taken c.diff_piece.new.out)) inv.second.same c.in-Ok.ensures.compared));
       first = read_on _ _ _ inv.first c.diff_piece.ensures.first;
       second = read_on _ _ _ inv.second c.diff_piece.ensures.second;
-      sinks = omega (arith, c.diff_piece.ensures.sinks, inv.sinks);
+      sinks = c.in-Ok.ensures.calm (λ e. absurd (cc)) ∙ inv.sinks;
     }
 
 pub diff_piece-requires-clause-room : goal.diff_piece-requires-clause-room

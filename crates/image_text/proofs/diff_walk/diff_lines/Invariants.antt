@@ -1,4 +1,4 @@
-use Rattle.std.proofs.Common.{◌≤◌}
+use Rattle.std.proofs.Common.{◌≡◌}
 use Rattle.image_blocks.specs.Images.{units_open}
 use Rattle.image_blocks.specs.Places.{IsStretch}
 use Rattle.dix_base.specs.Stores.{WasRead}
@@ -13,7 +13,7 @@ invariant-loop-left g l = record {
   lines : SoFar (places (units_open l.sides.image.now) l.sides.place (units_open l.sides.other_image.now) l.sides.to) l.left l.other_left (g.S.Store.state l.initial.store).bytes (g.T.Store.state l.initial.other).bytes l.differ (g.O.Sink.taken l.initial.out) (g.O.Sink.taken l.out);
   first : WasRead (g.S.Store.state l.initial.store) (g.S.Store.state l.store);
   second : WasRead (g.T.Store.state l.initial.other) (g.T.Store.state l.other);
-  sinks : g.O.Sink.faults l.initial.out ≤ g.O.Sink.faults l.out;
+  sinks : g.O.Sink.faults l.out ≡ g.O.Sink.faults l.initial.out;
 }
 
 abbrev pub decreases-loop-left : goal.decreases-loop-left

@@ -14,7 +14,7 @@ returns-in-Err-clause-dumped g c =
     let inv = c.loop-left.invariant in
     passed_on (Unit {0}) (Unit {0}) c.in-Err.fault c.args.layout us piece c.args.place (g.S.Store.state c.loop-left.store).bytes (g.S.Store.state c.args.store.now).bytes
     (g.S.Store.state c.args.store.now).faults (g.S.Store.state c.loop-left.store).faults (g.S.Store.state c.export_piece.new.store).faults (g.O.Sink.faults c.args.out.now) (g.O.Sink.faults c.loop-left.out) (g.O.Sink.faults c.export_piece.new.out)
-    (g.O.Sink.taken c.loop-left.out) (g.O.Sink.taken c.args.out.now) (g.O.Sink.taken c.export_piece.new.out) inv.store.same inv.store.count inv.sinks
+    (g.O.Sink.taken c.loop-left.out) (g.O.Sink.taken c.args.out.now) (g.O.Sink.taken c.export_piece.new.out) inv.store.same inv.store.count (omega (arith, inv.sinks))
     (λ h. breaks_off c.args.layout us c.args.place c.loop-left.left piece _ (g.S.Store.state c.args.store.now).length (g.S.Store.state c.args.store.now).bytes (g.O.Sink.taken c.args.out.now) (g.O.Sink.taken c.loop-left.out) (g.O.Sink.taken c.export_piece.new.out)
     inv.there c.requires.held (g.met.S.Store.told c.args.store.now) inv.pieces c.front_of-piece.ensures.value h)
     c.in-Err.ensures.dumped
@@ -25,7 +25,7 @@ loop-left-init g c = record {
   pieces = at_first c.args.layout (units_open c.args.image.now) c.args.place (g.S.Store.state c.args.store.now).bytes (g.O.Sink.taken c.args.out.now);
   room = refl;
   store = not_read _;
-  sinks = omega arith;
+  sinks = refl;
 }
 
 pub loop-left-preserved : goal.loop-left-preserved
@@ -40,7 +40,7 @@ loop-left-preserved g c =
           (subst (λ i. HasDumped c.args.layout us piece i (g.O.Sink.taken c.loop-left.out) (g.O.Sink.taken c.export_piece.new.out)) inv.store.same c.in-Ok.ensures.dumped);
       room = refilled _ _ _ c.export_piece.auto.into (omega (arith, in_room piece c.loop-left.left c.blocks_in-most.result (length c.args.room.now) c.block_bytes-len.result c.front_of-piece.ensures.value c.blocks_in-most.ensures, inv.room)) ∙ inv.room;
       store = read_on _ _ _ inv.store c.export_piece.ensures.store;
-      sinks = omega (arith, c.export_piece.ensures.sinks, inv.sinks);
+      sinks = c.in-Ok.ensures.calm (λ e. absurd (cc)) ∙ inv.sinks;
     }
 
 pub returns-clause-dumped : goal.returns-clause-dumped

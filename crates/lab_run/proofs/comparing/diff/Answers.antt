@@ -65,7 +65,7 @@ returns-clause-came g c = λ left reads rig.
     let k = finds_named _ c.args.other _ _ beside_was beside_mid c.second_of.ensures c.in-Ok.ensures in
     let s = c.diff_blocks-ended.ensures in
     compared _ c.args.one c.args.other was mid is beside_was beside_mid beside_is left reads rig c.in_ok-here.here c.in-Ok.there c.diff_blocks-ended.result _ _ _ _ c.status_of.result
-    (record { first = h.came; kept = h.kept; second = k.came; second_kept = k.kept }) (record { first = s.first; second = s.second }) (eqb-true _ _ (sym c.are_one_size.ensures ∙ c.if-not-are_one_size.false)) c.if-here-there.false s.compared c.status_of.ensures
+    (record { first = h.came; kept = h.kept; second = k.came; second_kept = k.kept }) (record { first = s.first; second = s.second }) (eqb-true _ _ (sym c.are_one_size.ensures ∙ c.if-not-are_one_size.false)) c.if-here-there.false s.compared s.calm c.status_of.ensures
 
 pub returns-clause-handed : goal.returns-clause-handed
 returns-clause-handed g c = λ h. c.diff_blocks-ended.ensures.handed (λ e. h (c.status_of.ensures ∙ ap compared_status e))

@@ -40,7 +40,7 @@ returns-clause-came g c = λ left reads rig second.
     let h = finds_named _ c.args.place _ _ was mid c.image_of.ensures c.in_ok-found.ensures in
     let s = c.export_blocks-ended.ensures in
     exported _ c.args.place c.args.layout was mid is left reads rig second c.in_ok-found.found c.export_blocks-ended.result _ _ _ _ c.dumped.result h.came h.kept s.store
-    (sym c.fits_there.ensures ∙ c.if-not-fits_there.false) s.dumped c.dumped.ensures
+    (sym c.fits_there.ensures ∙ c.if-not-fits_there.false) s.dumped s.calm c.dumped.ensures
 
 pub returns-clause-handed : goal.returns-clause-handed
 returns-clause-handed g c = λ h. c.export_blocks-ended.ensures.handed (λ e. h (c.dumped.ensures ∙ ap dumped_status e))

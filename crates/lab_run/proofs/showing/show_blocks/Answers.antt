@@ -31,7 +31,7 @@ returns-clause-came g c = λ left reads rig second.
     let is : StoreState = g.A.Store.state c.show_blocks-ended.new.store in
     let h = finds_named _ c.args.place _ _ was mid c.image_of.ensures c.in_ok-found.ensures in
     let s = c.show_blocks-ended.ensures in
-    shown _ c.args.only_bad c.args.place was mid is left reads rig second c.in_ok-found.found c.show_blocks-ended.result _ _ _ _ c.status_of.result h.came h.kept s.store s.shown c.status_of.ensures
+    shown _ c.args.only_bad c.args.place was mid is left reads rig second c.in_ok-found.found c.show_blocks-ended.result _ _ _ _ c.status_of.result h.came h.kept s.store s.shown s.calm c.status_of.ensures
 
 pub returns-clause-handed : goal.returns-clause-handed
 returns-clause-handed g c = λ h. c.show_blocks-ended.ensures.handed (λ e. h (c.status_of.ensures ∙ ap shown_status e))
