@@ -131,7 +131,7 @@ say_explain() { say "$lab explain < $1 marks it; $lab explain IMAGE < $1 also wh
 name_sent() {
     altering=$(grep -nE '^ *(fault|shift|overwrite) ' "$2" 2>/dev/null | head -n 1 | cut -d : -f 1)
     if grep -q '^ *dix vectors' "$2" 2>/dev/null; then
-        say 'docs/LAB.md says what is wrong with a list of commands'
+        say "$lab explain < $2 marks it; what an image refuses besides stands in docs/LAB.md"
     elif [ -n "$altering" ]; then
         say "$1 takes no script with a fault, shift or overwrite line, as line $altering of $2"
     else
@@ -139,16 +139,16 @@ name_sent() {
     fi
 }
 
-# The lines of the script's volume, or the units of the image.
+# Who marks an entry of the volume that doesn't fit, or the units of the image.
 name_place() {
     case $1 in
-    run | trace | mirror | vectors | explain | sweep)
-        script=$(input_file) && ! grep -q '^ *over ' "$script" || return 0
-        number=0
-        grep -nE '^ *(linear|stripe) ' "$script" | while IFS= read -r it; do
-            number=$((number + 1))
-            say "entry $number of the volume is line ${it%%:*}: ${it#*:}"
-        done
+    run | trace | vectors)
+        script=$(input_file) || script=SCRIPT
+        say "$lab explain $2 < $script marks an entry of its volume that doesn't fit"
+        ;;
+    sweep)
+        script=$(input_file) || script=SCRIPT
+        say "$lab explain IMAGE < $script, over an image of these units, marks an entry of its volume that doesn't fit"
         ;;
     show | diff | export | import) say "$lab show $2 writes the units of $2: a place lies in one of them" ;;
     esac

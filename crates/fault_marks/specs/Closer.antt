@@ -1,4 +1,4 @@
-use Rattle.std.specs.Prelude.{ℕ, ◌+◌, ◌-◌, ◌*◌, Bool, false, not, eqb, min, nat_le, nat_lt, if◌then◌else◌, List, [], ◌∷◌, ◌++◌, length, take, codes, get_or, slice_get, Option, Some, None, Result, Ok, Err}
+use Rattle.std.specs.Prelude.{ℕ, ◌+◌, ◌-◌, ◌*◌, ◌^◌, Bool, false, not, eqb, min, nat_le, nat_lt, if◌then◌else◌, List, [], ◌∷◌, ◌++◌, length, take, codes, get_or, slice_get, Option, Some, None, Result, Ok, Err}
 use Rattle.std.specs.List.{list_any, position}
 use Rattle.std.specs.Str.{bytes_eq}
 use Rattle.fault_schedule.specs.declared.fault.FaultKind.{FaultKind}
@@ -16,7 +16,7 @@ use Rattle.script_lines.specs.declared.line.OpLine.TheVariants.{Fill, Put, Show,
 use Rattle.script_lines.specs.declared.line.ScriptLine.{ScriptLine}
 use Rattle.script_lines.specs.declared.line.ScriptLine.TheVariants.{Inner, Linear, Stripe, Over, Flip, Shift, Schedule, Op}
 use Rattle.script_lines.specs.declared.verb.Verb.{Verb}
-use Rattle.script_text.specs.Bindings.{is_at_medium, request_at, shifts}
+use Rattle.script_text.specs.Bindings.{is_at_medium, request_at, request_of, shifts}
 use Rattle.script_text.specs.Language.{is_comment, script_in}
 use Rattle.script_text.specs.Segments.{are_whole_tuples, is_inside}
 use Rattle.script_text.specs.declared.TheConstants.{MOST_LEGS, MOST_OPS}
@@ -25,6 +25,8 @@ use Rattle.script_text.specs.declared.script.Script.{Script}
 use Rattle.script_words.specs.Cuts.{lines_of, words_of}
 use Rattle.stack_ops.specs.declared.op.Op.{Op as AnyOp}
 use Rattle.stack_ops.specs.declared.op.Op.TheVariants.{Overwrite}
+use Rattle.volume_table.specs.Places.{volume_len}
+use Rattle.volume_table.specs.declared.entry.Entry.{Entry}
 use Rattle.fault_marks.specs.Words.{line_at, text_behind}
 use Rattle.fault_marks.specs.declared.closer.Closer.{Closer}
 use Rattle.fault_marks.specs.declared.detail.Detail.{Detail}
@@ -245,14 +247,23 @@ abbrev pub bound_fault : Script → (i : ℕ) → Option FaultLine → Closer
 bound_fault script i None = plain
 bound_fault script i (Some f) = request_closer (take i script.faults) f (request_at script.ops f.op)
 
-abbrev pub bound_op : Option AnyOp → Closer
-bound_op None = plain
-bound_op (Some (Overwrite dev lba change)) = at_word NoStored 1
-bound_op (Some op) = at_word PastVolume 1
+-- a number that may be above all numbers of 64 bits, which is then told as the highest of them
+abbrev pub told_number : ℕ → ℕ
+told_number n = min n (2 ^ 64 - 1)
+
+-- a request past the end of a volume: how many blocks that has, and which the request wants
+abbrev pub past_volume : List Entry → Option (ℕ × ℕ) → Closer
+past_volume entries None = plain
+past_volume entries (Some request) = at_word (PastVolume (told_number (volume_len entries)) request.0 (told_number (request.0 + (request.1 - 1)))) 1
+
+abbrev pub bound_op : List Entry → Option AnyOp → Closer
+bound_op entries None = plain
+bound_op entries (Some (Overwrite dev lba change)) = at_word NoStored 1
+bound_op entries (Some op) = past_volume entries (request_of op)
 
 abbrev pub bound_line : Script → Option ℕ → Closer
 bound_line script None = plain
-bound_line script (Some i) = if nat_lt i (length script.faults) then bound_fault script i (slice_get script.faults i) else bound_op (slice_get script.ops (i - length script.faults))
+bound_line script (Some i) = if nat_lt i (length script.faults) then bound_fault script i (slice_get script.faults i) else bound_op script.entries (slice_get script.ops (i - length script.faults))
 
 -- the numbers of the lines of the faults stand before those of the ops
 abbrev pub bound_closer : ScriptKind → Script → (line : ℕ) → Closer

@@ -40,15 +40,20 @@ front_text kind Scattered = codes "a block lies in more than 4 segments"
 front_text kind NoWholeTuple = codes "a segment of tuples has whole tuples, of 8 bytes each"
 front_text kind (BadCount n) = codes "N is 1 to 2048, and this is "
 front_text kind OverLegs = codes "an inner volume is not there, or the lengths do not fit LEN and C"
-front_text kind PastVolume = codes "the volume has not all of these blocks"
+front_text kind (PastVolume blocks first last) = codes "the volume has "
 front_text kind NoTuples = codes "the units of the volume have no tuples"
 front_text kind NoBegin = codes "the text ends without a line begin"
 front_text kind NewLine = codes "this line belongs to version 2, and the script begins with dix 1"
 front_text kind detail = many_text detail
 
+-- how many blocks the volume has, and which are wanted
+abbrev pub blocks_text : (blocks first last : ℕ) → List ℕ
+blocks_text blocks first last = decimal blocks ++ (codes " blocks, blocks wanted: " ++ (decimal first ++ (codes " to " ++ decimal last)))
+
 -- the numbers at its end
 abbrev pub behind_text : Detail → List ℕ
 behind_text (PastFrame frame end) = decimal frame ++ (codes " bytes, and these end at " ++ decimal end)
+behind_text (PastVolume blocks first last) = blocks_text blocks first last
 behind_text (NoBlock blocks) = decimal blocks
 behind_text (NoPage pages) = decimal pages
 behind_text (PastPage end) = decimal end

@@ -2,7 +2,9 @@ pub mod Words
 pub mod Sentences
 pub mod Details
 pub mod Closer
+pub mod Entries
 pub mod Laws
 pub mod Marks
 pub mod Texts
+pub mod Lists
 pub mod Premises

@@ -75,11 +75,19 @@ column _ word fault text line = word_begin word (spans_of line)
 abbrev pub shown_byte : ℕ → ℕ
 shown_byte b = if is_foreign b then 63 else b
 
+-- the line, and a caret under it behind so many bytes
+abbrev pub caret_lines : (column : ℕ) → (line : List ℕ) → List ℕ
+caret_lines column line = map shown_byte line ++ (codes "\n" ++ (replicate column 32 ++ codes "^\n"))
+
 -- the line, and the caret under it
 abbrev pub two_lines : (word : ℕ) → ScriptFault → (text line : List ℕ) → List ℕ
-two_lines word fault text line = map shown_byte line ++ (codes "\n" ++ (replicate (column fault.kind word fault text line) 32 ++ codes "^\n"))
+two_lines word fault text line = caret_lines (column fault.kind word fault text line) line
 
 -- nothing, where the text has no such line, or it has more than 4,096 bytes
 abbrev pub line_marked : (word : ℕ) → ScriptFault → (text : List ℕ) → Option (List ℕ) → List ℕ
 line_marked word fault text None = []
 line_marked word fault text (Some line) = if nat_lt LONGEST_LINE (length line) then [] else two_lines word fault text line
+
+-- the line with a caret under the word of this number; nothing, where it has more than 4,096 bytes
+abbrev pub word_marked : (word : ℕ) → (line : List ℕ) → List ℕ
+word_marked word line = if nat_lt LONGEST_LINE (length line) then [] else caret_lines (word_begin word (spans_of line)) line

@@ -2,14 +2,17 @@
 
 ghost use Rattle.std.specs.Prelude.{◌≡◌, eqb, slice_get, take, Some};
 ghost use Rattle.std.specs.List.{list_any, position};
-ghost use Rattle.script_text.specs.Bindings.{is_at_medium, is_shift, shifts};
-ghost use Rattle.fault_marks.specs.Closer.{bound_closer, bound_fault, bound_line, bound_op, request_closer, shift_closer};
+ghost use Rattle.script_text.specs.Bindings.{is_at_medium, is_shift, request_of, shifts};
+ghost use Rattle.volume_table.specs.Entries.{entry_len};
+ghost use Rattle.volume_table.specs.Places.{volume_len};
+ghost use Rattle.fault_marks.specs.Closer.{bound_closer, bound_fault, bound_line, bound_op, past_volume, request_closer, shift_closer, told_number};
 
 use crate::closer::{Closer, at_word, plain};
 use crate::detail::Detail;
 use fault_schedule::{Crossing, FaultKind, FaultLine};
 use script_text::{Script, ScriptKind, request_at};
 use stack_ops::Op;
+use volume_table::Entry;
 
 fn is_shift(kind: &FaultKind) -> bool
     ensures { result ≡ is_shift kind.now }
@@ -84,14 +87,77 @@ fn bound_fault(script: &Script, i: usize) -> Closer
     }
 }
 
-/// An op, counted from 0.
-fn bound_op(ops: &[Op], i: usize) -> Closer
-    ensures { result ≡ bound_op (slice_get ops.now i) }
+fn entry_len(entry: &Entry) -> u64
+    ensures { result ≡ entry_len entry.now }
 {
-    match ops.get(i) {
+    match entry {
+        Entry::Linear(linear) => linear.len,
+        Entry::Stripe(stripe) => stripe.len,
+    }
+}
+
+/// How many blocks the volume has.
+fn blocks_of(entries: &[Entry]) -> u64
+    ensures { result ≡ told_number (volume_len entries.now) }
+{
+    let mut blocks = 0u64;
+    for entry in entries {
+        blocks = blocks.saturating_add(entry_len(entry));
+    }
+    blocks
+}
+
+/// The first block and the number of blocks of a request.
+fn request_of(op: &Op) -> Option<(u64, u32)>
+    ensures { result ≡ request_of op.now }
+{
+    match op {
+        Op::Write { v, n, .. } => Some((*v, *n)),
+        Op::Fetch { v, n, .. } => Some((*v, *n)),
+        Op::WritePi { v, n, .. } => Some((*v, *n)),
+        Op::FetchPi { v, n, .. } => Some((*v, *n)),
+        _ => None,
+    }
+}
+
+/// A request past the end of a volume.
+fn past_volume(entries: &[Entry], request: Option<(u64, u32)>) -> Closer
+    ensures { result ≡ past_volume entries.now request }
+{
+    match request {
         None => plain(),
-        Some(Op::Overwrite { .. }) => at_word(Detail::NoStored, 1),
-        Some(_) => at_word(Detail::PastVolume, 1),
+        Some((first, n)) => {
+            let blocks = blocks_of(entries);
+            let last = first.saturating_add(u64::from(n.saturating_sub(1)));
+            at_word(
+                Detail::PastVolume {
+                    blocks,
+                    first,
+                    last,
+                },
+                1,
+            )
+        }
+    }
+}
+
+/// An op over a volume.
+fn op_closer(entries: &[Entry], op: &Op) -> Closer
+    ensures { result ≡ bound_op entries.now (Some op.now) }
+{
+    match op {
+        Op::Overwrite { .. } => at_word(Detail::NoStored, 1),
+        _ => past_volume(entries, request_of(op)),
+    }
+}
+
+/// An op, counted from 0.
+fn bound_op(script: &Script, i: usize) -> Closer
+    ensures { result ≡ bound_op script.now.entries (slice_get script.now.ops i) }
+{
+    match script.ops.as_slice().get(i) {
+        None => plain(),
+        Some(op) => op_closer(script.entries.as_slice(), op),
     }
 }
 
@@ -109,7 +175,7 @@ fn bound_line(script: &Script, place: usize) -> Closer
     if place < faults {
         return bound_fault(script, place);
     }
-    bound_op(script.ops.as_slice(), place - faults)
+    bound_op(script, place - faults)
 }
 
 /// What is wrong with the line of this number.

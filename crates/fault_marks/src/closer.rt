@@ -64,7 +64,7 @@ fn begun(alloc: Global, front: &[u8]) -> Result<Option<Script>, AllocError>
 }
 
 /// The script that the lines before one are, if need be with a `begin` behind them.
-fn settled(alloc: Global, front: &[u8]) -> Result<Option<Script>, AllocError>
+pub(crate) fn settled(alloc: Global, front: &[u8]) -> Result<Option<Script>, AllocError>
     ensures { IfOk result (λ r. r ≡ settled front.now) }
 {
     match script_of(alloc, front)? {

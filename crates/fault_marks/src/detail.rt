@@ -1,7 +1,7 @@
 //! What is wrong with a line, more closely than its kind says, and the sentence of it.
 
-ghost use Rattle.std.specs.Prelude.{◌≡◌, ◌++◌, OnOk, decimal};
-ghost use Rattle.fault_marks.specs.Details.{behind_text, detail_text, front_text, many_text};
+ghost use Rattle.std.specs.Prelude.{◌≡◌, ◌++◌, OnOk, codes, decimal};
+ghost use Rattle.fault_marks.specs.Details.{behind_text, blocks_text, detail_text, front_text, many_text};
 
 use crate::sentences::sentence;
 use crate::texts::add_number;
@@ -50,7 +50,7 @@ pub(crate) enum Detail {
     /// An `over` line whose inner volumes don't fit it.
     OverLegs,
     /// A request of blocks that the volume hasn't.
-    PastVolume,
+    PastVolume { blocks: u64, first: u64, last: u64 },
     /// A tag is expected of units without tuples.
     NoTuples,
     /// The text ends before `begin`.
@@ -120,7 +120,7 @@ fn front_text(kind: ScriptKind, detail: Detail) -> &'static [u8]
         Detail::NoWholeTuple => b"a segment of tuples has whole tuples, of 8 bytes each",
         Detail::BadCount { .. } => b"N is 1 to 2048, and this is ",
         Detail::OverLegs => b"an inner volume is not there, or the lengths do not fit LEN and C",
-        Detail::PastVolume => b"the volume has not all of these blocks",
+        Detail::PastVolume { .. } => b"the volume has ",
         Detail::NoTuples => b"the units of the volume have no tuples",
         Detail::NoBegin => b"the text ends without a line begin",
         Detail::NewLine => b"this line belongs to version 2, and the script begins with dix 1",
@@ -137,6 +137,15 @@ fn add_two(out: &mut Vec<u8>, one: u64, words: &[u8], other: u64) -> Result<(), 
     add_number(out, other)
 }
 
+/// Puts how many blocks the volume has, and which are wanted, behind the sentence.
+fn add_blocks(out: &mut Vec<u8>, blocks: u64, first: u64, last: u64) -> Result<(), AllocError>
+    ensures { OnOk result (out.new.items ≡ out.old.items ++ blocks_text blocks first last) }
+{
+    add_two(out, blocks, b" blocks, blocks wanted: ", first)?;
+    out.extend_from_slice(b" to ")?;
+    add_number(out, last)
+}
+
 /// Puts the numbers behind the sentence.
 fn add_behind(out: &mut Vec<u8>, detail: Detail) -> Result<(), AllocError>
     ensures { OnOk result (out.new.items ≡ out.old.items ++ behind_text detail) }
@@ -144,6 +153,11 @@ fn add_behind(out: &mut Vec<u8>, detail: Detail) -> Result<(), AllocError>
     match detail {
         Detail::PastFrame { frame, end } => add_two(out, frame, b" bytes, and these end at ", end),
         Detail::OtherTotal { wanted, given } => add_two(out, wanted, b", given: ", given),
+        Detail::PastVolume {
+            blocks,
+            first,
+            last,
+        } => add_blocks(out, blocks, first, last),
         Detail::NoBlock { blocks } => add_number(out, u64::from(blocks)),
         Detail::NoPage { pages } => add_number(out, u64::from(pages)),
         Detail::LongShow { len } => add_number(out, u64::from(len)),

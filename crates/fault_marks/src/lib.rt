@@ -5,9 +5,11 @@
 mod bound;
 mod closer;
 mod detail;
+mod entries;
 mod laws;
 mod lines;
 mod listed;
+mod lists;
 mod marks;
 mod order;
 mod premises;
@@ -17,6 +19,8 @@ mod sentences;
 mod texts;
 mod words;
 
+pub use entries::misfit_text;
 pub use laws::the_cause_that_is_said_is_so;
+pub use lists::list_text;
 pub use marks::marked_text;
 pub use right::right_text;

@@ -7,7 +7,7 @@ ghost use Rattle.script_words.specs.Cuts.{cut, lines_of};
 use script_words::{next_line, split_once};
 
 /// The text behind its first newline; nothing where it has none.
-fn behind_newline(text: &[u8]) -> &[u8]
+pub(crate) fn behind_newline(text: &[u8]) -> &[u8]
     ensures value { result.now ≡ behind_newline (cut 10 text.now) }
     ensures shorter { length result.now ≤ length text.now }
 {

@@ -2,7 +2,7 @@
 
 ghost use Rattle.std.specs.Prelude.{◌≡◌, ◌+◌, ◌-◌, ◌<◌, ◌≤◌, ◌++◌, IfOk, OnOk, length, map, replicate, take, Some};
 ghost use Rattle.std.specs.List.{position};
-ghost use Rattle.fault_marks.specs.Marks.{column, is_fault, is_foreign, last_end, line_begin, line_marked, or_first, or_zero, shown_byte, two_lines, under_word, word_at_fault, word_begin};
+ghost use Rattle.fault_marks.specs.Marks.{caret_lines, column, is_fault, is_foreign, last_end, line_begin, line_marked, or_first, or_zero, shown_byte, two_lines, under_word, word_at_fault, word_begin, word_marked};
 ghost use Rattle.fault_marks.specs.Texts.{marked_text};
 ghost use Rattle.fault_marks.specs.Words.{line_at, spans_of};
 ghost use Rattle.script_text.specs.Language.{script_in};
@@ -94,7 +94,7 @@ fn two_behind(words: &[Span], line: &[u8]) -> usize
 }
 
 /// The place two behind the last word.
-fn behind_last(alloc: Global, line: &[u8]) -> Result<usize, AllocError>
+pub(crate) fn behind_last(alloc: Global, line: &[u8]) -> Result<usize, AllocError>
     requires { length line.now ≤ LONGEST_LINE }
     ensures { IfOk result (λ c. c ≡ last_end (spans_of line.now) + 1) }
 {
@@ -103,7 +103,7 @@ fn behind_last(alloc: Global, line: &[u8]) -> Result<usize, AllocError>
 }
 
 /// Where the word of this number begins, counted from 0.
-fn word_begin(words: &[Span], word: usize) -> usize
+pub(crate) fn word_begin(words: &[Span], word: usize) -> usize
     ensures { result ≡ word_begin word words.now }
 {
     match words.get(word) {
@@ -148,7 +148,7 @@ fn place_of_foreign(line: &[u8]) -> Option<usize>
 }
 
 /// The place of the first byte that a script may not have.
-fn first_foreign(line: &[u8]) -> usize
+pub(crate) fn first_foreign(line: &[u8]) -> usize
     ensures { result ≡ or_zero (position is_foreign line.now) }
 {
     match place_of_foreign(line) {
@@ -186,6 +186,29 @@ fn add_spaces(out: &mut Vec<u8>, count: usize) -> Result<(), AllocError>
     Ok(())
 }
 
+/// The line, and a caret under it behind so many bytes.
+pub(crate) fn caret_lines(alloc: Global, column: usize, line: &[u8]) -> Result<Vec<u8>, AllocError>
+    ensures { IfOk result (λ v. v.items ≡ caret_lines column line.now) }
+{
+    let mut out = Vec::new(alloc);
+    add_shown(&mut out, line)?;
+    out.extend_from_slice(b"\n")?;
+    add_spaces(&mut out, column)?;
+    out.extend_from_slice(b"^\n")?;
+    Ok(out)
+}
+
+/// The line with a caret under the word of this number; nothing where it is too long.
+pub(crate) fn word_marked(alloc: Global, word: usize, line: &[u8]) -> Result<Vec<u8>, AllocError>
+    ensures { IfOk result (λ v. v.items ≡ word_marked word line.now) }
+{
+    if line.len() > LONGEST_LINE {
+        return Ok(Vec::new(alloc));
+    }
+    let column = word_begin(&spans_of(alloc, line)?, word);
+    caret_lines(alloc, column, line)
+}
+
 /// The line, and the caret under it.
 fn two_lines(
     alloc: Global,
@@ -199,12 +222,7 @@ fn two_lines(
     ensures { IfOk result (λ v. v.items ≡ two_lines word fault text.now line.now) }
 {
     let spaces = column(alloc, fault, word, text, line)?;
-    let mut out = Vec::new(alloc);
-    add_shown(&mut out, line)?;
-    out.extend_from_slice(b"\n")?;
-    add_spaces(&mut out, spaces)?;
-    out.extend_from_slice(b"^\n")?;
-    Ok(out)
+    caret_lines(alloc, spaces, line)
 }
 
 /// The line of the fault and the caret under it; nothing where the text hasn't the line, or it is too long.

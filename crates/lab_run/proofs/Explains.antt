@@ -15,8 +15,8 @@ use Rattle.lab_run.specs.declared.command.Command.TheVariants.{Explain}
 use Rattle.rig_api.specs.Head.{head_fault, head_of}
 use Rattle.rig_api.specs.Telling.{Standing}
 use Rattle.rig_api.specs.State.{RigState}
-use Rattle.run_words.proofs.Marking.{marked_complete, refused_complete}
-use Rattle.run_words.specs.Explained.{CauseNotRun, CauseUnexplained, HasExplained as HasRunExplained, HasMarked, IsAtFault}
+use Rattle.run_words.proofs.Marking.{marked_complete, misfit_complete, refused_complete}
+use Rattle.run_words.specs.Explained.{CauseNotRun, CauseUnexplained, HasExplained as HasRunExplained, HasMarked, HasMisfit, IsAtFault}
 use Rattle.run_words.specs.Sites.{sites_of}
 use Rattle.run_words.specs.Texts.{explained_by, explained_text}
 use Rattle.run_words.specs.declared.explain.Explained.{Explained}
@@ -31,7 +31,7 @@ use Rattle.unit_words.specs.Words.{image_in}
 use Rattle.volume_table.specs.Faults.{table_fault}
 use Rattle.lab_run.specs.Calls.{Facts, on_rig}
 use Rattle.lab_run.specs.Commands.{Came}
-use Rattle.lab_run.specs.Explained.{CauseNotTold, HasToldRun, Marked, Ran, Told, explain_call, explain_work}
+use Rattle.lab_run.specs.Explained.{CauseNotTold, HasToldRun, Marked, Misfit, Ran, Told, explain_call, explain_work}
 use Rattle.lab_run.specs.Texts.{lab}
 use Rattle.lab_run.specs.declared.refusal.Refusal.{Refusal}
 use Rattle.lab_run.specs.declared.refusal.Refusal.TheVariants as refusal
@@ -86,11 +86,14 @@ goes_marked said f m = by_fault m.fault
     by_fault (inl h) = still f.name f.rig f.rig_after h.rig
     by_fault (inr h) = goes_stopped (stop.Script m.bad) h.script f.name f.rig f.rig_after h.unbound
 
+goes_misfit : (said : List ℕ) (f : Call) → HasMisfit said f → Goes f.name f.rig f.rig_after
+goes_misfit said f m = goes_stopped (stop.Volume m.entry m.kind) m.script f.name f.rig f.rig_after m.bad
+
 goes_not_run : (r : Stop) (f : Call) → CauseNotRun r f → Goes f.name f.rig f.rig_after
 goes_not_run (stop.Script bad) f c = absurd c
 goes_not_run (stop.Image x) f c = goes_refused (stop.Image x) f c
 goes_not_run (stop.BadCapacity dev) f c = goes_refused (stop.BadCapacity dev) f c
-goes_not_run (stop.Volume entry kind) f c = goes_refused (stop.Volume entry kind) f c
+goes_not_run (stop.Volume entry kind) f c = absurd c
 goes_not_run stop.RigFault f c = goes_refused stop.RigFault f c
 goes_not_run stop.Memory f c = goes_refused stop.Memory f c
 goes_not_run stop.ReadFault f c = goes_refused stop.ReadFault f c
@@ -126,6 +129,15 @@ marked words left left' reads reads' rig rig' first second said line taken taken
     record {
       comes = (Marked said, m, subst (λ (x : List ℕ). Written status.Input x taken taken' o n s) l t);
       kept = record { source = k; rig = goes_marked said (explain_call f) m; first = refl; second = refl };
+    }
+
+pub misfit : (words : List (List ℕ)) (left left' : Option (List ℕ)) (reads reads' : ℕ) (rig rig' : RigState) (first second : StoreState) (said line : List ℕ) (taken taken' : Option (List ℕ)) (o n : ℕ) (s : Status) →
+    reads ≤ reads' → HasMisfit said (explain_call (on_rig words left left' reads reads' rig rig' first second)) → line ≡ said → Written status.Image line taken taken' o n s → Came (Some Explain) (Ok s) (on_rig words left left' reads reads' rig rig' first second) taken taken' o n
+misfit words left left' reads reads' rig rig' first second said line taken taken' o n s k m l t =
+    let f = on_rig words left left' reads reads' rig rig' first second in
+    record {
+      comes = (Misfit said, m, subst (λ (x : List ℕ). Written status.Image x taken taken' o n s) l t);
+      kept = record { source = k; rig = goes_misfit said (explain_call f) m; first = refl; second = refl };
     }
 
 pub stopped : (words : List (List ℕ)) (left left' : Option (List ℕ)) (reads reads' : ℕ) (rig rig' : RigState) (first second : StoreState) (r : Stop) (taken : Option (List ℕ)) (o : ℕ) →
@@ -172,6 +184,7 @@ right : (f : Facts) (v : Verdict Refusal Told) → Cause lab explain_work v f �
 right f (Refused (refusal.Stopped r)) c i = inr (for_memory r f i c (stops_outside r f i c))
 right f (Refused _) c i = absurd c
 right f (Done (Ran script run log)) c i = inl (done_is (has_bad run.stack.replies.items))
+right f (Done (Misfit said)) c i = absurd (misfit_complete said (explain_call f) c i.text i.image i.script i.left i.reads i.told i.head i.table i.bound i.source)
 right f (Done (Marked said)) c i = absurd (marked_complete said (explain_call f) c i.text i.image i.script i.left i.reads i.told i.head i.table i.bound i.source)
 
 pub explains : (f : Facts) (v : Verdict Refusal Told) → Cause lab explain_work v f → explain_work.Answers f (verdict_status lab explain_work v)

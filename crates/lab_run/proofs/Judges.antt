@@ -1,10 +1,11 @@
 -- What `explain` without an image comes to.
-use Rattle.std.proofs.Common.{ℕ, ◌≡◌, ◌+◌, ◌≤◌, ◌⊎◌, inl, inr, Bool, true, cond, List, [], ◌++◌, length, Option, Some, None, Result, Ok, Err, refl, sym, ap, subst, ◌∙◌, arith, append-nil, length-append}
-use Rattle.std.specs.Prelude.{nat_lt}
+use Rattle.std.proofs.Common.{ℕ, ◌≡◌, ◌+◌, ◌<◌, ◌≤◌, ◌⊎◌, inl, inr, Bool, false, cond, List, [], ◌++◌, length, Option, Some, None, Result, Ok, Err, refl, sym, ap, subst, ◌∙◌, arith, append-nil, length-append}
+use Rattle.std.specs.Prelude.{◌&&◌, nat_le}
 use Rattle.std.specs.declared.alloc.AllocError.{AllocError}
+use Rattle.std.proofs.lemmas.Bool.{lt-ltb}
 use Rattle.std.proofs.lemmas.Bool.Decides.{nat_tests}
 use Rattle.call_refusal.specs.declared.refusal.Refusal.TheVariants as stop
-use Rattle.call_verdict.specs.Verdicts.{Cause, Done, Refused, Verdict, WholeOrWants, Written, verdict_status}
+use Rattle.call_verdict.specs.Verdicts.{Cause, Done, Refused, Verdict, Written, verdict_status}
 use Rattle.call_verdict.specs.declared.status.Status.{Status}
 use Rattle.call_verdict.specs.declared.status.Status.TheVariants as status
 use Rattle.dix_base.specs.Stores.{StoreState}
@@ -19,12 +20,12 @@ use Rattle.script_text.specs.Language.{lines_read, nothing_read, script_in}
 use Rattle.script_text.specs.declared.fault.ScriptFault.{ScriptFault}
 use Rattle.script_text.specs.declared.script.Script.{Script}
 use Rattle.script_words.specs.Cuts.{lines_of}
+use Rattle.vector_lines.specs.Texts.{is_list}
 use Rattle.dix_base.specs.Reading.{IsOver, IsWhole, TookAtMost, most_bytes}
 use Rattle.dix_base.proofs.Taking.{most_is}
 use Rattle.lab_run.specs.Calls.{Facts, on_input}
 use Rattle.lab_run.specs.Commands.{Came}
-use Rattle.lab_run.specs.Judging.{CauseUnread, IsSaid, Judged, Judges, Says, WasJudged, judge_work, judged_status, judged_text}
-use Rattle.lab_run.specs.Telling.{RefusesInput}
+use Rattle.lab_run.specs.Judging.{AsList, AsScript, CauseUnread, IsGiven, IsSaid, Judged, Judges, Reads, Says, WasJudged, judge_work, judged_status, judged_text, reads_by, reads_of}
 use Rattle.lab_run.specs.Texts.{lab, no_memory}
 use Rattle.lab_run.specs.declared.judging.Said.{Said}
 use Rattle.lab_run.specs.declared.refusal.Refusal.{Refusal}
@@ -32,24 +33,33 @@ use Rattle.lab_run.specs.declared.refusal.Refusal.TheVariants as refusal
 
 -- ---- a text is judged, or isn't
 
-given_by : (reads : Result Script ScriptFault) (text : List ℕ) (left left' : Option (List ℕ)) → IsWhole text left left' → script_in text ≡ reads → WasJudged (record { text = text; reads = reads }) left left'
-given_by (Ok script) text left left' w e = record { given = w; reads = e }
-given_by (Err bad) text left left' w e = record { given = (w.0, inl w.1); reads = e }
+given_by : (reads : Reads) (text : List ℕ) (left left' : Option (List ℕ)) → IsWhole text left left' → reads_of text ≡ reads → WasJudged (record { text = text; reads = reads }) left left'
+given_by (AsScript (Ok script)) text left left' w e = record { given = w; reads = e }
+given_by (AsScript (Err bad)) text left left' w e = record { given = (w.0, inl w.1); reads = e }
+given_by (AsList lines) text left left' w e = record { given = w; reads = e }
 
 -- a text that was read to its end
-pub said_whole : (s : Said) (text : List ℕ) (left left' : Option (List ℕ)) (reads reads' : ℕ) → reads ≤ reads' → IsWhole text left left' → Says (script_in text) text (Ok s) → Judges (Ok s) left left' reads reads'
+pub said_whole : (s : Said) (text : List ℕ) (left left' : Option (List ℕ)) (reads reads' : ℕ) → reads ≤ reads' → IsWhole text left left' → Says (reads_of text) text (Ok s) → Judges (Ok s) left left' reads reads'
 said_whole s text left left' reads reads' k w says = record {
-  came = record { judged = record { text = text; reads = script_in text }; was = given_by (script_in text) text left left' w refl; status_is = says.0; text_is = says.1 };
+  came = record { judged = record { text = text; reads = reads_of text }; was = given_by (reads_of text) text left left' w refl; status_is = says.0; text_is = says.1 };
   count = k;
 }
 
+-- a text with more bytes than it may have is a script that is too long
+long_reads : (text : List ℕ) → 4194304 < length text → script_in text ≡ Err (record { line = 0; kind = TooMany }) → reads_of text ≡ AsScript (Err (record { line = 0; kind = TooMany }))
+long_reads text l e =
+    let no : nat_le (length text) 4194304 ≡ false = grind (arith, nat_tests, l) in
+    ap (λ (b : Bool). reads_by (b && is_list (lines_of text)) text) no ∙ ap AsScript e
+
 -- a text that is too long, which isn't kept
-pub said_over : (s : Said) (left left' : Option (List ℕ)) (reads reads' : ℕ) → reads ≤ reads' → IsOver left left' → ((text : List ℕ) → Says (Err (record { line = 0; kind = TooMany })) text (Ok s)) → Judges (Ok s) left left' reads reads'
+pub said_over : (s : Said) (left left' : Option (List ℕ)) (reads reads' : ℕ) → reads ≤ reads' → IsOver left left' → ((text : List ℕ) → Says (AsScript (Err (record { line = 0; kind = TooMany }))) text (Ok s)) → Judges (Ok s) left left' reads reads'
 said_over s left left' reads reads' k long says =
     let text = long.0 in
     let bad : ScriptFault = record { line = 0; kind = TooMany } in
+    let m = most_is in
+    let more : length text ≡ most_bytes + 1 = long.2 in
     record {
-      came = record { judged = record { text = text; reads = Err bad }; was = record { given = (long.1, inr long.2); reads = too_long text long.2 }; status_is = (says text).0; text_is = (says text).1 };
+      came = record { judged = record { text = text; reads = AsScript (Err bad) }; was = record { given = (long.1, inr long.2); reads = long_reads text (omega (arith, m, more)) (too_long text long.2) }; status_is = (says text).0; text_is = (says text).1 };
       count = k;
     }
 
@@ -100,42 +110,32 @@ all_taken text all (Some held) (Some left) e t k =
     sym (append-nil text) ∙ ap (λ v. text ++ v) (sym none) ∙ sym whole ∙ same
 
 -- a text of which that many bytes were taken is too long
-long_taken : (text all : List ℕ) (old new : Option (List ℕ)) → old ≡ Some all → Took text old new → length text ≡ most_bytes + 1 → script_in all ≡ Err (record { line = 0; kind = TooMany })
-long_taken text all None new e t l = cc
+long_taken : (text all : List ℕ) (old new : Option (List ℕ)) → old ≡ Some all → Took text old new → length text ≡ most_bytes + 1 → 4194304 < length all
+long_taken text all None new e t l = absurd (cc)
 long_taken text all (Some held) None e t l = absurd t
 long_taken text all (Some held) (Some left) e t l =
     let same : held ≡ all = cc in
     let m = most_is in
     let n : length all ≡ length text + length left = ap length (sym same ∙ t) ∙ length-append text left in
-    let b : nat_lt 4194304 (length all) ≡ true = grind (arith, nat_tests, l, m, n) in
-    ap (λ (b : Bool). cond b (Err (record { line = 0; kind = TooMany })) (lines_read 1 (lines_of all) nothing_read)) b
+    omega (arith, l, m, n)
 
--- a right script isn't refused
-not_both : (x : Result Script ScriptFault) (script : Script) (bad : ScriptFault) → x ≡ Ok script → x ≡ Err bad → ⊥
-not_both x script bad a b = let k : ◌≡◌ {A = Result Script ScriptFault} (Ok script) (Err bad) = sym a ∙ b in absurd (cc)
+too_many : (text : List ℕ) → 4194304 < length text → script_in text ≡ Err (record { line = 0; kind = TooMany })
+too_many text l = ap (λ (b : Bool). cond b (Err (record { line = 0; kind = TooMany })) (lines_read 1 (lines_of text) nothing_read)) (lt-ltb 4194304 (length text) l)
 
-no_fault : (f : Facts) (text all : List ℕ) (bad : ScriptFault) (script : Script) → f.left ≡ Some all → script_in all ≡ Ok script → script_in text ≡ Err bad → Took text f.left f.left_after → IsAtEnd f.left_after ⊎ (length text ≡ most_bytes + 1) → ⊥
-no_fault f text all bad script l s e t (inl k) = not_both (script_in all) script bad s (ap script_in (sym (all_taken text all f.left f.left_after l t k)) ∙ e)
-no_fault f text all bad script l s e t (inr k) = not_both (script_in all) script (record { line = 0; kind = TooMany }) s (long_taken text all f.left f.left_after l t k)
+-- what was taken of a told text reads as all of it
+reads_alike : (f : Facts) (text all : List ℕ) → f.left ≡ Some all → Took text f.left f.left_after → IsAtEnd f.left_after ⊎ (length text ≡ most_bytes + 1) → reads_of text ≡ reads_of all
+reads_alike f text all l t (inl k) = ap reads_of (all_taken text all f.left f.left_after l t k)
+reads_alike f text all l t (inr k) =
+    let m = most_is in
+    let one : 4194304 < length text = omega (arith, m, k) in
+    let both = long_taken text all f.left f.left_after l t k in
+    long_reads text one (too_many text one) ∙ sym (long_reads all both (too_many all both))
 
-no_script : (f : Facts) (text all : List ℕ) (bad : ScriptFault) (script : Script) → f.left ≡ Some all → script_in all ≡ Err bad → script_in text ≡ Ok script → IsWhole text f.left f.left_after → ⊥
-no_script f text all bad script l s e w = not_both (script_in all) script bad (ap script_in (sym (all_taken text all f.left f.left_after l w.0 w.1)) ∙ e) s
-
-wrong_by : (f : Facts) (text : List ℕ) (reads : Result Script ScriptFault) (all : List ℕ) (bad : ScriptFault) → WasJudged (record { text = text; reads = reads }) f.left f.left_after → f.left ≡ Some all → script_in all ≡ Err bad → RefusesInput (judged_status reads)
-wrong_by f text (Ok script) all bad c l s = absurd (no_script f text all bad script l s c.reads c.given)
-wrong_by f text (Err other) all bad c l s = inl refl
-
-right_by : (f : Facts) (text : List ℕ) (reads : Result Script ScriptFault) (all : List ℕ) (script : Script) → WasJudged (record { text = text; reads = reads }) f.left f.left_after → f.left ≡ Some all → script_in all ≡ Ok script → WholeOrWants (judged_status reads)
-right_by f text (Ok other) all script c l s = inl refl
-right_by f text (Err bad) all script c l s = absurd (no_fault f text all bad script l s c.reads c.given.0 c.given.1)
-
-wrong : (f : Facts) (v : Verdict Refusal Judged) → Cause lab judge_work v f → (all : List ℕ) (bad : ScriptFault) → f.left ≡ Some all → script_in all ≡ Err bad → Calm f.reads f.reads_after → RefusesInput (verdict_status lab judge_work v)
-wrong f (Refused r) c all bad l s k = inr (for_memory r f c k)
-wrong f (Done x) c all bad l s k = wrong_by f x.text x.reads all bad c l s
-
-right : (f : Facts) (v : Verdict Refusal Judged) → Cause lab judge_work v f → (all : List ℕ) (script : Script) → f.left ≡ Some all → script_in all ≡ Ok script → Calm f.reads f.reads_after → WholeOrWants (verdict_status lab judge_work v)
-right f (Refused r) c all script l s k = inr (for_memory r f c k)
-right f (Done x) c all script l s k = right_by f x.text x.reads all script c l s
+given_so : (f : Facts) (text : List ℕ) (reads : Reads) → IsGiven text reads f.left f.left_after → Took text f.left f.left_after × (IsAtEnd f.left_after ⊎ (length text ≡ most_bytes + 1))
+given_so f text (AsScript (Ok script)) g = (g.0, inl g.1)
+given_so f text (AsScript (Err bad)) g = g
+given_so f text (AsList lines) g = (g.0, inl g.1)
 
 pub judges : (f : Facts) (v : Verdict Refusal Judged) → Cause lab judge_work v f → judge_work.Answers f (verdict_status lab judge_work v)
-judges f v c = record { wrong = λ text bad l s k. wrong f v c text bad l s k; right = λ text script l s k. right f v c text script l s k }
+judges f (Refused r) c = λ all l k. inr (for_memory r f c k)
+judges f (Done x) c = λ all l k. let g = given_so f x.text x.reads c.given in inl (ap judged_status (sym c.reads ∙ reads_alike f x.text all l g.0 g.1))

@@ -3,7 +3,7 @@ use Rattle.dix_base.specs.Told.{Calm}
 use Rattle.unit_words.specs.Words.{image_in}
 use Rattle.rig_api.specs.Head.{head_fault, head_of}
 use Rattle.rig_api.specs.Log.{LogEntry}
-use Rattle.run_words.specs.Explained.{CauseNotRun, HasMarked}
+use Rattle.run_words.specs.Explained.{CauseNotRun, HasMarked, HasMisfit}
 use Rattle.run_words.specs.Texts.{explained_text}
 use Rattle.script_text.specs.Bindings.{binding_fault}
 use Rattle.script_text.specs.Language.{script_in}
@@ -26,20 +26,23 @@ use Rattle.lab_run.specs.declared.refusal.Refusal.TheVariants as refusal
 abbrev pub explain_call : Facts → Call
 explain_call f = record { name = image_in f.words; left = f.left; left_after = f.left_after; reads = f.reads; reads_after = f.reads_after; rig = f.rig; rig_after = f.rig_after }
 
--- what is told: the run of a script, with the records of the call, or a script's fault by a text that marks it
+-- what is told: the run of a script, with the records of the call, or the fault of a script, or of its volume, by a text that marks it
 pub data Told : Type 0 where
   Ran : Script → Finished → List LogEntry → Told
   Marked : (said : List ℕ) → Told
+  Misfit : (said : List ℕ) → Told
 
 -- the status of what is told
 abbrev pub told_status : Told → Status
 told_status (Ran script run log) = done_status (has_bad run.stack.replies.items)
 told_status (Marked said) = status.Input
+told_status (Misfit said) = status.Image
 
 -- the report of the run, the records of the call in words, and where the listed blocks stand and lie; or the marked text
 abbrev pub told_text : Told → List ℕ
 told_text (Ran script run log) = explained_text script log run.stack.replies.items
 told_text (Marked said) = said
+told_text (Misfit said) = said
 
 -- The script of the source was run over the image, and these are the records of the call.
 pub record HasToldRun (script : Script) (run : Finished) (log : List LogEntry) (f : Facts) : Type 0 where
@@ -47,10 +50,11 @@ pub record HasToldRun (script : Script) (run : Finished) (log : List LogEntry) (
   pub ran : HasRun run script (image_in f.words) f.rig f.rig_after
   pub log_is : log ≡ drop run.first f.rig_after.log
 
--- It was run; or it is at fault, in its text or over its volume, and the text marks it there.
+-- It was run; or it is at fault, in its text or over its volume, and the text marks it there; or an entry of its volume doesn't fit the devices, and the text marks its line.
 abbrev pub HasTold : Told → Facts → Type 0
 HasTold (Ran script run log) f = HasToldRun script run log f
 HasTold (Marked said) f = HasMarked said (explain_call f)
+HasTold (Misfit said) f = HasMisfit said (explain_call f)
 
 -- why it comes to no run otherwise
 abbrev pub CauseNotTold : Refusal → Facts → Type 0

@@ -50,6 +50,7 @@ pub(crate) fn explain<S: Source, R: Rig, O: Sink>(
     match explain_source(alloc, image_of(words), input, rig) {
         Ok(told) => Ok(tell_run(out, &told, rig)),
         Err(Unexplained::Marked(said)) => Ok(finish(out, &said, Status::Input)),
+        Err(Unexplained::Misfit(said)) => Ok(finish(out, &said, Status::Image)),
         Err(Unexplained::Refused(reason)) => Err(Refusal::Stopped(reason)),
     }
 }

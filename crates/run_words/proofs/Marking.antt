@@ -18,12 +18,13 @@ use Rattle.rig_api.specs.State.{RigState}
 use Rattle.script_text.specs.Bindings.{binding_fault}
 use Rattle.script_words.specs.Cuts.{lines_of}
 use Rattle.volume_table.specs.Faults.{table_fault}
+use Rattle.volume_table.specs.declared.fault.VolumeKind.{VolumeKind}
 use Rattle.dix_base.proofs.Taking.{most_is}
 use Rattle.dix_base.specs.Reading.{IsOver, IsWhole, TookAtMost, most_bytes}
-use Rattle.run_words.specs.Explained.{CauseHalted, CauseNotRun, CauseUnexplained, CauseUnrun, ExplainsRead, ExplainsText, HasExplained, HasFaultyText, HasMarked, IsAtFault, IsComplete, IsSaid, WasExplained}
+use Rattle.run_words.specs.Explained.{CauseHalted, CauseNotRun, CauseUnexplained, CauseUnrun, ExplainsRead, ExplainsText, HasExplained, HasFaultyText, HasMarked, HasMisfit, IsAtFault, IsComplete, IsSaid, WasExplained}
 use Rattle.run_words.specs.declared.explain.Explained.{Explained}
 use Rattle.run_words.specs.declared.explain.Unexplained.{Unexplained}
-use Rattle.run_words.specs.declared.explain.Unexplained.TheVariants.{Marked, Refused}
+use Rattle.run_words.specs.declared.explain.Unexplained.TheVariants.{Marked, Misfit, Refused}
 
 pub over : (a b : Option (List ℕ)) → IsOver a b → TookAtMost (most_bytes + 1) a b
 over a b w = let l = w.2 in (w.0, w.1, omega (arith, l))
@@ -41,7 +42,7 @@ halted : (r : Refusal) (f : Facts) (script : Script) → HasRead script f.left f
 halted (refusal.Script bad) f script read c = absurd c
 halted (refusal.Image x) f script read c = inr (script, read, c)
 halted (refusal.BadCapacity dev) f script read c = inr (script, read, c)
-halted (refusal.Volume entry kind) f script read c = inr (script, read, c)
+halted (refusal.Volume entry kind) f script read c = absurd c
 halted refusal.RigFault f script read c = inr (script, read, c)
 halted refusal.Memory f script read c = inr (script, read, c)
 halted refusal.ReadFault f script read c = absurd c
@@ -53,9 +54,11 @@ by_read : (want : Result Script ScriptFault) (r : Result Explained Unexplained) 
 by_read (Ok script) (Ok x) text f w k e h = record { script = script; read = record { text = text; whole = w; reads = e; calm = k }; explained = h }
 by_read (Ok script) (Err (Marked said)) text f w k e h =
     record { text = text; bad = h.bad; fault = inr (record { script = script; whole = w; reads = e; calm = k; unbound = h.unbound }); marks = h.marks }
+by_read (Ok script) (Err (Misfit said)) text f w k e h = record { text = text; script = script; whole = w; reads = e; calm = k; entry = h.entry; kind = h.kind; bad = h.bad; marks = h.marks }
 by_read (Ok script) (Err (Refused r)) text f w k e h = halted r f script (record { text = text; whole = w; reads = e; calm = k }) h
 by_read (Err bad) (Ok x) text f w k e h = absurd h.1
 by_read (Err bad) (Err (Marked said)) text f w k e h = record { text = text; bad = bad; fault = inl (record { taken = inl w; reads = e; rig = h.0 }); marks = h.1 }
+by_read (Err bad) (Err (Misfit said)) text f w k e h = absurd h.1
 by_read (Err bad) (Err (Refused r)) text f w k e h = for_memory (Refused r) f (ap Refused h.1) (within text f.left f.left_after w) h.0
 
 pub by_text : (r : Result Explained Unexplained) (text : List ℕ) (f : Facts) → IsWhole text f.left f.left_after → f.reads_after ≡ f.reads → ExplainsText r text f.name f.rig f.rig_after → MatchResult r (λ e. HasExplained e f) (λ u. CauseUnexplained u f)
@@ -72,6 +75,7 @@ too_long text l =
 pub by_long : (u : Unexplained) (f : Facts) → IsOver f.left f.left_after → f.rig_after ≡ f.rig → ((text : List ℕ) → IsSaid u (marked_text text (record { line = 0; kind = TooMany }))) → CauseUnexplained u f
 by_long (Marked said) f long k says =
     record { text = long.0; bad = record { line = 0; kind = TooMany }; fault = inl (record { taken = inr (long.1, long.2); reads = too_long long.0 long.2; rig = k }); marks = says long.0 }
+by_long (Misfit said) f long k says = absurd (says [])
 by_long (Refused r) f long k says = for_memory (Refused r) f (ap Refused (says [])) (over f.left f.left_after long) k
 
 -- ---- where nothing is at fault
@@ -98,7 +102,7 @@ by_refusal : (r : Refusal) (f : Facts) → CauseNotRun r f → CauseRefused r f
 by_refusal (refusal.Script bad) f c = absurd c
 by_refusal (refusal.Image x) f c = c
 by_refusal (refusal.BadCapacity dev) f c = c
-by_refusal (refusal.Volume entry kind) f c = c
+by_refusal (refusal.Volume entry kind) f c = absurd c
 by_refusal refusal.RigFault f c = c
 by_refusal refusal.Memory f c = c
 by_refusal refusal.ReadFault f c = c
@@ -111,11 +115,21 @@ IsFree outside f =
 pub marked_complete : (said : List ℕ) (f : Facts) → HasMarked said f → IsFree ⊥ f
 marked_complete said f c = λ text image script l s i h t b k. not_outside c.bad (complete (refusal.Script c.bad) f (refused_so c.text c.bad f c.fault) text image script l s i h t b k)
 
+no_misfit : (entry : ℕ) (kind : VolumeKind) → (refusal.Volume entry kind ≡ refusal.Memory) ⊎ (refusal.Volume entry kind ≡ refusal.RigFault) → ⊥
+no_misfit entry kind (inl e) = absurd (cc)
+no_misfit entry kind (inr e) = absurd (cc)
+
+pub misfit_complete : (said : List ℕ) (f : Facts) → HasMisfit said f → IsFree ⊥ f
+misfit_complete said f c = λ text image script l s i h t b k.
+    let read : HasRead c.script f.left f.left_after f.reads f.reads_after = record { text = c.text; whole = c.whole; reads = c.reads; calm = c.calm } in
+    no_misfit c.entry c.kind (complete (refusal.Volume c.entry c.kind) f (inr (c.script, read, c.bad)) text image script l s i h t b k)
+
 pub refused_complete : (r : Refusal) (f : Facts) → CauseNotRun r f → IsFree (IsFromOutside r) f
 refused_complete r f c = complete r f (by_refusal r f c)
 
 one_complete : (u : Unexplained) (f : Facts) → CauseUnexplained u f → IsComplete u f
 one_complete (Marked said) f c = marked_complete said.items f c
+one_complete (Misfit said) f c = misfit_complete said.items f c
 one_complete (Refused r) f c = refused_complete r f c
 
 pub all_complete : (r : Result Explained Unexplained) (f : Facts) → MatchResult r (λ e. HasExplained e f) (λ u. CauseUnexplained u f) → IfErr r (λ u. IsComplete u f)

@@ -1,5 +1,6 @@
 use Rattle.std.specs.Prelude.{ℕ, ◌≡◌, ◌+◌, ◌⊎◌, List, length, None, Some, Result, Ok, Err, IsErrAnd, MatchResult}
 use Rattle.dix_base.specs.Told.{Calm, Took}
+use Rattle.fault_marks.specs.Entries.{misfit_text}
 use Rattle.fault_marks.specs.Texts.{marked_text}
 use Rattle.rig_api.specs.Head.{head_fault, head_of}
 use Rattle.rig_api.specs.State.{RigState}
@@ -7,15 +8,16 @@ use Rattle.script_text.specs.Bindings.{binding_fault}
 use Rattle.script_text.specs.Language.{script_in}
 use Rattle.script_text.specs.declared.fault.ScriptFault.{ScriptFault}
 use Rattle.script_text.specs.declared.script.Script.{Script}
-use Rattle.run_command.specs.Verdict.{CauseRefused, CauseStopped, Facts, HasRead, HasRun, IsFromOutside, IsUnbound, devices_of, table_over}
+use Rattle.run_command.specs.Verdict.{CauseRefused, CauseStopped, Facts, HasBadVolume, HasRead, HasRun, IsFromOutside, IsUnbound, devices_of, table_over}
 use Rattle.call_refusal.specs.declared.refusal.Refusal.{Refusal}
 use Rattle.call_refusal.specs.declared.refusal.Refusal.TheVariants as refusal
 use Rattle.dix_base.specs.Reading.{IsWhole, most_bytes}
 use Rattle.volume_table.specs.Faults.{table_fault}
+use Rattle.volume_table.specs.declared.fault.VolumeKind.{VolumeKind}
 use Rattle.run_words.specs.Sites.{Guides, IsGuideOf}
 use Rattle.run_words.specs.declared.explain.Explained.{Explained}
 use Rattle.run_words.specs.declared.explain.Unexplained.{Unexplained}
-use Rattle.run_words.specs.declared.explain.Unexplained.TheVariants.{Marked, Refused}
+use Rattle.run_words.specs.declared.explain.Unexplained.TheVariants.{Marked, Misfit, Refused}
 
 -- What a call comes to that runs a script to explain it.
 
@@ -55,14 +57,28 @@ pub record HasMarked (said : List ℕ) (f : Facts) : Type 0 where
   pub fault : IsAtFault text bad f
   pub marks : said ≡ marked_text text bad
 
--- why a call comes to no run, but for a script at fault
+-- The source gave this text of a script and was then at its end, and no call of it failed. An entry of the script's volume is at fault over the image's devices, the first, and this marks it in the text.
+pub record HasMisfit (said : List ℕ) (f : Facts) : Type 0 where
+  pub text : List ℕ
+  pub script : Script
+  pub whole : IsWhole text f.left f.left_after
+  pub reads : script_in text ≡ Ok script
+  pub calm : f.reads_after ≡ f.reads
+  pub entry : ℕ
+  pub kind : VolumeKind
+  pub bad : HasBadVolume entry kind script f.name f.rig f.rig_after
+  pub marks : said ≡ misfit_text text entry kind
+
+-- why a call comes to no run, but for a script or a volume at fault
 abbrev pub CauseNotRun : Refusal → Facts → Type 0
 CauseNotRun (refusal.Script bad) f = ⊥
+CauseNotRun (refusal.Volume entry kind) f = ⊥
 CauseNotRun why f = CauseRefused why f
 
 -- why nothing is explained
 abbrev pub CauseUnexplained : Unexplained → Facts → Type 0
 CauseUnexplained (Marked said) f = HasMarked said.items f
+CauseUnexplained (Misfit said) f = HasMisfit said.items f
 CauseUnexplained (Refused r) f = CauseNotRun r f
 
 -- Of a text and its script over an image: the script's fault over its volume is marked, or it comes to no run otherwise.
@@ -71,16 +87,26 @@ pub record MarksUnbound (said : List ℕ) (text : List ℕ) (script : Script) (n
   pub unbound : IsUnbound bad script name old new
   pub marks : said ≡ marked_text text bad
 
+-- The fault of an entry of its volume is marked.
+pub record MarksMisfit (said : List ℕ) (text : List ℕ) (script : Script) (name : List ℕ) (old new : RigState) : Type 0 where
+  pub entry : ℕ
+  pub kind : VolumeKind
+  pub bad : HasBadVolume entry kind script name old new
+  pub marks : said ≡ misfit_text text entry kind
+
 abbrev pub CauseHalted : Refusal → Script → List ℕ → RigState → RigState → Type 0
 CauseHalted (refusal.Script bad) script name old new = ⊥
+CauseHalted (refusal.Volume entry kind) script name old new = ⊥
 CauseHalted why script name old new = CauseStopped why script name old new
 
 abbrev pub CauseUnrun : Unexplained → (text : List ℕ) → Script → List ℕ → RigState → RigState → Type 0
 CauseUnrun (Marked said) text script name old new = MarksUnbound said.items text script name old new
+CauseUnrun (Misfit said) text script name old new = MarksMisfit said.items text script name old new
 CauseUnrun (Refused r) text script name old new = CauseHalted r script name old new
 
 abbrev pub ComesFromOutside : Unexplained → Type 0
 ComesFromOutside (Marked said) = ⊥
+ComesFromOutside (Misfit said) = ⊥
 ComesFromOutside (Refused r) = IsFromOutside r
 
 -- A text of the language, an image whose head is right, over whose devices script and volume have no fault, and no fault of the source: then nothing in them is refused or marked.
@@ -92,11 +118,19 @@ IsComplete u f =
 -- it is said, or there is no memory
 abbrev pub IsSaid : Unexplained → List ℕ → Type 0
 IsSaid (Marked said) text = said.items ≡ text
+IsSaid (Misfit said) text = ⊥
 IsSaid (Refused r) text = r ≡ refusal.Memory
 
--- what is made of a refusal: a script's fault is marked
+-- the same of an entry of a volume
+abbrev pub IsMisfitSaid : Unexplained → List ℕ → Type 0
+IsMisfitSaid (Marked said) text = ⊥
+IsMisfitSaid (Misfit said) text = said.items ≡ text
+IsMisfitSaid (Refused r) text = r ≡ refusal.Memory
+
+-- what is made of a refusal: the fault of a script or of its volume is marked
 abbrev pub IsHaltOf : Refusal → Unexplained → (text : List ℕ) → Type 0
 IsHaltOf (refusal.Script bad) u text = IsSaid u (marked_text text bad)
+IsHaltOf (refusal.Volume entry kind) u text = IsMisfitSaid u (misfit_text text entry kind)
 IsHaltOf r u text = u ≡ Refused r
 
 -- Of a text that reads so: its script was run or comes to no run, or its fault is marked; then the rig is as before, and so it is for want of memory at the text.

@@ -1,4 +1,5 @@
 pub mod Commands
+pub mod Vectors
 pub mod Explained
 pub mod Sites
 pub mod Texts

@@ -51,7 +51,7 @@ fn capacity_line(alloc_len: u32) -> Line
 }
 
 /// A command in words.
-fn command_words(command: &Cdb) -> Line
+pub(crate) fn command_words(command: &Cdb) -> Line
     ensures { result.items ≡ command_words command.now }
 {
     match command {

@@ -1,22 +1,24 @@
 //! The run of a script that is explained.
 
 ghost use Rattle.std.specs.Prelude.{◌≡◌, ◌≤◌, Err, IfErr, IfOk, List, MatchResult, length, ℕ};
+ghost use Rattle.fault_marks.specs.Entries.{misfit_text};
 ghost use Rattle.fault_marks.specs.Texts.{marked_text};
 ghost use Rattle.script_lines.specs.declared.kind.ScriptKind.{ScriptKind};
 ghost use Rattle.script_text.specs.Language.{script_in};
 ghost use Rattle.run_command.specs.Verdict.{Facts};
 ghost use Rattle.run_command.specs.Working.{IsSound};
-ghost use Rattle.run_words.specs.Explained.{CauseUnexplained, CauseUnrun, ExplainsText, HasExplained, IsComplete, IsHaltOf, IsSaid, WasExplained};
+ghost use Rattle.run_words.specs.Explained.{CauseUnexplained, CauseUnrun, ExplainsText, HasExplained, IsComplete, IsHaltOf, IsMisfitSaid, IsSaid, WasExplained};
 
 use crate::guide::Guide;
 use call_refusal::{Refusal, TOO_LONG};
 use dix_base::{Source, Unread, read_all};
-use fault_marks::marked_text;
+use fault_marks::{marked_text, misfit_text};
 use rig_api::Rig;
 use run_command::{Finished, run_script};
 use script_laws::a_read_script_keeps_the_rules;
 use script_text::{Script, ScriptFault, ScriptKind, read_script};
 use std::alloc::Global;
+use volume_table::VolumeKind;
 
 /// A script that was run to its end, with what tells where its blocks stand and lie.
 #[derive(Drop)]
@@ -32,6 +34,8 @@ pub struct Explained {
 pub enum Unexplained {
     /// The script is at fault, in its text or over its volume: what is said of it.
     Marked(Vec<u8>),
+    /// An entry of the script's volume doesn't fit the devices: what is said of it.
+    Misfit(Vec<u8>),
     /// It comes to no run for another reason.
     Refused(Refusal),
 }
@@ -62,12 +66,23 @@ fn marked_long(alloc: Global) -> Unexplained
     marked(alloc, &[], TOO_LONG)
 }
 
+/// What is said of an entry of the text's volume that doesn't fit the devices, or that there is no memory.
+fn misfit(alloc: Global, text: &[u8], entry: u32, kind: VolumeKind) -> Unexplained
+    ensures { IsMisfitSaid result (misfit_text text.now entry kind) }
+{
+    match misfit_text(alloc, text, entry, kind) {
+        Ok(said) => Unexplained::Misfit(said),
+        Err(_) => Unexplained::Refused(Refusal::Memory),
+    }
+}
+
 /// Why a script that comes to no run isn't explained: its fault is marked.
 fn halted(alloc: Global, text: &[u8], refusal: Refusal) -> Unexplained
     ensures { IsHaltOf refusal result text.now }
 {
     match refusal {
         Refusal::Script(fault) => marked(alloc, text, fault),
+        Refusal::Volume { entry, kind } => misfit(alloc, text, entry, kind),
         _ => Unexplained::Refused(refusal),
     }
 }

@@ -12,7 +12,9 @@ mod place;
 mod records;
 mod sense;
 mod text;
+mod vectors;
 
 pub use explain::{Explained, Unexplained, explain_source};
 pub use guide::{Guide, OpSite};
 pub use text::{print_explained, print_words};
+pub use vectors::vectors_text;
