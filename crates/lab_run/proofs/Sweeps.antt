@@ -87,7 +87,7 @@ halt_in (Err (unswept.Stopped r)) = halt.Memory
 halt_in (Ok unseen) = halt.Memory
 
 -- a sweep that was halted, but not by the sink
-pub not_by_sink : (u : Unswept) (x : Halt) → u ≡ unswept.Halted x → (x ≡ halt.Sink → ⊥) → Err u ≡ Err (unswept.Halted halt.Sink) → ⊥
+pub not_by_sink : (u : Unswept) (x : Halt) → u ≡ unswept.Halted x → (x ≡ halt.Sink → ⊥) → ◌≡◌ {A = Result Bool Unswept} (Err u) (Err (unswept.Halted halt.Sink)) → ⊥
 not_by_sink u x e calm h = calm (ap (λ (y : Unswept). halt_in (Err y)) (sym e) ∙ ap halt_in h)
 
 pub as_ends : (u v : Unswept) (w : Swept) (o n : ℕ) (taken taken' : Option (List ℕ)) → u ≡ v → SweepEnds (Err u) w o n taken taken' → SweepEnds (Err v) w o n taken taken'
