@@ -3,13 +3,14 @@ use Rattle.std.proofs.Common.{ℕ, ◌≡◌, ◌⊎◌, inl, inr, ◌+◌, Bool
 use Rattle.std.specs.Prelude.{IfErr, MatchResult, nat_lt}
 use Rattle.std.proofs.lemmas.Bool.{lt-ltb}
 use Rattle.dix_base.specs.Told.{Calm, Took}
+use Rattle.fault_marks.specs.Entries.{misfit_text}
 use Rattle.fault_marks.specs.Texts.{marked_text}
 use Rattle.script_lines.specs.declared.kind.ScriptKind.TheVariants.{TooMany}
 use Rattle.script_text.specs.Language.{lines_read, nothing_read, script_in}
 use Rattle.script_text.specs.declared.fault.ScriptFault.{ScriptFault}
 use Rattle.script_text.specs.declared.script.Script.{Script}
 use Rattle.run_command.proofs.Completing.{complete}
-use Rattle.run_command.specs.Verdict.{CauseRefused, Facts, HasRead, HoldsFault, IsFromOutside, devices_of, table_over}
+use Rattle.run_command.specs.Verdict.{CauseRefused, CauseStopped, Facts, HasBadVolume, HasRead, HoldsFault, IsFromOutside, IsUnbound, WasAsked, devices_of, table_over}
 use Rattle.call_refusal.specs.declared.refusal.Refusal.{Refusal}
 use Rattle.call_refusal.specs.declared.refusal.Refusal.TheVariants as refusal
 use Rattle.run_command.proofs.Refusing.{within}
@@ -18,10 +19,11 @@ use Rattle.rig_api.specs.State.{RigState}
 use Rattle.script_text.specs.Bindings.{binding_fault}
 use Rattle.script_words.specs.Cuts.{lines_of}
 use Rattle.volume_table.specs.Faults.{table_fault}
+use Rattle.volume_table.specs.declared.device.DeviceInfo.{DeviceInfo}
 use Rattle.volume_table.specs.declared.fault.VolumeKind.{VolumeKind}
 use Rattle.dix_base.proofs.Taking.{most_is}
 use Rattle.dix_base.specs.Reading.{IsOver, IsWhole, TookAtMost, most_bytes}
-use Rattle.run_words.specs.Explained.{CauseHalted, CauseNotRun, CauseUnexplained, CauseUnrun, ExplainsRead, ExplainsText, HasExplained, HasFaultyText, HasMarked, HasMisfit, IsAtFault, IsComplete, IsSaid, WasExplained}
+use Rattle.run_words.specs.Explained.{CauseHalted, CauseNotRun, CauseUnexplained, CauseUnrun, ExplainsRead, ExplainsText, HasExplained, HasFaultyText, HasMarked, HasMisfit, IsAtFault, IsComplete, IsHaltOf, IsMisfitSaid, IsSaid, WasExplained}
 use Rattle.run_words.specs.declared.explain.Explained.{Explained}
 use Rattle.run_words.specs.declared.explain.Unexplained.{Unexplained}
 use Rattle.run_words.specs.declared.explain.Unexplained.TheVariants.{Marked, Misfit, Refused}
@@ -30,6 +32,32 @@ pub over : (a b : Option (List ℕ)) → IsOver a b → TookAtMost (most_bytes +
 over a b w = let l = w.2 in (w.0, w.1, omega (arith, l))
 
 -- ---- a script that comes to no run
+
+-- the devices of its image were asked
+asked_only : (u : Unexplained) (devices : List DeviceInfo) (text : List ℕ) (script : Script) (name : List ℕ) (old new : RigState) → u ≡ Refused refusal.Memory → WasAsked name devices old new → CauseUnrun u text script name old new
+asked_only u devices text script name old new e asked = subst (λ (x : Unexplained). CauseUnrun x text script name old new) (sym e) (inr (devices, asked))
+
+by_unbound : (u : Unexplained) (bad : ScriptFault) (text : List ℕ) (script : Script) (name : List ℕ) (old new : RigState) → IsUnbound bad script name old new → IsSaid u (marked_text text bad) → CauseUnrun u text script name old new
+by_unbound (Marked said) bad text script name old new c h = record { bad = bad; unbound = c; marks = h }
+by_unbound (Misfit said) bad text script name old new c h = absurd h
+by_unbound (Refused r) bad text script name old new c h = asked_only (Refused r) c.devices text script name old new (ap Refused h) c.asked
+
+by_misfit : (u : Unexplained) (entry : ℕ) (kind : VolumeKind) (text : List ℕ) (script : Script) (name : List ℕ) (old new : RigState) → HasBadVolume entry kind script name old new → IsMisfitSaid u (misfit_text text entry kind) → CauseUnrun u text script name old new
+by_misfit (Marked said) entry kind text script name old new c h = absurd h
+by_misfit (Misfit said) entry kind text script name old new c h = record { entry = entry; kind = kind; bad = c; marks = h }
+by_misfit (Refused r) entry kind text script name old new c h = asked_only (Refused r) c.devices text script name old new (ap Refused h) c.asked
+
+unrun_so : (r : Refusal) (u : Unexplained) (text : List ℕ) (script : Script) (name : List ℕ) (old new : RigState) → u ≡ Refused r → CauseHalted r script name old new → CauseUnrun u text script name old new
+unrun_so r u text script name old new e c = subst (λ (x : Unexplained). CauseUnrun x text script name old new) (sym e) c
+
+pub unrun : (r : Refusal) (u : Unexplained) (text : List ℕ) (script : Script) (name : List ℕ) (old new : RigState) → CauseStopped r script name old new → IsHaltOf r u text → CauseUnrun u text script name old new
+unrun (refusal.Script bad) u text script name old new c h = by_unbound u bad text script name old new c h
+unrun (refusal.Image x) u text script name old new c h = unrun_so (refusal.Image x) u text script name old new h c
+unrun (refusal.BadCapacity dev) u text script name old new c h = unrun_so (refusal.BadCapacity dev) u text script name old new h c
+unrun (refusal.Volume entry kind) u text script name old new c h = by_misfit u entry kind text script name old new c h
+unrun refusal.RigFault u text script name old new c h = unrun_so refusal.RigFault u text script name old new h c
+unrun refusal.Memory u text script name old new c h = unrun_so refusal.Memory u text script name old new h c
+unrun refusal.ReadFault u text script name old new c h = unrun_so refusal.ReadFault u text script name old new h c
 
 -- ---- a text
 
