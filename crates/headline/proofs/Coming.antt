@@ -50,7 +50,7 @@ pub record HasWritten (w : Work dix) (v : Verdict Refusal w.Yield) (result : Sta
   pub text_is : text' ≡ verdict_text dix w v
 
 pub wrote : (w : Work dix) (v : Verdict Refusal w.Yield) (text' : List ℕ) (o n : ℕ) (result : Status) → (result ≡ status.WriteFault → ⊥) → Written (verdict_status dix w v) (verdict_text dix w v) (Some []) (Some text') o n result → HasWritten w v result text'
-wrote w v text' o n result good (inl e) = record { status_is = e.0; text_is = e.1.0 }
+wrote w v text' o n result good (inl e) = record { status_is = e.0; text_is = e.1 }
 wrote w v text' o n result good (inr e) = absurd (good e.0)
 
 -- ---- it is refused for want of memory alone
