@@ -31,7 +31,7 @@ use Rattle.unit_words.specs.Words.{image_in}
 use Rattle.volume_table.specs.Faults.{table_fault}
 use Rattle.lab_run.specs.Calls.{Facts, on_rig}
 use Rattle.lab_run.specs.Commands.{Came}
-use Rattle.lab_run.specs.Explained.{CauseNotTold, HasToldRun, Marked, Misfit, Ran, Told, explain_call, explain_work}
+use Rattle.lab_run.specs.Explained.{Marked, Misfit, Ran, Told, explain_call, explain_work}
 use Rattle.lab_run.specs.Texts.{lab}
 use Rattle.lab_run.specs.declared.refusal.Refusal.{Refusal}
 use Rattle.lab_run.specs.declared.refusal.Refusal.TheVariants as refusal

@@ -1,7 +1,6 @@
 -- What `explain` without an image comes to.
-use Rattle.std.proofs.Common.{ℕ, ◌≡◌, ◌+◌, ◌<◌, ◌≤◌, ◌⊎◌, inl, inr, Bool, false, cond, List, [], ◌++◌, length, Option, Some, None, Result, Ok, Err, refl, sym, ap, subst, ◌∙◌, arith, append-nil, length-append}
+use Rattle.std.proofs.Common.{ℕ, ◌≡◌, ◌+◌, ◌<◌, ◌≤◌, ◌⊎◌, inl, inr, Bool, false, cond, List, [], ◌++◌, length, Option, Some, None, Ok, Err, refl, sym, ap, subst, ◌∙◌, arith, append-nil, length-append}
 use Rattle.std.specs.Prelude.{◌&&◌, nat_le}
-use Rattle.std.specs.declared.alloc.AllocError.{AllocError}
 use Rattle.std.proofs.lemmas.Bool.{lt-ltb}
 use Rattle.std.proofs.lemmas.Bool.Decides.{nat_tests}
 use Rattle.call_refusal.specs.declared.refusal.Refusal.TheVariants as stop
@@ -18,14 +17,13 @@ use Rattle.run_words.proofs.Marking.{over, too_long}
 use Rattle.script_lines.specs.declared.kind.ScriptKind.TheVariants.{TooMany}
 use Rattle.script_text.specs.Language.{lines_read, nothing_read, script_in}
 use Rattle.script_text.specs.declared.fault.ScriptFault.{ScriptFault}
-use Rattle.script_text.specs.declared.script.Script.{Script}
 use Rattle.script_words.specs.Cuts.{lines_of}
 use Rattle.vector_lines.specs.Texts.{is_list}
 use Rattle.dix_base.specs.Reading.{IsOver, IsWhole, TookAtMost, most_bytes}
 use Rattle.dix_base.proofs.Taking.{most_is}
 use Rattle.lab_run.specs.Calls.{Facts, on_input}
 use Rattle.lab_run.specs.Commands.{Came}
-use Rattle.lab_run.specs.Judging.{AsList, AsScript, CauseUnread, IsGiven, IsSaid, Judged, Judges, Reads, Says, WasJudged, judge_work, judged_status, judged_text, reads_by, reads_of}
+use Rattle.lab_run.specs.Judging.{AsList, AsScript, CauseUnread, IsGiven, Judged, Judges, Reads, Says, WasJudged, judge_work, judged_status, judged_text, reads_by, reads_of}
 use Rattle.lab_run.specs.Texts.{lab, no_memory}
 use Rattle.lab_run.specs.declared.judging.Said.{Said}
 use Rattle.lab_run.specs.declared.refusal.Refusal.{Refusal}
