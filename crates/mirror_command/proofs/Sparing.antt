@@ -49,6 +49,7 @@ module _ (s : Script) (devices : List DeviceInfo) (us : List Stored) (over : IsM
       }
 
   along-none : (now : Stage) (stood : now ≡ begun) → Along 0 now stood
+  unfolding begin
   along-none now stood = record {
     units = begin.units;
     known = ap (λ (x : Stage). x.outside.units) stood ∙ begin.known;
