@@ -58,7 +58,10 @@ judge_units() {
 judge_image() {
     case $2 in
     '') wrong "$1 wants the name of an image behind it" ;;
-    --unproved | --force | --help | --version) wrong "$2 stands in front of $1: $call $2 $1 .." ;;
+    --unproved | --force | --help | --version)
+        wrong "$2 stands in front of $1: $call $2 $1 .."
+        is_misplaced=1
+        ;;
     -*) wrong "the name of an image may not begin with -: ./$2 names the same file" ;;
     esac
 }
@@ -70,12 +73,15 @@ judge_rest() {
     wanted=$1
     shift
     [ $# -gt "$wanted" ] || return 0
-    command=$1 image=$2
-    shift "$wanted"
+    command=$1 image=$2 taken=
+    while [ "$wanted" -gt 0 ]; do
+        taken="$taken $1" wanted=$((wanted - 1))
+        shift
+    done
     if takes_script "$command" "$image" && is_image "$1" && [ -f "$image" ] && ! is_image "$image"; then
         wrong "$image is no image; the image comes first, and the script on standard input: $call $command $1 < $image"
     elif takes_script "$command" "$image" && [ -f "$1" ]; then
-        wrong "$1 is a word too many; what $command reads comes on standard input: $call $command $image < $1"
+        wrong "$1 is a word too many; what $command reads comes on standard input: $call$taken < $1"
     else
         wrong "$1 is a word too many behind $command"
     fi

@@ -109,6 +109,7 @@ choose_program() {
         is_fresh || { want_rt && build_unproved; }
         say "UNPROVED: this $called was built without proofs"
     elif ! is_fresh; then
+        [ -z "$is_misplaced" ] || refuse 64 'nothing is proved and built for such words'
         want_rt
         . "$here/tools/build.sh"
         build
@@ -126,7 +127,7 @@ hold_image() {
     [ $? != 1 ] || refuse 64 "another call writes $image: try again once it has ended"
 }
 
-held='' work='' log='' is_unproved=${DIX_UNPROVED:+1}
+held='' work='' log='' is_misplaced='' is_unproved=${DIX_UNPROVED:+1}
 trap 'end 129' HUP
 trap 'end 130' INT
 trap 'end 143' TERM
