@@ -142,7 +142,7 @@ name_sent() {
 # Who marks an entry of the volume that doesn't fit, or the units of the image.
 name_place() {
     case $1 in
-    run | trace | vectors)
+    run | trace | mirror | vectors)
         script=$(input_file) || script=SCRIPT
         say "$lab explain $2 < $script marks an entry of its volume that doesn't fit"
         ;;
