@@ -7,11 +7,13 @@ use std::fs::File;
 use std::io;
 use std::os::unix::fs::FileExt;
 
-/// How many bytes are asked of the file at once.
+/// How many bytes are asked of the file at once: at first, and at most.
+const FIRST_PIECE: usize = 16384;
 const PIECE: usize = 262144;
 
 /// A piece of a file, read when a read begins where the one before it ended. Reads inside it need
-/// no call of the system. Without memory for a piece each read asks the file.
+/// no call of the system. A piece that goes on behind the one before it has twice its bytes, so that
+/// short runs of reads fetch little that nobody wants. Without memory for a piece each read asks the file.
 #[derive(Drop)]
 pub(crate) struct ReadAhead {
     /// The room, taken once. Its first `count` bytes are held.
@@ -21,6 +23,8 @@ pub(crate) struct ReadAhead {
     from: u64,
     /// Where the last read ended.
     next: u64,
+    /// How many bytes were asked for when the piece was read.
+    asked: usize,
 }
 
 /// The bytes from place `at` of the file on, as many as are wanted, where `held` has them: its first
@@ -44,6 +48,7 @@ impl ReadAhead {
             count: 0,
             from: 0,
             next: 0,
+            asked: 0,
         }
     }
 
@@ -61,17 +66,33 @@ impl ReadAhead {
         held
     }
 
+    /// How many bytes the piece from this place on is to have, of which so many are wanted.
+    fn next_piece(&self, at: u64, wanted: usize) -> usize {
+        let goes_on = self.count > 0
+            && self.from <= at
+            && at <= self.from.saturating_add(self.count as u64);
+        let piece = if goes_on {
+            self.asked.saturating_mul(2)
+        } else {
+            FIRST_PIECE
+        };
+        piece.max(wanted).min(PIECE)
+    }
+
     /// Reads a piece from this place on, as far as the file gives it at once. Where it gives none,
     /// nothing is held, and the read that asks the file itself tells what is wrong.
-    fn fill(&mut self, file: &File, at: u64)
+    fn fill(&mut self, file: &File, at: u64, wanted: usize)
         ensures { self.new.from ≡ at }
     {
+        let piece = self.next_piece(at, wanted);
         self.from = at;
         self.count = 0;
+        self.asked = piece;
         if self.room.is_empty() && self.room.resize(PIECE, 0).is_err() {
             return;
         }
-        if let Ok(count) = file.read_at(self.room.as_mut_slice(), at) {
+        let piece = piece.min(self.room.len());
+        if let Ok(count) = file.read_at(&mut self.room[..piece], at) {
             self.count = count;
         }
     }
@@ -98,7 +119,7 @@ impl ReadAhead {
             return Ok(());
         }
         if follows && into.len() < PIECE {
-            self.fill(file, at);
+            self.fill(file, at, into.len());
             if self.copy(at, into) {
                 return Ok(());
             }
