@@ -237,13 +237,26 @@ build_alone() {
     fi
 }
 
+# The processor for which the compiler may write: that of this machine, or what DIX_CPU names. The proof is the same.
+processor() {
+    if [ -n "$DIX_CPU" ]; then
+        echo "$DIX_CPU"
+        return
+    fi
+    flags=$(sed -n 's/^flags[^:]*://p' /proc/cpuinfo 2>/dev/null | head -n 1)
+    for it in avx2 bmi1 bmi2 f16c fma abm movbe; do
+        case " $flags " in *" $it "*) ;; *) echo x86-64-v2 && return ;; esac
+    done
+    echo x86-64-v3
+}
+
 # With all libraries built, rt has the program left; it is run once.
 build_program() {
     rm -rf "$work"/[0-9]*
     cd "$here/crates/$crate" || return
     # (first is some words)
     # shellcheck disable=SC2086
-    held env DIX_BUILD="$work" rt run -- $first </dev/null >"$work/ran" 2>&1
+    held env DIX_BUILD="$work" rt run --cpu="$(processor)" -- $first </dev/null >"$work/ran" 2>&1
     status=$?
     cat "$work/ran" >>"$log"
     [ "$status" != 0 ] || keep_verdict "$work/ran" "$out"

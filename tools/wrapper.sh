@@ -28,13 +28,26 @@ version() {
     kit=$(cat "$here/programs/kit" 2>/dev/null) || kit=$(rt version 2>/dev/null) || kit='none (there is no rt)'
     built='not built yet'
     if is_fresh; then built='built'; fi
+    # (the kit's line names the processor where it isn't the kit's own choice)
+    if grep -q ' cpu=' "$(dirname -- "$program")/verdict" 2>/dev/null; then
+        built="$built for $(sed -n 's/.* cpu=\([^ ]*\).*/\1/p' "$(dirname -- "$program")/verdict")"
+    fi
     if [ -n "$is_ready" ]; then built="built, as $here/programs/verdicts says"; fi
     echo "$called $(cat "$here/VERSION"), commit $commit; proved program: $built; kit: $kit"
 }
 
+# Whether the program is built for the processor that DIX_CPU names; the kit's line names none for its own choice.
+is_for_cpu() {
+    [ -n "$DIX_CPU" ] && [ -z "$is_ready" ] && [ -z "$is_unproved" ] || return 0
+    case $DIX_CPU in
+    x86-64-v2) ! grep -q ' cpu=' "$(dirname -- "$program")/verdict" 2>/dev/null ;;
+    *) grep -q " cpu=$DIX_CPU " "$(dirname -- "$program")/verdict" 2>/dev/null ;;
+    esac
+}
+
 # The program is kept with the time at which its build began, so that an edit during a build counts too.
 is_fresh() {
-    [ -x "$program" ] || return
+    [ -x "$program" ] && is_for_cpu || return
     [ -n "$is_ready" ] || [ -z "$(find "$here/crates" "$here/crates.txt" -name out -prune -o \
         \( -name '*.rt' -o -name '*.antt' -o -name crates.txt \) -newer "$program" -print | head -n 1)" ]
 }
