@@ -92,6 +92,7 @@ function lineOf(library, frame, layout, address, found) {
 async function checked(library, file, layout) {
   const frame = layout.size + layout.meta, blocks = Math.floor(file.size / frame);
   const each = Math.max(1, Math.floor(PIECE / frame));
+  library.differing(0, layout, 0, 0); // (what is no layout is refused before a byte is read)
   const result = { lines: [], shown: [], blocks, bad: 0, unchecked: 0, rest: file.size % frame, offsets: new Map() };
   for (let first = 0; first < blocks; first += each) {
     const count = Math.min(each, blocks - first);

@@ -27,10 +27,12 @@ def ip_sum(data):
 def page(**words):
     """The text of the elements `found` and `words` of the page that was opened by a link with these words."""
     link = "&".join(f"{name}={value}" for name, value in words.items())
-    run = subprocess.run(
-        [BROWSER, "--headless", "--no-sandbox", "--disable-gpu", "--virtual-time-budget=20000", "--dump-dom",
-         f"file://{WORK}/page.html#{link}"],
-        capture_output=True, text=True, timeout=120, check=False)
+    words = [BROWSER, "--headless", "--no-sandbox", "--disable-gpu", "--virtual-time-budget=20000", "--dump-dom", f"file://{WORK}/page.html#{link}"]
+    for _ in range(5):
+        # (a browser may write the page before its module is compiled)
+        run = subprocess.run(words, capture_output=True, text=True, timeout=120, check=False)
+        if 'data-ready="yes"' in run.stdout:
+            break
     texts = {}
     for name in ("found", "words"):
         it = re.search(rf'<pre id="{name}"[^>]*>(.*?)</pre>', run.stdout, re.S)
