@@ -72,7 +72,7 @@ struct dixpi_tuple {
 uint16_t dixpi_crc16(const uint8_t *bytes, size_t len);
 uint16_t dixpi_crc16_after(uint16_t guard, const uint8_t *bytes, size_t len);
 uint16_t dixpi_ip_sum(const uint8_t *bytes, size_t len);
-/* The same of parts of any length, one after another, uncopied. No iov_base is NULL, also where iov_len is 0. */
+/* The same of parts of any length, one after another, uncopied. {NULL, 0} is a part of none. */
 uint16_t dixpi_crc16v(const struct iovec *parts, size_t count);
 uint16_t dixpi_ip_sumv(const struct iovec *parts, size_t count);
 /* A guard of bytes that come one part after another. The run is the caller's, and may be copied and kept. */

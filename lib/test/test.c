@@ -366,6 +366,27 @@ static void apart(const struct dixpi_layout *l, struct dixpi_want w) {
     IS(are_same);
 }
 
+/* Parts of no bytes, which have no address, stand anywhere among others. */
+static void empty_parts(void) {
+    struct iovec none = {NULL, 0};
+    struct iovec parts[5] = {none, {NULL, 4}, none, {NULL, 508}, none};
+    struct dixpi_layout l = {512, 8, 0, 1, DIXPI_CRC};
+    struct dixpi_want w = {7, 0, 0, DIXPI_CHECK_GUARD | DIXPI_CHECK_REF};
+    struct dixpi_found found;
+    uint8_t data[512], meta[8];
+    fill(data, sizeof data);
+    parts[1].iov_base = data;
+    parts[3].iov_base = data + 4;
+    IS(dixpi_crc16v(parts, 5) == dixpi_crc16(data, 512));
+    IS(dixpi_ip_sumv(parts, 5) == dixpi_ip_sum(data, 512));
+    IS(dixpi_crc16v(&none, 1) == 0 && dixpi_crc16(NULL, 0) == 0);
+    IS(dixpi_dix_generate(parts, 5, meta, 8, &l, 0x1234, 7) == DIXPI_OK);
+    IS(dixpi_dix_verify(parts, 5, meta, 8, &l, &w, &found) == DIXPI_OK);
+    data[511] ^= 1;
+    IS(dixpi_dix_verify(parts, 5, meta, 8, &l, &w, &found) == DIXPI_DIFFERS);
+    IS(dixpi_dix_verify(&none, 1, NULL, 0, &l, &w, &found) == DIXPI_OK);
+}
+
 static void maps_tags(uint8_t *blocks, const struct dixpi_layout *l, uint32_t first) {
     static uint8_t by_hand[N * MOST];
     size_t len = (size_t)N * (l->data_size + l->meta_size);
@@ -651,6 +672,7 @@ int main(void) {
     senses();
     sent_senses();
     commands();
+    empty_parts();
     for (size_t i = 0; i < sizeof LAYOUTS / sizeof *LAYOUTS; i++)
         for (uint32_t type = 1; type <= 3; type++)
             for (uint32_t guard = DIXPI_CRC; guard <= DIXPI_IP; guard++) {

@@ -9,6 +9,7 @@ use std::os::unix::fs::FileExt;
 
 /// How many bytes are asked of the file at once: at first, and at most.
 const FIRST_PIECE: usize = 16384;
+
 const PIECE: usize = 262144;
 
 /// A piece of a file, read when a read begins where the one before it ended. Reads inside it need
