@@ -100,8 +100,7 @@ pub trait Rig {
         ensures failed { IsErrOf result RigFault.Failed → Rose (state self.old).faults (state self.new).faults }
         ensures short { IsErrOf result RigFault.Memory → LeavesShort (formatted spec.now) (state self.old).image (state self.new).image }
         ensures tells { is_some (state self.new).image ≡ is_some (state self.old).image }
-        ensures none { (state self.new).standing.devices ≡ 0 }
-        ensures head { (state self.new).standing.head ≡ (state self.old).standing.head }
+        ensures closed { ((state self.new).standing.devices ≡ 0) × ((state self.new).standing.head ≡ (state self.old).standing.head) }
         ensures opening { Stayed (state self.old).standing (state self.new).standing ⊎ Opened name.now (state self.old).standing (state self.new).standing }
         ensures opened { OpenedBy result name.now (state self.old).standing (state self.new).standing }
         ensures keeps { KeepsRecords (state self.old) (state self.new) };
