@@ -56,7 +56,7 @@ pub before-whole : (room : ℕ) (begins begins₁ begins₂ places : List ℕ) (
     IsHeld room begins places entries bios next free left → record { groups = groups_of (entries_of places entries) bios next; room = room } ≡ q → begins₁ ≡ begins → begins₂ ≡ begins →
     i < length places → begin ≡ get_or begins i begin → AreWithin most q.groups → less ≡ min most (lim.max_blocks - size (group_in q.groups i)) → from ≤ length begins₁ → to ≤ length begins₂ →
     ((k d : ℕ) → k < from → get_or begins₁ k d < begin - less) → ((k d : ℕ) → to ≤ k → k < length begins₂ → begin < get_or begins₂ k d) →
-    (from ≤ to) × (leaders lim q.groups i ≡ filter (λ j. may_join lim q.groups j i) (numbers from (to - from)))
+    (from ≤ to) × (leaders lim q.groups i ≡ filter (λ j. may_join lim q.groups j i) (numbers from (to - from))) × ((j : ℕ) → j < from → may_join lim q.groups j i ≡ false)
 before-whole room begins begins₁ begins₂ places entries bios next free left q lim i begin most less from to h v e f l g w z m n b a =
     let s = held-sizes room begins places entries bios next free left q h v in
     let el = ap length e in
@@ -71,11 +71,13 @@ before-whole room begins begins₁ begins₂ places entries bios next free left 
     (λ (x : to < from). let c = low to x in let d = high to (omega arith) (omega arith) in absurd (omega arith))
     (λ (x : from ≤ to). x)
     (cases_lt to from) in
-    let bound : to ≤ length q.groups = omega arith in (
+    let bound : to ≤ length q.groups = omega arith in
+    let wide : (j : ℕ) → j < from → may_join lim q.groups j i ≡ false =
+    (λ j x. no-join-wide lim q.groups j i
+    (λ y. (let c = low j x in let d = starts room begins places entries bios next free left q h v j 0 (omega arith) in let u : size (group_in q.groups j) ≤ most = w j [] (omega arith) in omega arith))) in (
       ordered,
-      between (λ j. may_join lim q.groups j i) (length q.groups) from to ordered bound
-          (λ j x. no-join-wide lim q.groups j i
-          (λ y. (let c = low j x in let d = starts room begins places entries bios next free left q h v j 0 (omega arith) in let u : size (group_in q.groups j) ≤ most = w j [] (omega arith) in omega arith)))
+      between (λ j. may_join lim q.groups j i) (length q.groups) from to ordered bound wide
           (λ j x y. no-join lim q.groups j i
           (λ k. (let c = high j x (omega arith) in let d = starts room begins places entries bios next free left q h v j 0 (omega arith) in omega arith))),
+      wide,
     )

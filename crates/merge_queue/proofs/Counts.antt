@@ -23,7 +23,7 @@ total-plus f g (x ∷ xs) = let a = total-plus f g xs in omega arith
 
 -- ---- counts of numbers that pass
 
-filter-first : (t : ℕ → Bool) (k : ℕ) (ks : List ℕ) → length (filter t (k ∷ ks)) ≡ (if t k then 1 else 0) + length (filter t ks)
+pub filter-first : (t : ℕ → Bool) (k : ℕ) (ks : List ℕ) → length (filter t (k ∷ ks)) ≡ (if t k then 1 else 0) + length (filter t ks)
 filter-first t k ks = ⊎_elim (λ (e : t k ≡ true). rw e (omega arith)) (λ (e : t k ≡ false). rw e (omega arith)) (cases_Bool (t k))
 
 -- none for a test that fails
@@ -73,7 +73,7 @@ ahead lim g q = total (λ h. may lim h g) q
 abbrev pub alone : Limits → List Group → ℕ
 alone lim q = total (λ g. may lim g g) q
 
-same-never : (lim : Limits) (q : List Group) (i j : ℕ) → i ≡ j → may_join lim q i j ≡ false
+pub same-never : (lim : Limits) (q : List Group) (i j : ℕ) → i ≡ j → may_join lim q i j ≡ false
 same-never lim q i j e = let f : eqb i j ≡ true = eq-eqb i j e in rw f refl
 
 other-may : (lim : Limits) (q : List Group) (i j : ℕ) → (i ≡ j → ⊥) → (if may_join lim q i j then 1 else 0) ≡ may lim (group_in q i) (group_in q j)
@@ -126,7 +126,7 @@ pairs-gone lim q i l =
 
 -- ---- what comes and goes
 
-length-without : {A : Type 0} (xs : List A) (i : ℕ) → i < length xs → suc (length (without i xs)) ≡ length xs
+pub length-without : {A : Type 0} (xs : List A) (i : ℕ) → i < length xs → suc (length (without i xs)) ≡ length xs
 length-without [] i l = absurd (omega arith)
 length-without (x ∷ xs) zero l = refl
 length-without (x ∷ xs) (suc i) l = let e = length-without xs i (omega arith) in omega arith
@@ -137,7 +137,7 @@ insert-long [] (suc at) y l = absurd (omega arith)
 insert-long (x ∷ xs) zero y l = omega arith
 insert-long (x ∷ xs) (suc at) y l = let e = insert-long xs at y (omega arith) in omega arith
 
-without-insert : {A : Type 0} (xs : List A) (at : ℕ) (y : A) → at ≤ length xs → without at (insert xs at y) ≡ xs
+pub without-insert : {A : Type 0} (xs : List A) (at : ℕ) (y : A) → at ≤ length xs → without at (insert xs at y) ≡ xs
 without-insert [] zero y l = refl
 without-insert [] (suc at) y l = absurd (omega arith)
 without-insert (x ∷ xs) zero y l = refl
@@ -168,7 +168,7 @@ not-first i j h =
     (cases_lt (suc j) (suc i)))
     (cases_lt (suc i) (suc j))
 
-left-there : {A : Type 0} (xs : List A) (i j k : ℕ) (d : A) → IsLeft i j k → get_or (without j xs) k d ≡ get_or xs i d
+pub left-there : {A : Type 0} (xs : List A) (i j k : ℕ) (d : A) → IsLeft i j k → get_or (without j xs) k d ≡ get_or xs i d
 left-there [] i j k d h = refl
 left-there (x ∷ xs) zero zero k d h = absurd (h.other refl)
 left-there (x ∷ xs) zero (suc j) zero d h = refl
@@ -177,7 +177,7 @@ left-there (x ∷ xs) (suc i) zero k d h = let e : k ≡ i = (let a = h.behind (
 left-there (x ∷ xs) (suc i) (suc j) zero d h = absurd (not-first i j h)
 left-there (x ∷ xs) (suc i) (suc j) (suc k) d h = left-there xs i j k d (less-left i j k h)
 
-left-without : {A : Type 0} (xs : List A) (i j k : ℕ) (y : A) → IsLeft i j k → without k (without j (set xs i y)) ≡ without k (without j xs)
+pub left-without : {A : Type 0} (xs : List A) (i j k : ℕ) (y : A) → IsLeft i j k → without k (without j (set xs i y)) ≡ without k (without j xs)
 left-without [] i j k y h = refl
 left-without (x ∷ xs) zero zero k y h = absurd (h.other refl)
 left-without (x ∷ xs) zero (suc j) zero y h = refl

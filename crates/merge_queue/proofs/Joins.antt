@@ -21,7 +21,7 @@ numbers-split k (suc a) b (suc n) e =
     let g : suc k + a ≡ k + suc a = omega arith in
     ap (λ l. k ∷ l) (h ∙ ap (λ m. numbers (suc k) a ++ numbers m b) g)
 
-none-pass : (t : ℕ → Bool) (k n : ℕ) → ((j : ℕ) → k ≤ j → j < k + n → t j ≡ false) → filter t (numbers k n) ≡ []
+pub none-pass : (t : ℕ → Bool) (k n : ℕ) → ((j : ℕ) → k ≤ j → j < k + n → t j ≡ false) → filter t (numbers k n) ≡ []
 none-pass t k zero h = refl
 none-pass t k (suc n) h = let e = h k (omega arith) (omega arith) in rw e (none-pass t (suc k) n (λ j l m. h j (omega arith) (omega arith)))
 

@@ -6,3 +6,4 @@ pub mod Held
 pub mod Joins
 pub mod Counts
 pub mod Begins
+pub mod Firsts

@@ -1,12 +1,12 @@
 //! The groups of one device over an index of where they begin.
 
-ghost use Rattle.std.specs.Prelude.{◌≡◌, ◌<◌, ◌≤◌, ◌+◌, ◌-◌, ◌^◌, ℕ, IfOk, if◌then◌else◌, not, ◌&&◌, eqb, [], ◌++◌, length, slice_index};
+ghost use Rattle.std.specs.Prelude.{◌≡◌, ◌<◌, ◌≤◌, ◌+◌, ◌-◌, ◌^◌, ℕ, IfOk, if◌then◌else◌, not, ◌&&◌, eqb, false, [], ◌++◌, length, slice_index};
 ghost use Rattle.std.specs.List.{filter, insert};
 ghost use Rattle.std.specs.Vec.{vec_capacity};
 ghost use Rattle.merge_queue.specs.declared.limits.Limits.{Limits as AnyLimits};
 ghost use Rattle.merge_queue.specs.Groups.{PairFound, followers, group_in, joined, lba_of, may_follow, may_join, numbers, pairs, put, size, without};
 ghost use Rattle.merge_queue.specs.Index.{bios_in};
-ghost use Rattle.merge_queue.specs.Counts.{AreWithin, leaders, links};
+ghost use Rattle.merge_queue.specs.Counts.{AreWithin, NoneJoins, leaders, links};
 
 use crate::Limits;
 use crate::chains::{copy_out, fill, one_chain};
@@ -226,6 +226,7 @@ impl GroupIndex {
         ensures bound { result.1 ≤ length self.now.groups }
         ensures groups { length self.now.groups < 2 ^ 32 }
         ensures only { leaders lim.now self.now.groups i ≡ filter (λ j. may_join lim.now self.now.groups j i) (numbers result.0 (result.1 - result.0)) }
+        ensures none { (j : ℕ) → j < result.0 → may_join lim.now self.now.groups j i ≡ false }
     {
         let begin = self.begins[i as usize];
         let left = (lim.max_blocks as u64).saturating_sub(self.blocks(i));
@@ -249,6 +250,35 @@ impl GroupIndex {
             count += as_number(self.joinable(j, i, lim));
         }
         count
+    }
+
+    /// A place at most `first` before which no group makes a pair with group i, which makes so many.
+    pub(crate) fn lowered(&self, first: u32, i: u32, pairs: u64, most: u64, lim: &Limits) -> u32
+        requires there { i < length self.now.groups }
+        requires pairs { pairs ≡ links lim.now self.now.groups i }
+        requires within { AreWithin most self.now.groups }
+        ensures low { result ≤ first }
+        ensures behind { (j : ℕ) → i < result → j < length self.now.groups → may_join lim.now self.now.groups i j ≡ false }
+        ensures before { (j : ℕ) → j < result → j < length self.now.groups → may_join lim.now self.now.groups j i ≡ false }
+    {
+        if pairs == 0 {
+            return first;
+        }
+        first.min(i).min(self.before(i, most, lim).0)
+    }
+
+    /// The first group from one place to another that may be joined before some group, or the other place.
+    pub(crate) fn first_joinable(&self, from: u32, to: u32, lim: &Limits) -> u32
+        requires there { to ≤ length self.now.groups }
+        requires none { NoneJoins lim.now self.now.groups from }
+        ensures { NoneJoins lim.now self.now.groups result }
+    {
+        for i in from..to {
+            if self.count_followers(i, lim) > 0 {
+                return i;
+            }
+        }
+        from.max(to)
     }
 
     /// Of how many pairs that may be joined group i is one. No group has more blocks than so many.
@@ -309,14 +339,15 @@ impl GroupIndex {
         unreachable!()
     }
 
-    /// The pair of this number among those that may be joined, or how far the number is past the last. For a low number
-    /// few groups are looked at.
-    pub(crate) fn find_join(&self, number: u64, lim: &Limits) -> Result<(u32, u32), u64>
+    /// The pair of this number among those that may be joined, or how far the number is past the last. No group before
+    /// place `from` is the first of one; from there on for a low number few groups are looked at.
+    pub(crate) fn find_join(&self, from: u32, number: u64, lim: &Limits) -> Result<(u32, u32), u64>
+        requires { NoneJoins lim.now self.now.groups from }
         ensures { PairFound lim.now self.now.groups number result }
     {
         let n = self.groups();
         let mut left = number;
-        for i in 0..n {
+        for i in from.min(n)..n {
             let count = self.count_followers(i, lim) as u64;
             if left < count {
                 return Ok((i, self.follower(i, left as u32, lim)));

@@ -20,17 +20,19 @@ pub struct DeviceQueue {
     count: u64,
     // No group has more blocks.
     longest: u64,
+    // No group before this place may be joined before another.
+    first: u32,
 }
 
 impl Model for DeviceQueue {
     ghost use Rattle.merge_queue.specs.Index.{Queued};
-    ghost use Rattle.merge_queue.specs.Counts.{Counted};
+    ghost use Rattle.merge_queue.specs.Counts.{Counted, NoneJoins};
 
     ghost Value = { Queued };
 
     ghost view = { λ q. q.index };
 
-    ghost invariant = { λ q. Counted q.index.groups q.limits q.count q.longest };
+    ghost invariant = { λ q. Counted q.index.groups q.limits q.count q.longest × NoneJoins q.limits q.index.groups q.first };
 }
 
 const NO_LIMITS: Limits = Limits {
@@ -54,6 +56,14 @@ fn place_left(i: u32, j: u32) -> u32
     if i < j { i } else { i - 1 }
 }
 
+/// Behind as many groups as before, once group j has gone.
+fn groups_left(first: u32, j: u32) -> u32
+    ensures before { first ≤ j → result ≡ first }
+    ensures behind { j < first → result + 1 ≡ first }
+{
+    if j < first { first - 1 } else { first }
+}
+
 impl DeviceQueue {
     /// An empty queue with room for so many bios. All its memory is taken here.
     pub fn new(alloc: Global, bios: u32) -> Result<DeviceQueue, AllocError>
@@ -64,6 +74,7 @@ impl DeviceQueue {
             limits: NO_LIMITS,
             count: 0,
             longest: 0,
+            first: 0,
         })
     }
 
@@ -72,6 +83,7 @@ impl DeviceQueue {
         ensures { self.new ≡ self.old }
     {
         self.limits = *lim;
+        self.first = 0;
         self.count = self.index.joins(lim);
     }
 
@@ -100,7 +112,11 @@ impl DeviceQueue {
     {
         let at = self.index.put(run);
         self.longest = self.longest.max(self.index.blocks(at));
-        self.count += self.index.links(at, self.longest, &self.limits);
+        let pairs = self.index.links(at, self.longest, &self.limits);
+        self.first = self
+            .index
+            .lowered(self.first, at, pairs, self.longest, &self.limits);
+        self.count += pairs;
     }
 
     /// Whether groups `i` and `j`, both from 0, may become one: they differ, have one direction, group `j` begins
@@ -124,10 +140,16 @@ impl DeviceQueue {
         ensures room { self.new.room ≡ self.old.room }
     {
         self.count -= self.index.links_of_two(i, j, self.longest, &self.limits);
+        let first = self.index.first_joinable(self.first, i, &self.limits);
         self.index.join(i, j);
         let at = place_left(i, j);
         self.longest = self.longest.max(self.index.blocks(at));
-        self.count += self.index.links(at, self.longest, &self.limits);
+        let pairs = self.index.links(at, self.longest, &self.limits);
+        let left = groups_left(groups_left(first, j), at);
+        self.first = self
+            .index
+            .lowered(left, at, pairs, self.longest, &self.limits);
+        self.count += pairs;
     }
 
     /// Moves group `i` out: appends its bios to `into`, which has room for them.
@@ -140,6 +162,7 @@ impl DeviceQueue {
         ensures capacity { vec_capacity into.new ≡ vec_capacity into.old }
     {
         self.count -= self.index.links(i, self.longest, &self.limits);
+        self.first = groups_left(self.first, i);
         self.index.take(i, into);
     }
 
@@ -154,13 +177,16 @@ impl DeviceQueue {
     }
 
     /// The pair of this number among those that may be joined, or how far the number is past the last. For a low number
-    /// few groups are looked at, and none for one past the count that is kept.
+    /// few groups are looked at, none of them before the first that may be joined, and none for one past the count kept.
     pub fn find_join(&self, number: u64, lim: &Limits) -> Result<(u32, u32), u64>
         ensures { PairFound lim.now self.now.groups number result }
     {
-        if are_same(lim, &self.limits) && number >= self.count {
+        if !are_same(lim, &self.limits) {
+            return self.index.find_join(0, number, lim);
+        }
+        if number >= self.count {
             return Err(number - self.count);
         }
-        self.index.find_join(number, lim)
+        self.index.find_join(self.first, number, lim)
     }
 }

@@ -1,7 +1,7 @@
 //! What a line says, by its first word.
 
 ghost use Rattle.std.specs.Prelude.{◌≡◌, ◌≤◌, IfOk};
-ghost use Rattle.script_lines.specs.Forms.{IsSound, line_form, op_form};
+ghost use Rattle.script_lines.specs.Forms.{IsSound, line_form};
 ghost use Rattle.script_lines.specs.Reading.{IsUnless, ended};
 ghost use Rattle.script_lines.specs.declared.line.ScriptLine.{ScriptLine};
 ghost use Rattle.pi_tuple.specs.declared.TheConstants.{LARGEST_BLOCK};
@@ -13,26 +13,8 @@ use crate::op_lines::{
     write_line, writepi_line,
 };
 use crate::volume_lines::{inner_line, linear_line, over_line, stripe_line};
-use crate::{OpLine, ScriptKind, ScriptLine, Verb, Words};
+use crate::{ScriptKind, ScriptLine, Verb, Words};
 use std::alloc::Global;
-
-fn op_line(alloc: Global, verb: Verb, words: &mut Words, size: u32) -> Result<OpLine, ScriptKind>
-    requires { size ≤ LARGEST_BLOCK }
-    ensures { IsUnless (op_form verb size words.old) result }
-{
-    match verb {
-        Verb::Fill => fill_line(words),
-        Verb::Put => put_line(alloc, words),
-        Verb::Show => show_line(words),
-        Verb::Seal => seal_line(alloc, words),
-        Verb::Write => write_line(alloc, words),
-        Verb::Read => read_line(alloc, words),
-        Verb::WritePi => writepi_line(alloc, words),
-        Verb::ReadPi => readpi_line(alloc, words),
-        Verb::Overwrite => overwrite_line(words, size),
-        _ => wait_line(words),
-    }
-}
 
 fn begin_line(words: &mut Words) -> Result<ScriptLine, ScriptKind>
     ensures value { result ≡ ended ScriptLine.Begin words.old }
@@ -68,6 +50,15 @@ pub fn line_of(
         Verb::Shift => shift_line(words),
         Verb::Schedule => schedule_line(alloc, words),
         Verb::Begin => begin_line(words),
-        _ => Ok(ScriptLine::Op(op_line(alloc, verb, words, size)?)),
+        Verb::Fill => Ok(ScriptLine::Op(fill_line(words)?)),
+        Verb::Put => Ok(ScriptLine::Op(put_line(alloc, words)?)),
+        Verb::Show => Ok(ScriptLine::Op(show_line(words)?)),
+        Verb::Seal => Ok(ScriptLine::Op(seal_line(alloc, words)?)),
+        Verb::Write => Ok(ScriptLine::Op(write_line(alloc, words)?)),
+        Verb::Read => Ok(ScriptLine::Op(read_line(alloc, words)?)),
+        Verb::WritePi => Ok(ScriptLine::Op(writepi_line(alloc, words)?)),
+        Verb::ReadPi => Ok(ScriptLine::Op(readpi_line(alloc, words)?)),
+        Verb::Overwrite => Ok(ScriptLine::Op(overwrite_line(words, size)?)),
+        _ => Ok(ScriptLine::Op(wait_line(words)?)),
     }
 }

@@ -12,6 +12,7 @@ mod rests;
 mod start;
 mod state;
 mod steps;
+mod within;
 
 pub use choice::Choice;
 pub use machine::Machine;

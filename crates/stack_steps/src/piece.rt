@@ -2,22 +2,12 @@
 
 ghost use Rattle.std.specs.Prelude.{◌≡◌, ◌<◌, ◌≤◌, ◌+◌, ◌^◌, min, length};
 ghost use Rattle.stack_laws.specs.Plan.{request_at};
-ghost use Rattle.stack_laws.specs.Pieces.{fits, longest, greatest_piece, cut_to, bio_of};
+ghost use Rattle.stack_laws.specs.Pieces.{longest, greatest_piece, cut_to, bio_of};
 
 use crate::Requests;
+use crate::within::blocks_within;
 use bio_core::Bio;
 use merge_queue::Limits;
-
-fn fits_in<P: Requests>(plan: &P, lim: &Limits, op: u32, k: u32, n: u32) -> bool
-    requires limits { lim.now ≡ (P.plan plan.now).limits }
-    requires op { op < length (P.plan plan.now).requests }
-    requires some { 1 ≤ n }
-    requires within { k + n ≤ (request_at (P.plan plan.now) op).count }
-    ensures { result ≡ fits (P.plan plan.now) op k n }
-{
-    let io = plan.io(op);
-    io.data_segs(k, n) <= lim.max_segs && io.tuple_segs(k, n) <= lim.max_pi_segs
-}
 
 fn smaller(run: u64, most: u32) -> u32
     ensures { result ≡ min run most }
@@ -44,14 +34,8 @@ fn greatest_of<P: Requests>(plan: &P, op: u32, k: u32) -> u32
     ensures { result ≡ greatest_piece (P.plan plan.now) op k }
 {
     let lim = plan.limits();
-    let mut n = longest_piece(plan, &lim, op, k);
-    while n > 0 {
-        if fits_in(plan, &lim, op, k, n) {
-            return n;
-        }
-        n -= 1;
-    }
-    1
+    let most = longest_piece(plan, &lim, op, k);
+    blocks_within(plan.io(op), &lim, k, most).min(most).max(1)
 }
 
 fn cut_down(cut: u32, most: u32) -> u32

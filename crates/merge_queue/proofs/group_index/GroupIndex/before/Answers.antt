@@ -60,3 +60,11 @@ returns-clause-only c =
     c.args.self.now c.args.lim.now c.args.i c.index-begin.result.now c.args.most c.min.result c.place_before_near-from.result c.place_for_near-to.result c.self.invariant.0 c.self.view_is c.deref.ensures.value c.deref-2.ensures.value
     (omega (arith, s)) c.index-begin.ensures c.requires.within (omega (arith, c.min.ensures, c.saturating_sub-left.ensures, c.blocks-2.ensures)) c.place_before_near-from.ensures.bound c.place_for_near-to.ensures.bound
     (λ k d h. (let e = c.place_before_near-from.ensures.before k d h in omega arith)) c.place_for_near-to.ensures.after).1
+
+pub returns-clause-none : goal.returns-clause-none
+returns-clause-none c =
+    let s = held-sizes c.self.inside.room c.self.inside.begins.items c.self.inside.places.items c.self.inside.entries.items c.self.inside.bios.items c.self.inside.next.items c.self.inside.free c.self.inside.left c.args.self.now c.self.invariant.0 c.self.view_is in
+    (before-whole c.self.inside.room c.self.inside.begins.items c.deref.result.now c.deref-2.result.now c.self.inside.places.items c.self.inside.entries.items c.self.inside.bios.items c.self.inside.next.items c.self.inside.free c.self.inside.left
+    c.args.self.now c.args.lim.now c.args.i c.index-begin.result.now c.args.most c.min.result c.place_before_near-from.result c.place_for_near-to.result c.self.invariant.0 c.self.view_is c.deref.ensures.value c.deref-2.ensures.value
+    (omega (arith, s)) c.index-begin.ensures c.requires.within (omega (arith, c.min.ensures, c.saturating_sub-left.ensures, c.blocks-2.ensures)) c.place_before_near-from.ensures.bound c.place_for_near-to.ensures.bound
+    (λ k d h. (let e = c.place_before_near-from.ensures.before k d h in omega arith)) c.place_for_near-to.ensures.after).2

@@ -1,5 +1,6 @@
-use Rattle.std.proofs.Common.{arith, ap, sym, ◌∙◌, ℕ}
+use Rattle.std.proofs.Common.{arith, ap, sym, ◌∙◌, ℕ, length, get_or}
 use Rattle.merge_queue.proofs.Joins.{pair-found, pair-later, rows-length}
+use Rattle.merge_queue.proofs.Firsts.{skipped}
 use Rattle.merge_queue.proofs.group_index.GroupIndex.find_join.Goals as goal
 
 pub returns-then-left-count : goal.returns-then-left-count
@@ -22,3 +23,11 @@ loop-i-preserved c =
       same = rw l (p.0 ∙ c.loop-i.invariant.same);
       rest = omega arith;
     }
+
+pub loop-i-init : goal.loop-i-init
+loop-i-init c =
+    let m = c.min-i.ensures in
+    let n = c.groups-n.ensures in
+    let all = skipped c.args.lim.now c.args.self.now.groups c.min-i.result c.groups-n.result n (omega arith) (λ i j a. c.requires i j (omega arith)) in
+    let long = ap length all in
+    record { same = ap (λ ps. get_or ps c.args.number (0, 0)) all; rest = omega arith }
