@@ -1,5 +1,5 @@
 -- The line of a text that adds an entry to its volume.
-use Rattle.std.proofs.Common.{ℕ, zero, suc, ◌≡◌, ◌+◌, ◌<◌, ◌≤◌, ◌^◌, true, false, cond, List, [], ◌∷◌, length, Option, Some, None, refl, sym, ap, ◌∙◌, arith}
+use Rattle.std.proofs.Common.{ℕ, zero, suc, ◌≡◌, ◌+◌, ◌<◌, ◌≤◌, ◌^◌, false, cond, List, [], ◌∷◌, length, Option, Some, None, refl, sym, ap, ◌∙◌, arith}
 use Rattle.std.specs.List.{position}
 use Rattle.std.proofs.lemmas.List.{length-drop}
 use Rattle.script_words.specs.Cuts.{Cut, cut, cut_by, is_byte, lines_of}
@@ -27,13 +27,6 @@ pub entry_next : (text rest line more : List ℕ) (entry before : ℕ) (want : O
 entry_next text rest line more entry before want n h a k =
     ap (entry_from text entry (before + 1)) (sym (tail_lines rest line more n h))
     ∙ (ap (λ b. cond b (Some (before + 1, line)) (entry_from text entry (before + 1) (lines_of more))) (sym a) ∙ (ap (entry_from text entry before) (sym h) ∙ k))
-
-pub entry_here : (text rest line more : List ℕ) (entry before : ℕ) (want : Option (ℕ × List ℕ)) → lines_of rest ≡ line ∷ lines_of more → adds_entry text entry before line ≡ true → entry_from text entry before (lines_of rest) ≡ want → Some (before + 1, line) ≡ want
-entry_here text rest line more entry before want h a k =
-    ap (λ b. cond b (Some (before + 1, line)) (entry_from text entry (before + 1) (lines_of more))) (sym a) ∙ (ap (entry_from text entry before) (sym h) ∙ k)
-
-pub entry_none : (text rest : List ℕ) (entry before : ℕ) (want : Option (ℕ × List ℕ)) → lines_of rest ≡ [] → entry_from text entry before (lines_of rest) ≡ want → None ≡ want
-entry_none text rest entry before want h k = ap (entry_from text entry before) (sym h) ∙ k
 
 -- ---- the text behind its first line
 

@@ -1,6 +1,6 @@
 -- A text that is written piece by piece: what is left of it, and a failure on the way.
-use Rattle.std.proofs.Common.{ℕ, ◌≡◌, ◌+◌, min, List, [], ◌++◌, length, take, drop, Option, refl, sym, ap, subst, ◌∙◌, arith, rules, append_assoc, append-nil}
-use Rattle.std.proofs.lemmas.List.{places, same_lists, take-append-drop}
+use Rattle.std.proofs.Common.{ℕ, ◌≡◌, ◌+◌, min, List, [], ◌++◌, length, take, Option, refl, sym, ap, subst, ◌∙◌, arith, rules, append_assoc, append-nil}
+use Rattle.std.proofs.lemmas.List.{places, same_lists}
 use Rattle.dix_base.specs.Told.{Appended, AppendedSome}
 use Rattle.dix_base.proofs.Appending.{appended_none, appended_both}
 
@@ -41,10 +41,6 @@ stops text rest a b c l e = breaks_off text [] rest a b c l (0, subst (λ x. App
 -- A text that was appended whole, behind which nothing more was, is a prefix of itself.
 pub whole_is_part : (text : List ℕ) (a b c : Option (List ℕ)) → Appended text a b → c ≡ b → AppendedSome text a c
 whole_is_part text a b c p e = stops text [] a b c (record { done = text; split = append-nil text; written = p }) e
-
--- the next n bytes were appended
-pub goes_on_by : (n : ℕ) (text rest : List ℕ) (a b c : Option (List ℕ)) → Left text rest a b → Appended (take n rest) b c → Left text (drop n rest) a c
-goes_on_by n text rest a b c l p = goes_on text (take n rest) (drop n rest) a b c (subst (λ r. Left text r a b) (sym (take-append-drop n rest)) l) p
 
 pub part_first : (s t : List ℕ) (a b : Option (List ℕ)) → AppendedSome s a b → AppendedSome (s ++ t) a b
 part_first s t a b p = breaks_off (s ++ t) s t a a b (at_start (s ++ t) a) p

@@ -1,5 +1,5 @@
 -- The pieces of each line and of each list of lines are the text.
-use Rattle.std.proofs.Common.{ℕ, suc, ◌≡◌, ◌+◌, ◌<◌, ◌≤◌, Bool, true, false, cond, List, [], ◌∷◌, ◌++◌, length, drop, get_or, codes, decimal, Result, Ok, Err, OnOk, refl, sym, ap, subst, ◌∙◌, add-one, drop-cons}
+use Rattle.std.proofs.Common.{ℕ, suc, ◌≡◌, ◌+◌, ◌<◌, ◌≤◌, Bool, true, false, cond, List, [], ◌∷◌, ◌++◌, length, drop, get_or, codes, decimal, refl, sym, ap, subst, ◌∙◌, add-one, drop-cons}
 use Rattle.std.proofs.lemmas.List.{drop_all}
 use Rattle.fault_schedule.specs.declared.Label.{Label}
 use Rattle.rig_api.specs.Log.{LogEntry, entry_at, no_entry}
@@ -61,9 +61,3 @@ next_label sites r i ls l h =
 
 pub last_run : (sites : List OpSite) (r : Run) (i : ℕ) (ls : List Label) (line : List ℕ) → length ls ≤ i → line ≡ run_line sites r → run_lines sites (runs_from r (drop i ls)) ≡ line ++ []
 last_run sites r i ls line h e = ap (λ x. run_lines sites (runs_from r x)) (drop_all i ls h) ∙ ap (λ x. x ++ []) (sym e)
-
--- ---- digits
-
-pub on_ok : {T E P : Type 0} (r : Result T E) → P → OnOk r P
-on_ok (Ok x) p = p
-on_ok (Err e) p = tt
