@@ -1,13 +1,13 @@
 -- Where the first group stands behind which another may be joined, as groups come and go.
-use Rattle.std.proofs.Common.{◌≡◌, ℕ, zero, suc, ◌+◌, ◌-◌, ◌<◌, ◌≤◌, ◌⊎◌, Bool, true, false, eqb, List, [], ◌∷◌, ◌++◌, length, get_or, set, map, refl, sym, ap, ◌∙◌, subst, ⊎_elim, inl, inr, arith}
+use Rattle.std.proofs.Common.{◌≡◌, ℕ, zero, suc, ◌+◌, ◌-◌, ◌<◌, ◌≤◌, ◌⊎◌, Bool, true, false, eqb, List, [], ◌++◌, length, set, map, refl, sym, ap, ◌∙◌, subst, ⊎_elim, inl, inr, arith}
 use Rattle.std.specs.Prelude.{if◌then◌else◌}
 use Rattle.std.specs.List.{filter, flat_map, insert}
-use Rattle.std.proofs.lemmas.Bool.{cases_Bool, cases_lt, cases_eq, ne_eqb}
+use Rattle.std.proofs.lemmas.Bool.{cases_lt, cases_eq, ne_eqb}
 use Rattle.std.proofs.lemmas.List.{length-set}
 use Rattle.std.proofs.lemmas.Grind.{flat_map-append}
 use Rattle.merge_queue.specs.declared.limits.Limits.{Limits}
 use Rattle.merge_queue.specs.Groups.{Group, may_follow, may_join, group_in, numbers, followers, pairs, without, joined}
-use Rattle.merge_queue.specs.Counts.{leaders, links, NoneJoins}
+use Rattle.merge_queue.specs.Counts.{NoneJoins}
 use Rattle.merge_queue.proofs.Joins.{row, none-pass, numbers-split}
 use Rattle.merge_queue.proofs.Counts.{IsLeft, filter-first, left-there, left-without, length-without, same-never, without-insert, insert-long}
 

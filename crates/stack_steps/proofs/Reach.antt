@@ -1,6 +1,6 @@
 -- The numbers of blocks that lie in so many segments are those up to a bound.
-use Rattle.std.proofs.Common.{◌≡◌, ◌<◌, ◌≤◌, ℕ, zero, suc, ◌+◌, ◌-◌, ◌*◌, ◌/◌, min, max, Some, Bool, true, false, ◌&&◌, List, [], ◌∷◌, length, refl, sym, ap, ◌∙◌, ⊎_elim, inl, inr, arith}
-use Rattle.std.specs.Prelude.{◌↔◌, nat_le, eqb, if◌then◌else◌}
+use Rattle.std.proofs.Common.{◌≡◌, ◌<◌, ◌≤◌, ℕ, zero, suc, ◌+◌, ◌-◌, ◌*◌, ◌/◌, min, max, Some, Bool, true, false, List, [], ◌∷◌, length, refl, sym, ap, ◌∙◌, ⊎_elim, inl, inr, arith}
+use Rattle.std.specs.Prelude.{◌↔◌}
 use Rattle.std.proofs.lemmas.Bool.{cases_Bool, cases_lt, cases_eq, and_parts, leb-true, le-leb}
 use Rattle.std.proofs.lemmas.Bool.Decides.{leb_tells, eqb_tells}
 use Rattle.std.proofs.Math.Nat.{le-div_iff_mul-le, mul-le-mul_right, mul_comm}
@@ -11,7 +11,7 @@ use Rattle.page_pool.proofs.Cutting.{length-cut, length-cut_none, cut-few}
 use Rattle.integrity_payload.specs.declared.payload.Payload.{Payload}
 use Rattle.pi_tuple.specs.declared.TheConstants.{TUPLE}
 use Rattle.bio_core.specs.Bios.{tuple_segs}
-use Rattle.stack_laws.specs.Pieces.{greatest, fits, longest}
+use Rattle.stack_laws.specs.Pieces.{greatest, fits}
 use Rattle.stack_laws.specs.Plan.{Plan}
 use Rattle.stack_steps.specs.Reach.{reach}
 
