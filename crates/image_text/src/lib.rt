@@ -21,7 +21,7 @@ mod unlike;
 
 pub use blocks::show_blocks;
 pub use diff::{Pair, WhatDiffers, write_compared, write_diff_first, write_differences};
-pub use diff_walk::diff_blocks;
+pub use diff_walk::{TwoPlaces, diff_blocks};
 pub use dumps_fault::ImportFault;
 pub use dumps_laws::a_dump_comes_back;
 pub use export::export_blocks;
