@@ -169,7 +169,7 @@ fn settle_block(pool: &mut PagePool, io: &Io, how: Settling, k: u32, lba: u64, f
     }
 }
 
-/// Settles the blocks of a bio that were carried, whose fates these are, from a place on.
+/// Settles the blocks of a bio that were carried, whose fates these are, from a place on. An untouched one stays so.
 fn settle_bio(
     pool: &mut PagePool,
     io: &Io,
