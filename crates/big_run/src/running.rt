@@ -13,8 +13,9 @@ use dix_base::{CalmStore, Failed, MemSink};
 use image_rig::ImageRig;
 use pi_guard::crc16;
 use pi_tuple::PiType;
+use report_text::print_report;
 use rig_api::{Rig, UnitSpec};
-use run_command::{Finished, print_run, run_script};
+use run_command::{Finished, run_script};
 use script_laws::a_big_script_keeps_the_rules;
 use script_text::{Script, big_script};
 use std::alloc::{AllocError, Global};
@@ -60,7 +61,7 @@ fn sum_of(alloc: Global, n: u32, run: &Finished) -> Result<u16, AllocError>
     ensures { IfOk result (λ sum. sum ≡ crc (report run.now.stack.replies.items)) }
 {
     let mut out = MemSink::new(alloc, 13 + 41 * n, Vec::new(alloc))?;
-    match print_run(&mut out, run) {
+    match print_report(&mut out, run.stack.replies()) {
         Ok(()) => Ok(crc16(out.bytes())),
         Err(Failed) => Err(AllocError),
     }

@@ -122,32 +122,14 @@ impl Adapter {
         let step = walks.wire_size();
         let mut at = from;
         for _ in 0..bio.count {
-            fates.push_reserved(fate_out(self.gather_next(pool, &mut walks, frames, at)));
+            let route = walks.route;
+            let (_, rest) = frames.split_at_mut(at);
+            let (frame, _) = rest.split_at_mut(route.size as usize + TUPLE);
+            walks.read(pool, frame);
+            fates.push_reserved(fate_out(route.to_wire(&self.tamper, frame)));
             at += step;
         }
         at
-    }
-
-    /// Gathers the next block into the frames, from a place on, and judges it.
-    fn gather_next(
-        &self,
-        pool: &PagePool,
-        walks: &mut Walks<'_>,
-        frames: &mut [u8],
-        at: usize,
-    ) -> Option<Check>
-        requires block { HasBlock pool.now walks.old }
-        requires room { at + (walks.old.route.size + TUPLE) ≤ length frames.old }
-        ensures judged { unless result (take (wire_size walks.old.route) (drop at frames.new)) ≡ to_wire self.now.tamper walks.old.route (gather 0 (cells_ahead walks.old) (flat pool.now)) }
-        ensures front { take at frames.new ≡ take at frames.old }
-        ensures long { length frames.new ≡ length frames.old }
-        ensures past { WentPast walks.old walks.new }
-    {
-        let route = walks.route;
-        let (_, rest) = frames.split_at_mut(at);
-        let (frame, _) = rest.split_at_mut(route.size as usize + TUPLE);
-        walks.read(pool, frame);
-        route.to_wire(&self.tamper, frame)
     }
 
     /// The bytes of a frame on the wire.

@@ -3,7 +3,7 @@
 ghost use Rattle.std.specs.Prelude.{◌≡◌, string_bytes};
 ghost use Rattle.std.specs.Str.{bytes_eq};
 ghost use Rattle.unit_words.specs.Words.{units_in, word_bytes};
-ghost use Rattle.dix_run.specs.Grammar.{big_of, big_with, command_by, command_in, format_of, format_with, is_one_name, modes_of, on_image};
+ghost use Rattle.dix_run.specs.Grammar.{big_of, big_with, command_in, format_of, format_with, is_one_name, modes_of, on_image};
 
 use pi_tuple::PiType;
 use script_words::number;
@@ -116,13 +116,6 @@ pub fn command_of(words: &[String]) -> Option<Command>
     ensures { result ≡ command_in (word_bytes words.now) }
 {
     let (verb, words) = words.split_first()?;
-    command_by(verb, words)
-}
-
-/// The command of this name with these words behind it.
-fn command_by(verb: &String, words: &[String]) -> Option<Command>
-    ensures { result ≡ command_by (string_bytes verb.now) (word_bytes words.now) }
-{
     if is_word(verb, b"run") {
         return on_image(Command::Run, words);
     }

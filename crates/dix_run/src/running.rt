@@ -12,8 +12,9 @@ ghost use Rattle.dix_run.specs.Verdict.{Facts, dix};
 use crate::refusal::Refusal;
 use call_verdict::{Status, refuse, status_for};
 use dix_base::{Failed, Sink, Source};
+use report_text::print_report;
 use rig_api::Rig;
-use run_command::{Finished, print_run, print_traced_run, run_source};
+use run_command::{Finished, print_traced_run, run_source};
 use std::alloc::Global;
 use unit_words::image_of;
 
@@ -23,7 +24,7 @@ fn report_run<O: Sink>(out: &mut O, run: &Finished) -> Status
         (O.taken out.old) (O.taken out.new) (O.faults out.old) (O.faults out.new) result }
     ensures handed { IsPassedOn result (O.passed out.new) (O.taken out.new) }
 {
-    match print_run(out, run) {
+    match print_report(out, run.stack.replies()) {
         Ok(()) => status_for(run.has_bad()),
         Err(Failed) => Status::WriteFault,
     }

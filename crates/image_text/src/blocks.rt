@@ -9,7 +9,7 @@ ghost use Rattle.dix_base.specs.Stores.{WasRead};
 ghost use Rattle.image_text.specs.Shown.{ShowEnds, both, lines_of, text_of};
 ghost use Rattle.rig_api.specs.declared.TheConstants.{MOST_FRAME};
 
-use crate::{Tally, write_blocks, write_first, write_last};
+use crate::show::{Tally, write_blocks, write_first, write_last};
 use dix_base::{Failed, Sink, Store};
 use image_blocks::{
     Image, Stretch, WalkFault, behind_of, block_bytes, blocks_in, front_of, read_blocks,

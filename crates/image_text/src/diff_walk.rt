@@ -15,15 +15,15 @@ use image_blocks::{Image, Stretch, behind_of, block_bytes, blocks_in, front_of, 
 
 /// Two places, each on its image.
 #[derive(Clone, Copy)]
-struct Sides<'a> {
-    image: &'a Image,
-    place: Stretch,
-    other_image: &'a Image,
-    to: Stretch,
+pub struct TwoPlaces<'a> {
+    pub image: &'a Image,
+    pub place: Stretch,
+    pub other_image: &'a Image,
+    pub to: Stretch,
 }
 
 /// The units in which two places lie.
-fn pair_of(sides: Sides<'_>) -> Pair
+fn pair_of(sides: TwoPlaces<'_>) -> Pair
     requires place { IsStretch (units_open sides.image.now) sides.place }
     requires other_place { IsStretch (units_open sides.other_image.now) sides.to }
     ensures { result ≡ pair_of (places (units_open sides.entry.image.now) sides.entry.place (units_open sides.entry.other_image.now) sides.entry.to) }
@@ -41,7 +41,7 @@ fn pair_of(sides: Sides<'_>) -> Pair
 fn diff_piece<S: Store, T: Store, O: Sink>(
     store: &mut S,
     other: &mut T,
-    sides: Sides<'_>,
+    sides: TwoPlaces<'_>,
     into: &mut [u8],
     other_into: &mut [u8],
     out: &mut O,
@@ -88,7 +88,7 @@ fn diff_piece<S: Store, T: Store, O: Sink>(
 fn diff_lines<S: Store, T: Store, O: Sink>(
     store: &mut S,
     other: &mut T,
-    sides: Sides<'_>,
+    sides: TwoPlaces<'_>,
     room: &mut [u8],
     other_room: &mut [u8],
     out: &mut O,
@@ -106,7 +106,7 @@ fn diff_lines<S: Store, T: Store, O: Sink>(
     ensures sinks { O.faults out.old ≤ O.faults out.new }
     ensures calm { (result ≡ Err DiffFault.Sink → ⊥) → O.faults out.new ≡ O.faults out.old }
 {
-    let Sides {
+    let TwoPlaces {
         image,
         place,
         other_image,
@@ -128,7 +128,7 @@ fn diff_lines<S: Store, T: Store, O: Sink>(
         let more = match diff_piece(
             store,
             other,
-            Sides {
+            TwoPlaces {
                 image,
                 place: piece,
                 other_image,
@@ -152,7 +152,7 @@ fn diff_lines<S: Store, T: Store, O: Sink>(
 fn diff_all<S: Store, T: Store, O: Sink>(
     store: &mut S,
     other: &mut T,
-    sides: Sides<'_>,
+    sides: TwoPlaces<'_>,
     room: &mut [u8],
     other_room: &mut [u8],
     out: &mut O,
@@ -192,17 +192,15 @@ fn diff_all<S: Store, T: Store, O: Sink>(
 /// No byte of a store changes. Unless `Sink` comes the sink's count stayed.
 pub fn diff_blocks<S: Store, T: Store, O: Sink>(
     store: &mut S,
-    image: &Image,
-    place: Stretch,
     other: &mut T,
-    other_image: &Image,
-    to: Stretch,
+    sides: TwoPlaces<'_>,
     room: &mut [u8],
     out: &mut O,
 ) -> Result<u32, DiffFault>
-    requires places { CanCompare (places (units_open image.now) place (units_open other_image.now) to) (S.state store.old).length (T.state other.old).length }
+    requires places { CanCompare (places (units_open sides.image.now) sides.place (units_open sides.other_image.now) sides.to) (S.state store.old).length (T.state other.old).length }
     requires least { 8208 ≤ length room.old }
-    ensures compared { DiffEnds result (diff_of (places (units_open image.now) place (units_open other_image.now) to)) (places (units_open image.now) place (units_open other_image.now) to)
+    ensures compared { DiffEnds result (diff_of (places (units_open sides.entry.image.now) sides.entry.place (units_open sides.entry.other_image.now) sides.entry.to))
+        (places (units_open sides.entry.image.now) sides.entry.place (units_open sides.entry.other_image.now) sides.entry.to)
         (S.state store.old).bytes (T.state other.old).bytes
         (counts (S.state store.old).faults (S.state store.new).faults (T.state other.old).faults (T.state other.new).faults (O.faults out.old) (O.faults out.new))
         (O.taken out.old) (O.taken out.new) }
@@ -214,12 +212,6 @@ pub fn diff_blocks<S: Store, T: Store, O: Sink>(
 {
     let half = room.len() / 2;
     let (front, back) = room.split_at_mut(half);
-    let sides = Sides {
-        image,
-        place,
-        other_image,
-        to,
-    };
     let ended = diff_all(store, other, sides, front, back, out);
     match out.flush() {
         Ok(()) => ended,

@@ -21,7 +21,7 @@ mod unlike;
 
 pub use blocks::show_blocks;
 pub use diff::{Pair, WhatDiffers, write_compared, write_diff_first, write_differences};
-pub use diff_walk::diff_blocks;
+pub use diff_walk::{TwoPlaces, diff_blocks};
 pub use dumps_fault::ImportFault;
 pub use dumps_laws::a_dump_comes_back;
 pub use export::export_blocks;
@@ -29,7 +29,7 @@ pub use fault::DiffFault;
 pub use import::import_blocks;
 pub use laws::{nothing_differs, show_lists_what_a_scrub_lists};
 pub use layout::{Layout, fits, piece_len};
-pub use show::{Tally, write_blocks, write_first, write_last};
+pub use show::Tally;
 pub use sight::{Verdict, add_block};
 pub use unit::write_units;
 pub use units::show_units;

@@ -49,7 +49,7 @@ fn tallied(tally: Tally, verdict: Verdict) -> Tally
 }
 
 /// Writes the first line.
-pub fn write_first<O: Sink>(out: &mut O) -> Result<(), Failed>
+pub(crate) fn write_first<O: Sink>(out: &mut O) -> Result<(), Failed>
     ensures { Wrote O.taken O.faults first_line out.old out.new result }
 {
     write_all(out, b"dix show 1\n")
@@ -80,7 +80,7 @@ fn write_block<O: Sink>(
 
 /// Writes a line for each of so many stored blocks, the first of which has this address, or for those at fault alone, and
 /// says how many of them are at fault or unchecked. A sink that fails has taken a prefix of the lines.
-pub fn write_blocks<O: Sink>(
+pub(crate) fn write_blocks<O: Sink>(
     out: &mut O,
     only_bad: bool,
     dev: u32,
@@ -130,7 +130,7 @@ fn last_line(count: u32, tally: Tally) -> Line
 }
 
 /// Writes the last line: how many blocks were told of, and how many of them are at fault or unchecked.
-pub fn write_last<O: Sink>(out: &mut O, count: u32, tally: Tally) -> Result<(), Failed>
+pub(crate) fn write_last<O: Sink>(out: &mut O, count: u32, tally: Tally) -> Result<(), Failed>
     ensures { Wrote O.taken O.faults (last_line count tally) out.old out.new result }
 {
     write_all(out, last_line(count, tally).as_slice())

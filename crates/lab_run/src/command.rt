@@ -198,7 +198,7 @@ fn sweep_of(words: &[String]) -> Option<Command>
 }
 
 /// The command of the words, or `None` where they are not in the grammar.
-pub fn command_of(words: &[String]) -> Option<Command>
+pub(crate) fn command_of(words: &[String]) -> Option<Command>
     ensures { result ≡ command_in (word_bytes words.now) }
 {
     let (verb, words) = words.split_first()?;

@@ -16,7 +16,7 @@ use crate::place::PlaceWord;
 use crate::refusal::Refusal;
 use call_verdict::{Status, status_for};
 use dix_base::{Sink, Store};
-use image_text::{DiffFault, diff_blocks};
+use image_text::{DiffFault, TwoPlaces, diff_blocks};
 use std::alloc::Global;
 use unit_words::image_of;
 
@@ -80,16 +80,13 @@ pub(crate) fn diff<A: Store, B: Store, O: Sink>(
     if here.at.count != there.at.count {
         return Err(Refusal::OtherCount);
     }
-    let ended = diff_blocks(
-        first,
-        &here.image,
-        here.at,
-        second,
-        &there.image,
-        there.at,
-        &mut room,
-        out,
-    );
+    let sides = TwoPlaces {
+        image: &here.image,
+        place: here.at,
+        other_image: &there.image,
+        to: there.at,
+    };
+    let ended = diff_blocks(first, second, sides, &mut room, out);
     Ok(status_of(ended))
 }
 

@@ -22,9 +22,9 @@ mod sweeping;
 mod usage;
 
 pub use call_verdict::{Status, refuse};
-pub use command::{Command, command_of};
+pub use command::Command;
 pub use layout::layout_of;
-pub use place::{PlaceWord, place_of};
+pub use place::PlaceWord;
 pub use program::run;
 pub use refusal::Refusal;
 

@@ -41,7 +41,7 @@ fn behind_device(dev: &[u8], rest: &[u8]) -> Option<PlaceWord>
 }
 
 /// The place of a word: `DEV`, all blocks of that device, or `DEV:FIRST:COUNT`.
-pub fn place_of(word: &[u8]) -> Option<PlaceWord>
+pub(crate) fn place_of(word: &[u8]) -> Option<PlaceWord>
     ensures { result ≡ place_in word.now }
 {
     match split_once(word, b':') {

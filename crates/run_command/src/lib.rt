@@ -9,5 +9,5 @@ mod verdict;
 
 pub use binding::table_of;
 pub use scripts::take_script;
-pub use text::{print_run, print_traced_run};
+pub use text::print_traced_run;
 pub use verdict::{Finished, is_any_bad, run_script, run_source};

@@ -10,14 +10,6 @@ use dix_base::{Failed, Sink};
 use report_text::{print_report, print_trace};
 use rig_api::Rig;
 
-/// Writes the report of a run.
-pub fn print_run<O: Sink>(out: &mut O, run: &Finished) -> Result<(), Failed>
-    ensures wrote { Wrote O.taken O.faults (report run.now.stack.replies.items) out.old out.new result }
-    ensures handed { OnOk result (O.passed out.new ≡ O.taken out.new) }
-{
-    print_report(out, run.stack.replies())
-}
-
 /// Writes the report of a run, and behind it the trace of all records of its call.
 pub fn print_traced_run<O: Sink, R: Rig>(out: &mut O, run: &Finished, rig: &R) -> Result<(), Failed>
     requires { run.now.first ≤ length (R.state rig.now).log }

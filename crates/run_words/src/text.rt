@@ -12,8 +12,8 @@ use crate::guide::{Guide, OpSite};
 use crate::listed::print_all_listed;
 use crate::records::print_records;
 use dix_base::{Failed, Sink};
+use report_text::print_report;
 use rig_api::Rig;
-use run_command::print_run;
 use stack_ops::Reply;
 use volume_table::Entry;
 
@@ -73,7 +73,7 @@ pub fn print_explained<O: Sink, R: Rig>(
         out.old out.new result }
     ensures handed { OnOk result (O.passed out.new ≡ O.taken out.new) }
 {
-    print_run(out, &told.run)?;
+    print_report(out, told.run.stack.replies())?;
     print_words(
         out,
         &told.guide,

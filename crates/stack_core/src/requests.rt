@@ -3,7 +3,7 @@
 ghost use Rattle.std.specs.Prelude.{◌≡◌, ◌+◌, ◌<◌, ◌≤◌, ◌^◌, IfOk};
 ghost use Rattle.std.specs.Option.{ForSome};
 ghost use Rattle.stack_walk_laws.specs.Sheets.{no_io};
-ghost use Rattle.stack_walk_laws.specs.Requests.{of_app, of_block, own_blocks, own_tuples, pages_for, private_tuples, request_of, sealed, tuple_page};
+ghost use Rattle.stack_walk_laws.specs.Requests.{of_app, of_block, own_blocks, pages_for, private_tuples, request_of, sealed, tuple_page};
 ghost use Rattle.bio_core.specs.declared.TheConstants.{MOST_BLOCKS};
 
 use bio_core::{Dir, Io};
@@ -67,30 +67,6 @@ fn tuple_page(page: u32, count: u32, i: u32) -> Seg
     }
 }
 
-/// The tuples that the block layer makes of so many blocks, where the host has tuples.
-fn own_tuples(
-    alloc: Global,
-    v: u64,
-    n: u32,
-    app: u16,
-    page: Option<u32>,
-) -> Result<Option<Payload>, AllocError>
-    requires few { n ≤ MOST_BLOCKS }
-    requires pages { ForSome page (λ p. p + 32 < 2 ^ 32) }
-    ensures { IfOk result (λ pi. pi ≡ own_tuples v n app page) }
-{
-    match page {
-        Some(page) => Ok(Some(Payload {
-            seed: v,
-            count: n,
-            tuples: private_tuples(alloc, page, n)?,
-            owner: Owner::Block,
-            app,
-        })),
-        None => Ok(None),
-    }
-}
-
 /// A request whose tuples the block layer makes and checks.
 fn of_block(
     alloc: Global,
@@ -105,12 +81,23 @@ fn of_block(
     requires pages { ForSome page (λ p. p + 32 < 2 ^ 32) }
     ensures { IfOk result (λ io. io ≡ of_block dir v n body.now app page) }
 {
+    let body = copy_of(alloc, body)?;
+    let pi = match page {
+        Some(page) => Some(Payload {
+            seed: v,
+            count: n,
+            tuples: private_tuples(alloc, page, n)?,
+            owner: Owner::Block,
+            app,
+        }),
+        None => None,
+    };
     Ok(Io {
         dir,
         first: v,
         count: n,
-        body: copy_of(alloc, body)?,
-        pi: own_tuples(alloc, v, n, app, page)?,
+        body,
+        pi,
     })
 }
 

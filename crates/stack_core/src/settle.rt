@@ -10,7 +10,7 @@ ghost use Rattle.bio_core.specs.Bios.{block_size};
 ghost use Rattle.bio_core.specs.declared.request.Dir.TheVariants.{Read};
 ghost use Rattle.merge_queue.specs.Groups.{size};
 ghost use Rattle.stack_walk_laws.specs.Settling.{AreAllWhole, AreFates, HasTuples, IsOf, IsWhole};
-ghost use Rattle.stack_walk_laws.specs.Settled.{AllSettled, BioSettled, Blanked, Judged, LeftBy, MappedBack, OneSettled, ReadSettled, Settled, TupleBlanked, said_by};
+ghost use Rattle.stack_walk_laws.specs.Settled.{AllSettled, BioSettled, Blanked, Judged, LeftBy, MappedBack, ReadSettled, Settled, TupleBlanked, said_by};
 ghost use Rattle.stack_core.specs.Places.{HoldsFates, KeepsPlaces};
 
 use crate::kept::Fates;
@@ -169,37 +169,7 @@ fn settle_block(pool: &mut PagePool, io: &Io, how: Settling, k: u32, lba: u64, f
     }
 }
 
-/// Settles block `i` of a bio, unless it is untouched.
-fn settle_one(
-    pool: &mut PagePool,
-    io: &Io,
-    how: Settling,
-    bio: &Bio,
-    i: u32,
-    fate: Fate,
-    kept: &mut Fates,
-)
-    requires whole { IsWhole pool.old io.now }
-    requires within { bio.now.k + bio.now.count ≤ io.now.count }
-    requires there { i < bio.now.count }
-    requires ends { bio.now.lba + bio.now.count < 2 ^ 64 }
-    requires held { HoldsFates io.now bio.now kept.old }
-    ensures pages { length pool.new ≡ length pool.old }
-    ensures places { KeepsPlaces kept.old kept.new }
-    ensures settled { OneSettled how.mode how.ty io.now (slice_index_or kept.old.starts.items (bio.now.op - 1) 0) (bio.now.k + i) (bio.now.lba + i) fate
-        (record { pages = pool.old; held = kept.old.held.items }) (record { pages = pool.new; held = kept.new.held.items }) }
-{
-    // A look for the proof: the request has few blocks.
-    let _blocks = io.count;
-    if fate != Fate::Untouched {
-        let k = bio.k + i;
-        let lba = bio.lba + i as u64;
-        let settled = settle_block(pool, io, how, k, lba, fate);
-        kept.set(bio.op as usize - 1, k, settled);
-    }
-}
-
-/// Settles the blocks of a bio that were carried, whose fates these are, from a place on.
+/// Settles the blocks of a bio that were carried, whose fates these are, from a place on. An untouched one stays so.
 fn settle_bio(
     pool: &mut PagePool,
     io: &Io,
@@ -219,8 +189,15 @@ fn settle_bio(
     ensures settled { BioSettled how.mode how.ty io.now (slice_index_or kept.old.starts.items (bio.now.op - 1) 0) bio.now fates.now at bio.now.count
         (record { pages = pool.old; held = kept.old.held.items }) (record { pages = pool.new; held = kept.new.held.items }) }
 {
+    // A look for the proof: the request has few blocks.
+    let _blocks = io.count;
     for i in 0..bio.count {
-        settle_one(pool, io, how, bio, i, fates[at + i as usize], kept);
+        let fate = fates[at + i as usize];
+        if fate != Fate::Untouched {
+            let k = bio.k + i;
+            let settled = settle_block(pool, io, how, k, bio.lba + i as u64, fate);
+            kept.set(bio.op as usize - 1, k, settled);
+        }
     }
 }
 

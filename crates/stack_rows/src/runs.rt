@@ -8,9 +8,9 @@ use crate::row::{Row, add_line};
 use call_refusal::Refusal;
 use dix_base::MemSink;
 use mirror_command::{print_mirrored, run_mirror};
-use report_text::print_trace;
+use report_text::{print_report, print_trace};
 use rig_api::Rig;
-use run_command::{Finished, print_run, run_script};
+use run_command::{Finished, run_script};
 use script_laws::a_read_script_keeps_the_rules;
 use script_text::{Script, ScriptFault, read_script};
 use std::alloc::{AllocError, Global};
@@ -42,7 +42,7 @@ fn fault_text(alloc: Global, fault: ScriptFault) -> Result<Vec<u8>, AllocError> 
 
 fn report_of(alloc: Global, run: &Finished) -> Result<Vec<u8>, AllocError> {
     let mut sink = MemSink::new(alloc, ROOM, Vec::new(alloc))?;
-    let _ = print_run(&mut sink, run);
+    let _ = print_report(&mut sink, run.stack.replies());
     Vec::from_slice(alloc, sink.bytes().get(FRONT..).unwrap_or(&[]))
 }
 

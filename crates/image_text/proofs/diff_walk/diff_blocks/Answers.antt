@@ -7,7 +7,7 @@ use Rattle.image_text.proofs.diff_walk.diff_blocks.Goals as goal
 
 pub returns-in-Err-clause-compared : goal.returns-in-Err-clause-compared
 returns-in-Err-clause-compared g c =
-    let p = places (units_open c.args.image.now) c.args.place (units_open c.args.other_image.now) c.args.to in (
+    let p = places (units_open c.args.sides.image.now) c.args.sides.place (units_open c.args.sides.other_image.now) c.args.sides.to in (
       rise _ _ _ c.diff_all-ended.ensures.sinks c.in-Err.ensures.cause,
       some_ended c.diff_all-ended.result (diff_of p) p _ _ _ _ _ _ c.flush.ensures.same c.diff_all-ended.ensures.compared,
     )
