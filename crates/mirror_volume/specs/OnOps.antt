@@ -1,4 +1,4 @@
-use Rattle.std.specs.Prelude.{ℕ, ◌≡◌, ◌≤◌, ◌⊎◌, Bool, true, false, List, [], ◌∷◌, ◌++◌, drop, replicate, take, Option, Some, is_some}
+use Rattle.std.specs.Prelude.{ℕ, ◌≡◌, ◌≤◌, ◌⊎◌, ◌<◌, Bool, true, false, List, All, [], ◌∷◌, ◌++◌, drop, replicate, take, Option, Some, is_some}
 use Rattle.bio_core.specs.declared.fate.Why.{Why}
 use Rattle.page_pool.specs.declared.segs.Seg.{Seg}
 use Rattle.page_pool.specs.Pages.{Wrote, bytes_in, part}
@@ -49,8 +49,9 @@ pub record IsWriteOf (s : Script) (half op v n app : ℕ) (bytes : List ℕ) (ow
   pub on1 : Bool
   pub own_is : own ≡ write_script s half (record (whole_request op v n) { on1 = on1 }) app bytes
 
--- A write of these data: one run on leg 0, then one on leg 1.
+-- A write of these data, which are bytes: one run on leg 0, then one on leg 1.
 pub record WroteBy (s : Script) (half op v n app : ℕ) (bytes : List ℕ) (old new : List Marks) (runs : List LegRun) (reply : Reply) : Type 0 where
+  pub octets : All (λ x. x < 256) bytes
   pub on0 : LegRun
   pub on1 : LegRun
   pub runs_are : runs ≡ on0 ∷ on1 ∷ []
