@@ -124,7 +124,7 @@ module _ (law : EnoughLaw) (by_form : FormedLaw) (unfaulted : StillLaw) (s : Scr
     };
     failing = λ known. ended.faults known.before known.began;
     spared = λ known u leg p fine.
-        kept-block s devices known.before (over-told s name devices old told begun known.before up known.began) u p leg (stage_of begun [] told) known.began up.starts.marks run.mirror run.repair.repaired run.repair.lost new ended
+        kept-block s devices known.before (over-told s name devices old told begun known.before up known.began) (bytes-told s name devices old told begun known.before up known.began) u leg p (stage_of begun [] told) known.began up.starts.marks run.mirror run.repair.repaired run.repair.lost new ended
         known.after known.ended fine;
   }
 

@@ -1,5 +1,5 @@
--- A block of a mirror that nothing alters and no request names on a leg, along the ops and over the repair.
-use Rattle.std.proofs.Common.{◌≡◌, ◌<◌, ◌≤◌, ℕ, zero, suc, ◌+◌, ◌*◌, Bool, true, false, List, [], ◌∷◌, ◌++◌, length, replicate, Some, refl, sym, ap, subst, ◌∙◌, arith}
+-- A block of a mirror of which nothing alters a leg and no request names it there, along the ops and over the repair.
+use Rattle.std.proofs.Common.{◌≡◌, ◌≤◌, ℕ, zero, suc, ◌+◌, Bool, false, List, ◌++◌, length, replicate, Some, refl, sym, ap, subst, ◌∙◌, arith}
 use Rattle.std.proofs.lemmas.List.{get_or-replicate, length-replicate}
 use Rattle.dix_adapter.specs.Ways.{blocks_told, shapes_of}
 use Rattle.rig_api.specs.State.{RigState}
@@ -11,17 +11,17 @@ use Rattle.run_command.proofs.Passed.{one_left}
 use Rattle.mirror_laws.specs.Mirror.{fresh, marks_of}
 use Rattle.mirror_laws.specs.declared.marks.Marks.{Marks}
 use Rattle.mirror_volume.specs.declared.mirror.Mirror.{Mirror}
-use Rattle.mirror_volume.specs.Passed.{IsMirrorOver, LegRun, half_of, mirror_setting, stretches_in}
+use Rattle.mirror_volume.specs.Premises.{HoldsBytes}
+use Rattle.mirror_volume.specs.Passed.{IsMirrorOver, LegRun, half_of, stretches_in}
 use Rattle.mirror_volume.specs.Spared.{HoldsOn, IsUnaltered, fails_on_leg, place_on, stored_on}
-use Rattle.mirror_volume.proofs.SparedGround.{begins}
+use Rattle.mirror_volume.proofs.SparedGround.{HasLeg, begins}
 use Rattle.mirror_volume.proofs.SparedNames.{fails-first, fails-last}
 use Rattle.mirror_volume.proofs.SparedOps.{kept-op}
 use Rattle.mirror_volume.proofs.SparedRepair.{Good, good-holds, repair-keeps}
-use Rattle.mirror_volume.proofs.SparedWrites.{Has, its-sound}
 use Rattle.mirror_command.specs.Spared.{AllReadRight, KeepsBlock, last_written}
 use Rattle.mirror_command.specs.Stages.{Finished, Stage, Stood}
 
-module _ (s : Script) (devices : List DeviceInfo) (us : List Stored) (over : IsMirrorOver s devices us) (u : ℕ) (p : IsUnaltered s devices us u) (leg : Bool)
+module _ (s : Script) (devices : List DeviceInfo) (us : List Stored) (over : IsMirrorOver s devices us) (octets : HoldsBytes us) (u : ℕ) (leg : Bool) (p : IsUnaltered s devices us u leg)
     (begun : Stage) (told : begun.outside.units ≡ Some us) (all_fresh : begun.sides.marks ≡ replicate (half_of s devices) fresh) where
   -- what it has when the script begins
   abbrev first : Brought
@@ -33,7 +33,7 @@ module _ (s : Script) (devices : List DeviceInfo) (us : List Stored) (over : IsM
     known : now.outside.units ≡ Some units
     shapes : shapes_of units ≡ shapes_of us
     counted : length now.sides.marks ≡ half_of s devices
-    has : Has (mirror_setting s devices us) s.block (half_of s devices) u leg (last_written s devices begun k now stood u first) (blocks_told units) (marks_of now.sides.marks u)
+    has : HasLeg s devices us u leg (last_written s devices begun k now stood u first) (blocks_told units) (marks_of now.sides.marks u)
     reads : AllReadRight s devices begun k now stood u first
 
   begin : Along 0 begun refl
@@ -44,7 +44,7 @@ module _ (s : Script) (devices : List DeviceInfo) (us : List Stored) (over : IsM
         known = told;
         shapes = refl;
         counted = ap length all_fresh ∙ length-replicate (half_of s devices) fresh;
-        has = subst (λ (k : Marks). Has (mirror_setting s devices us) s.block (half_of s devices) u leg first (blocks_told us) k) (sym its) (begins s devices us over u p leg);
+        has = subst (λ (k : Marks). HasLeg s devices us u leg first (blocks_told us) k) (sym its) (begins s devices us over u leg p octets);
         reads = tt;
       }
 
@@ -55,7 +55,7 @@ module _ (s : Script) (devices : List DeviceInfo) (us : List Stored) (over : IsM
     known = ap (λ (x : Stage). x.outside.units) stood ∙ begin.known;
     shapes = begin.shapes;
     counted = ap (λ (x : Stage). length x.sides.marks) stood ∙ begin.counted;
-    has = subst (λ (x : Stage). Has (mirror_setting s devices us) s.block (half_of s devices) u leg first (blocks_told us) (marks_of x.sides.marks u)) (sym stood) begin.has;
+    has = subst (λ (x : Stage). HasLeg s devices us u leg first (blocks_told us) (marks_of x.sides.marks u)) (sym stood) begin.has;
     reads = tt;
   }
 
@@ -66,7 +66,7 @@ module _ (s : Script) (devices : List DeviceInfo) (us : List Stored) (over : IsM
       let op = stood.1.1 in
       let none = subst (λ (rs : List LegRun). fails_on_leg (place_on s devices leg u) rs ≡ false) op.runs_are fine in
       let before = along k old stood.1.0 (omega (arith, l)) (fails-first (place_on s devices leg u) old.runs op.runs none) in
-      let next = kept-op s devices us over u p leg before.units before.shapes old.sides before.counted (last_written s devices begun k old stood.1.0 u first) before.has k (omega (arith, l)) now.sides op.runs op.reply
+      let next = kept-op s devices us over u leg p before.units before.shapes old.sides before.counted (last_written s devices begun k old stood.1.0 u first) before.has k (omega (arith, l)) now.sides op.runs op.reply
       old.outside now.outside before.known op.by op.ran op.tells (fails-last (place_on s devices leg u) old.runs op.runs none) in
       record {
         units = next.left;
@@ -77,12 +77,12 @@ module _ (s : Script) (devices : List DeviceInfo) (us : List Stored) (over : IsM
         reads = (before.reads, next.kept.reads);
       }
 
-  good-leg : (k : ℕ) (now : Stage) (stood : Stood s devices begun k now) (a : Along k now stood) → Good s devices us over u p leg (last_written s devices begun k now stood u first) a.units now.sides.marks
+  good-leg : (k : ℕ) (now : Stage) (stood : Stood s devices begun k now) (a : Along k now stood) → Good s devices us over u leg p (last_written s devices begun k now stood u first) a.units now.sides.marks
   good-leg k now stood a = record {
     shapes = a.shapes;
     counted = a.counted;
     good = a.has.good;
-    sound = its-sound (mirror_setting s devices us) s.block (half_of s devices) u leg (last_written s devices begun k now stood u first) (blocks_told a.units) (marks_of now.sides.marks u) a.has;
+    sound = a.has.sound;
   }
 
   -- all ops, and then the repair
@@ -94,8 +94,8 @@ module _ (s : Script) (devices : List DeviceInfo) (us : List Stored) (over : IsM
       let a = along (length s.ops) stage ended.served.stood (omega arith) (fails-first v stage.runs ended.runs fine) in
       let x = ended.ran.fallen a.units a.known in
       let e = last_written s devices begun (length s.ops) stage ended.served.stood u first in
-      let g = repair-keeps s devices us over u p leg e 0 (stretches_in (half_of s devices)) a.units x.0 _ _ ended.runs (omega arith) (good-leg (length s.ops) stage ended.served.stood a) ended.mended x.1.1 (fails-last v stage.runs ended.runs fine) in
+      let g = repair-keeps s devices us over u leg p e 0 (stretches_in (half_of s devices)) a.units x.0 _ _ ended.runs (omega arith) (good-leg (length s.ops) stage ended.served.stood a) ended.mended x.1.1 (fails-last v stage.runs ended.runs fine) in
       record {
         reads = a.reads;
-        holds = subst (λ (z : List Stored). HoldsOn s devices us z leg u e) (one_left x.0 left (sym x.1.0 ∙ tells)) (good-holds s devices us over u p leg e x.0 _ g);
+        holds = subst (λ (z : List Stored). HoldsOn s devices us z leg u e) (one_left x.0 left (sym x.1.0 ∙ tells)) (good-holds s devices us over u leg p e x.0 _ g);
       }

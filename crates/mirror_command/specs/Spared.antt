@@ -24,7 +24,7 @@ pub record KeepsBlock (s : Script) (devices : List DeviceInfo) (begun : Stage) (
   pub reads : AllReadRight s devices begun k stage stood u (brought_by s.block (stored_on s devices us us leg u))
   pub holds : HoldsOn s devices us left leg u (last_written s devices begun k stage stood u (brought_by s.block (stored_on s devices us us leg u)))
 
--- So fares each block that nothing alters and that no request on this leg names for the medium: neither one of the ops nor one of the repair.
+-- So fares each block with a leg on which nothing alters it and no request names it for the medium, neither one of the ops nor one of the repair, where what lines do to it on the other leg is shown.
 abbrev pub KeepsSpared : (s : Script) (devices : List DeviceInfo) (begun : Stage) (k : ℕ) (stage : Stage) → Stood s devices begun k stage → (us left : List Stored) → (runs : List LegRun) → Type 0
 KeepsSpared s devices begun k stage stood us left runs =
-    (u : ℕ) (leg : Bool) → IsUnaltered s devices us u → fails_on_leg (place_on s devices leg u) runs ≡ false → KeepsBlock s devices begun k stage stood us left u leg
+    (u : ℕ) (leg : Bool) → IsUnaltered s devices us u leg → fails_on_leg (place_on s devices leg u) runs ≡ false → KeepsBlock s devices begun k stage stood us left u leg

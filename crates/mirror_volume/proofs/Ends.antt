@@ -16,7 +16,7 @@ use Rattle.volume_table.specs.declared.device.DeviceInfo.{DeviceInfo}
 use Rattle.script_text.specs.declared.script.Script.{Script}
 use Rattle.mirror_volume.specs.LegsPassed.{table_of}
 use Rattle.mirror_volume.specs.LegRuns.{LegRun}
-use Rattle.mirror_volume.specs.OnOps.{Altered, DidOp, OpRan, OverwriteTells, RanOp, Sides}
+use Rattle.mirror_volume.specs.OnOps.{AsksNoLeg, DidOp, OpRan, OverwriteTells, RanOp, Sides}
 use Rattle.mirror_volume.specs.Standing.{op_at}
 use Rattle.mirror_volume.proofs.Runs.{ran-nothing}
 
@@ -68,12 +68,12 @@ module _ (s : Script) (devices : List DeviceInfo) (half number used : ℕ) (old 
       (IfOk-weaker result (λ (reply : Reply). reply ≡ Shown (part old.pool seg)) (DidOp s half number (Show seg) old old now now []) (λ reply e. ((record { same = refl; none = refl }, e), tt)) said))
 
 module _ (s : Script) (devices : List DeviceInfo) (half number used : ℕ) (old : Sides) (before after : RigState) (op : Op) where
-  pub did-overwrite : (dev lba : ℕ) (change : Change) (reply : Reply) → op ≡ Overwrite dev lba change → (reply ≡ Silent) ⊎ (reply ≡ Medium) → Altered dev lba change [] before after → OverwriteTells dev lba change reply before after
+  pub did-overwrite : (dev lba : ℕ) (change : Change) (reply : Reply) → op ≡ Overwrite dev lba change → (reply ≡ Silent) ⊎ (reply ≡ Medium) → AsksNoLeg [] before after → OverwriteTells dev lba change reply before after
       → is_some after.image ≡ is_some before.image
       → RanOp s devices half number op old.pool used used before after (λ runs. DidOp s half number op old old before after runs reply)
-  did-overwrite dev lba change reply is said altered told tells =
+  did-overwrite dev lba change reply is said asked told tells =
       subst (λ (o : Op). RanOp s devices half number o old.pool used used before after (λ runs. DidOp s half number o old old before after runs reply)) (sym is)
-      (record { runs = []; ran = altered; goes_on = refl; own = tt; came = ((record { same = refl; none = refl }, said), told); tells = tells; standing = altered.standing })
+      (record { runs = []; ran = asked; goes_on = refl; own = tt; came = ((record { same = refl; none = refl }, said), told); tells = tells; standing = asked.standing })
 
 -- an op that does nothing on a mirror
 abbrev pub IsIdle : Op → Type 0

@@ -62,6 +62,15 @@ module _ (m' : Setting) (opening : State) (half : ℕ) (still : (at : Crossing) 
         bare = subst (λ a. eqb a 0xFFFF ≡ false) app h.sound.bare.escape;
       }
 
+  own_small : (b : Block) (e : Brought) (h : IsWhole n e) → Small (own_tuple (route m b) e.app e.body)
+  own_small b e h = record { guard = guard_below m'.mode.kind e.body; app = h.below; rtag = tag_below b.virt }
+
+  -- the frame of a write brings its data and its tag
+  pub own_brought : (b : Block) (e : Brought) (h : IsWhole n e) → brought_by n (own_frame (route m b) e.app e.body) ≡ e
+  own_brought b e h =
+      let t = own_tuple (route m b) e.app e.body in
+      same_brought (data_is n e.body t h.size) (ap (λ (t : Tuple). t.app) (tuple_is n e.body t h.size (own_small b e h)))
+
   module _ (b : Block) (free : IsUnnamed m b) where
     module _ (e : Brought) (h : IsWhole n e) where
       abbrev t : Tuple
@@ -70,11 +79,8 @@ module _ (m' : Setting) (opening : State) (half : ℕ) (still : (at : Crossing) 
       abbrev f : List ℕ
       f = own_frame (route m b) e.app e.body
 
-      small : Small (own_tuple (route m b) e.app e.body)
-      small = record { guard = guard_below m'.mode.kind e.body; app = h.below; rtag = tag_below b.virt }
-
       there : tuple_of n (own_frame (route m b) e.app e.body) ≡ own_tuple (route m b) e.app e.body
-      there = tuple_is n e.body t h.size small
+      there = tuple_is n e.body t h.size (own_small b e h)
 
       bare_frame : IsBare n (own_frame (route m b) e.app e.body)
       bare_frame = record { size = length-append e.body _ ∙ ap (λ k. k + 8) h.size; escape = ap (λ t. is_escaped One t) there ∙ h.bare }
@@ -98,7 +104,7 @@ module _ (m' : Setting) (opening : State) (half : ℕ) (still : (at : Crossing) 
           (subst (λ a. as_expected m a ≡ true) (sym app_there) expected) free (on_wire m' opening half none still b) in
           let o : Outcome m' b (own_frame (route m b) e.app e.body) (Stores s.carried s.stored) = subst (Outcome m' b f) s.is goes in
           let after : Sound m' (route m b).lba s.stored × (brought_by n s.stored ≡ brought_by n f) = subst (λ (c : Bool). After m' b f c s.stored) (free TargetToMedium) o.1 in
-          record { stored = s.stored; is = ap stored_of s.is; holds = record { sound = after.0; brought = after.1 ∙ same_brought body_there app_there } }
+          record { stored = s.stored; is = ap stored_of s.is; holds = record { sound = after.0; brought = after.1 ∙ own_brought b e h } }
 
       by_way : (w : WayOut) (stored : List ℕ) → Expects m' b f w → stored_of w ≡ Ok stored → as_expected m (tuple_of n f).app ≡ true
       by_way (Fails why) stored x q = absurd cc

@@ -1,4 +1,4 @@
--- A block that nothing alters, over a read of a mirror where store calls may fail.
+-- A block of which nothing alters a leg, over a read of a mirror where store calls may fail.
 use Rattle.std.proofs.Common.{◌≡◌, ◌<◌, inl, inr, ℕ, suc, ◌+◌, ◌-◌, ◌*◌, Bool, true, false, ◌&&◌, ◌||◌, not, is_none, if◌then◌else◌, List, [], ◌∷◌, ◌++◌, length, get_or, replicate, take, drop, Option, None, refl, sym, ap, subst, ◌∙◌, arith}
 use Rattle.std.specs.Prelude.{Result, Ok, Err, is_some}
 use Rattle.std.proofs.lemmas.Bool.{false≢true}
@@ -12,14 +12,15 @@ use Rattle.volume_table.specs.declared.device.DeviceInfo.{DeviceInfo}
 use Rattle.dix_adapter.specs.Ways.{blocks_told, shapes_of}
 use Rattle.stack_ops.specs.declared.op.Op.TheVariants.{Fetch}
 use Rattle.stack_ops.specs.declared.reply.Reply.{Reply}
-use Rattle.walk_laws.specs.Past.{Brought}
+use Rattle.walk_laws.specs.Past.{Brought, brought_by}
 use Rattle.walk_laws.specs.ReadsAs.{listed_in}
 use Rattle.walk_laws.specs.Settings.{Block, Setting}
 use Rattle.walk_laws.specs.UnderMap.{home}
 use Rattle.script_text.specs.declared.script.Script.{Script}
 use Rattle.mirror_laws.specs.Mirror.{fresh, marks_of}
-use Rattle.mirror_laws.specs.OneGood.{IsUnnamed, on_leg}
+use Rattle.mirror_laws.specs.OneGood.{on_leg}
 use Rattle.mirror_laws.specs.OnLegs.{landed_by, why_of}
+use Rattle.mirror_laws.specs.Repair.{reading}
 use Rattle.mirror_laws.specs.declared.marks.Marks.{Marks}
 use Rattle.mirror_volume.specs.LegsPassed.{table_of}
 use Rattle.mirror_volume.specs.declared.piece.Piece.{Piece}
@@ -38,11 +39,11 @@ use Rattle.mirror_volume.proofs.OneLeg.{AllInside, all-inside}
 use Rattle.mirror_volume.proofs.Painting.{all-stretches, chosen, painted}
 use Rattle.mirror_volume.proofs.Requests.{IsRequest, whole-piece}
 use Rattle.mirror_volume.proofs.SparedFetch.{IsRight, chosen-at, first-at, first-long, fresh0-at, last-at, listed_of, lands_of, read-right, rest-at, slice-flat}
-use Rattle.mirror_volume.proofs.SparedGround.{free, is-mirror}
+use Rattle.mirror_volume.proofs.SparedGround.{Altered, HasLeg, is-mirror}
 use Rattle.mirror_volume.proofs.SparedLegs.{LegFell, leg-fell}
 use Rattle.mirror_volume.proofs.SparedNames.{fails-first, fails-last}
 use Rattle.mirror_volume.proofs.SparedReads.{Comes, LegCame, PartCame, base, base-comes, leg-came, part-local, slice}
-use Rattle.mirror_volume.proofs.SparedWrites.{Has, IsFree, listed-at}
+use Rattle.mirror_volume.proofs.SparedWrites.{IsFree, IsShown, delivers-it, listed-at}
 use Rattle.mirror_volume.proofs.SparedWrote.{Kept, in-request}
 
 pub fallen-both : (t : Table) (us left : List Stored) (runs later : List LegRun) → AllFallen t us (runs ++ later) left → (next : List Stored) × (AllFallen t us runs next × AllFallen t next later left)
@@ -61,11 +62,12 @@ from-none : (came : Result (List ℕ) Why) → why_of came ≡ None → (frame :
 from-none (Ok frame) e = (frame, refl)
 from-none (Err why) e = absurd cc
 
-module _ (s : Script) (devices : List DeviceInfo) (us : List Stored) (over : IsMirrorOver s devices us) (u : ℕ) (p : IsUnaltered s devices us u) (leg : Bool)
+module _ (s : Script) (devices : List DeviceInfo) (us : List Stored) (over : IsMirrorOver s devices us) (u : ℕ) (leg : Bool) (p : IsUnaltered s devices us u leg)
     (now : List Stored) (same : shapes_of now ≡ shapes_of us) (old : Sides) (counted : length old.marks ≡ half_of s devices) (e : Brought)
-    (has : Has (mirror_setting s devices us) s.block (half_of s devices) u leg e (blocks_told now) (marks_of old.marks u))
+    (has : HasLeg s devices us u leg e (blocks_told now) (marks_of old.marks u))
     (i v n : ℕ) (body : List Seg) (req : IsRequest s (half_of s devices) v n body)
-    (unnamed : (leg : Bool) → has_block v n u ≡ true → IsUnnamed (mirror_setting s devices us) (named_on s devices leg u (Fetch v n body) i)) where
+    (free : has_block v n u ≡ true → IsFree (mirror_setting s devices us) s.block (named_on s devices leg u (Fetch v n body) i))
+    (shown : has_block v n u ≡ true → IsShown (mirror_setting s devices us) s.block (Altered s devices us u leg) (named_on s devices (not leg) u (Fetch v n body) i)) where
   abbrev m : Setting
   m = mirror_setting s devices us
 
@@ -171,14 +173,16 @@ module _ (s : Script) (devices : List DeviceInfo) (us : List Stored) (over : IsM
         let body : take size x.0 ≡ e.body = ap (λ (b : Brought). b.body) x.1.1.1 in
         y.1 ∙ ap Ok (c.lands x.0 y.0 y.1 x.1.0 (omega (arith, room)) ∙ body)
 
-    -- one that is stored right comes as that, if at all
-    comes-right : (j : ℕ) (came : Result (List ℕ) Why) → Comes m size block cells IsBadAt j came → IsFree m size (block j) → SoundAs m (block j).virt e (get_or cells (home m (block j).virt) []) → (d : List ℕ) → came ≡ Ok d → (d ≡ e.body) × (take size d ≡ d)
-    comes-right j came c free sound d q =
-        let x = free.comes e cells sound in
-        let room = x.1.1.0 in
-        let body : take size x.0 ≡ e.body = ap (λ (b : Brought). b.body) x.1.1.1 in
-        let lands = c.lands x.0 d q x.1.0 (omega (arith, room)) in
-        let long : length d ≡ size = ap length lands ∙ length-take-le size x.0 (omega (arith, room)) in
+    -- where what is delivered of it is what was written, it comes as that, if at all
+    comes-right : (j : ℕ) (came : Result (List ℕ) Why) → Comes m size block cells IsBadAt j came → ((frame : List ℕ) → reading m (block j) cells ≡ Ok frame → (length frame ≡ size + 8) × (brought_by size frame ≡ e))
+        → (d : List ℕ) → came ≡ Ok d → (d ≡ e.body) × (take size d ≡ d)
+    comes-right j came c only d q =
+        let y = from-none (reading m (block j) cells) (c.reads d q) in
+        let x = only y.0 y.1 in
+        let room = x.0 in
+        let body : take size y.0 ≡ e.body = ap (λ (b : Brought). b.body) x.1 in
+        let lands = c.lands y.0 d q y.1 (omega (arith, room)) in
+        let long : length d ≡ size = ap length lands ∙ length-take-le size y.0 (omega (arith, room)) in
         (lands ∙ body, take_all size d (omega (arith, long)))
 
   -- ---- both
@@ -346,30 +350,48 @@ module _ (s : Script) (devices : List DeviceInfo) (us : List Stored) (over : IsM
       named-second : block1 j ≡ named_on s devices true u (Fetch v n body) i
       named-second = λ z. record { op = i; k = n + j; virt = half + at z }
 
-      free0 : IsFree m size (block0 j)
-      free0 = free s devices us over u p (block0 j) (subst (IsUnnamed m) (sym named-first) (unnamed false here))
+      abbrev its-block : Bool → Block
+      its-block c = named_on s devices c u (Fetch v n body) i
 
-      free1 : IsFree m size (block1 j)
-      free1 = free s devices us over u p (block1 j) (subst (IsUnnamed m) (sym named-second) (unnamed true here))
+      -- what a fresh leg delivers of it
+      delivers : (c : Bool) → on_leg c k.leg0 k.leg1 ≡ true → (frame : List ℕ) → reading m (its-block c) cells ≡ Ok frame → (length frame ≡ size + 8) × (brought_by size frame ≡ e)
+      delivers = delivers-it m size half u leg (Altered s devices us u leg) e cells k its-block (λ c. refl) (free here) (shown here) has
 
-      sound0 : k.leg0 ≡ true → SoundAs m (v + j) e (get_or cells (home m (v + j)) [])
-      sound0 f = subst (λ (x : ℕ). SoundAs m x e (get_or cells (home m x) [])) (sym at) (has.on0 f)
+      only0 : k.leg0 ≡ true → (frame : List ℕ) → reading m (block0 j) cells ≡ Ok frame → (length frame ≡ size + 8) × (brought_by size frame ≡ e)
+      only0 f frame q = delivers false f frame (ap (λ (b : Block). reading m b cells) (sym named-first) ∙ q)
 
-      sound1 : k.leg1 ≡ true → SoundAs m (half + (v + j)) e (get_or cells (home m (half + (v + j))) [])
-      sound1 f = subst (λ (x : ℕ). SoundAs m (half + x) e (get_or cells (home m (half + x)) [])) (sym at) (has.on1 f)
+      only1 : k.leg1 ≡ true → (frame : List ℕ) → reading m (block1 j) cells ≡ Ok frame → (length frame ≡ size + 8) × (brought_by size frame ≡ e)
+      only1 f frame q = delivers true f frame (ap (λ (b : Block). reading m b cells) (sym named-second) ∙ q)
+
+      -- on its leg
+      free-on : (c : Bool) → leg ≡ c → IsFree m size (its-block c)
+      free-on c g = subst (λ (c : Bool). IsFree m size (its-block c)) g (free here)
+
+      sound-on : (c : Bool) → leg ≡ c → SoundAs m (place_on s devices c u) e (get_or cells (home m (place_on s devices c u)) [])
+      sound-on c g = subst (λ (c : Bool). SoundAs m (place_on s devices c u) e (get_or cells (home m (place_on s devices c u)) [])) g has.sound
+
+      free0 : leg ≡ false → IsFree m size (block0 j)
+      free0 g = subst (IsFree m size) (sym named-first) (free-on false g)
+
+      free1 : leg ≡ true → IsFree m size (block1 j)
+      free1 g = subst (IsFree m size) (sym named-second) (free-on true g)
+
+      sound0 : leg ≡ false → SoundAs m (v + j) e (get_or cells (home m (v + j)) [])
+      sound0 g = subst (λ (x : ℕ). SoundAs m x e (get_or cells (home m x) [])) (sym at) (sound-on false g)
+
+      sound1 : leg ≡ true → SoundAs m (half + (v + j)) e (get_or cells (home m (half + (v + j))) [])
+      sound1 g = subst (λ (x : ℕ). SoundAs m (half + x) e (get_or cells (home m (half + x)) [])) (sym at) (sound-on true g)
 
       right : IsRight k a b (landed_by size a) (landed_by size b) (replicate {A = ℕ} size 0) e.body
       right =
           read-right leg k.leg0 k.leg1 a b (landed_by size a) (landed_by size b) (replicate {A = ℕ} size 0) e.body has.good
           (λ g. good-comes p0 fit0 block0 refl named0 wanted0 wanted0-long w.runs0 j a (all0.fits j)
-          (fails-first (v + j) w.runs0 w.runs1 (subst (λ (x : ℕ). fails_on_leg x (w.runs0 ++ w.runs1) ≡ false) (ap (λ (c : Bool). on_leg c u (half + u)) g ∙ sym at) none)) free0
-          (sound0 (subst (λ (c : Bool). on_leg c k.leg0 k.leg1 ≡ true) g has.good)))
+          (fails-first (v + j) w.runs0 w.runs1 (subst (λ (x : ℕ). fails_on_leg x (w.runs0 ++ w.runs1) ≡ false) (ap (λ (c : Bool). on_leg c u (half + u)) g ∙ sym at) none)) (free0 g) (sound0 g))
           (λ g. good-comes p1 fit1 block1 refl named1 wanted1 wanted1-long w.runs1 j b (all1.fits j)
-          (fails-last (half + (v + j)) w.runs0 w.runs1 (subst (λ (x : ℕ). fails_on_leg x (w.runs0 ++ w.runs1) ≡ false) (ap (λ (c : Bool). on_leg c u (half + u)) g ∙ ap (λ x. half + x) (sym at)) none)) free1
-          (sound1 (subst (λ (c : Bool). on_leg c k.leg0 k.leg1 ≡ true) g has.good)))
-          (λ f d q. (comes-right p0 fit0 block0 refl named0 wanted0 wanted0-long w.runs0 j a (all0.fits j) free0 (sound0 f) d q).0)
-          (λ f d q. ap (landed_by size) q ∙ (comes-right p0 fit0 block0 refl named0 wanted0 wanted0-long w.runs0 j a (all0.fits j) free0 (sound0 f) d q).1)
-          (λ f d q. ap (landed_by size) q ∙ (comes-right p1 fit1 block1 refl named1 wanted1 wanted1-long w.runs1 j b (all1.fits j) free1 (sound1 f) d q).1)
+          (fails-last (half + (v + j)) w.runs0 w.runs1 (subst (λ (x : ℕ). fails_on_leg x (w.runs0 ++ w.runs1) ≡ false) (ap (λ (c : Bool). on_leg c u (half + u)) g ∙ ap (λ x. half + x) (sym at)) none)) (free1 g) (sound1 g))
+          (λ f d q. (comes-right p0 fit0 block0 refl named0 wanted0 wanted0-long w.runs0 j a (all0.fits j) (only0 f) d q).0)
+          (λ f d q. ap (landed_by size) q ∙ (comes-right p0 fit0 block0 refl named0 wanted0 wanted0-long w.runs0 j a (all0.fits j) (only0 f) d q).1)
+          (λ f d q. ap (landed_by size) q ∙ (comes-right p1 fit1 block1 refl named1 wanted1 wanted1-long w.runs1 j b (all1.fits j) (only1 f) d q).1)
 
       lands-right : LandsRight size (u - v) body old new reply e
       lands-right = record {
@@ -384,7 +406,7 @@ module _ (s : Script) (devices : List DeviceInfo) (us : List Stored) (over : IsM
       shapes = fell1.shapes;
       counted = ap length w.marks ∙ counted;
       has =
-          subst (λ (k : Marks). Has m size half u leg e (blocks_told left) k) (sym (ap (λ (ms : List Marks). marks_of ms u) w.marks))
-          (subst (λ (bs : List (List ℕ)). Has m size half u leg e bs (marks_of old.marks u)) (sym fell1.same) has);
+          subst (λ (k : Marks). HasLeg s devices us u leg e (blocks_told left) k) (sym (ap (λ (ms : List Marks). marks_of ms u) w.marks))
+          (subst (λ (bs : List (List ℕ)). HasLeg s devices us u leg e bs (marks_of old.marks u)) (sym fell1.same) has);
       reads = λ here. lands-right here;
     }

@@ -1,5 +1,7 @@
--- A block of a mirror that nothing alters: where it stands, which of its blocks are free, and what it has when the script begins.
-use Rattle.std.proofs.Common.{◌≡◌, ◌<◌, ℕ, ◌+◌, Bool, true, false, List, [], ◌∷◌, length, refl, sym, ap, subst, ◌∙◌, arith, length-append}
+-- A block of a mirror of which nothing alters a leg: where it stands, what is known of its requests on both legs, and what it has when the script begins.
+use Rattle.std.proofs.Common.{◌≡◌, ◌<◌, inl, ℕ, ◌+◌, Bool, true, false, not, List, [], ◌∷◌, length, refl, sym, ap, subst, ◌∙◌, arith, length-append}
+use Rattle.std.proofs.lemmas.Bool.{false_from_ne_true}
+use Rattle.fault_schedule.specs.declared.fault.Crossing.TheVariants.{MediumToTarget, TargetToMedium}
 use Rattle.pi_tuple.specs.Finds.{has_ref_tag, is_escaped}
 use Rattle.pi_tuple.specs.declared.checks.PiType.{PiType}
 use Rattle.rig_api.specs.Frames.{stored_size, tuple_of}
@@ -9,23 +11,31 @@ use Rattle.volume_table.specs.Places.{place_in}
 use Rattle.volume_table.specs.Tables.{Table}
 use Rattle.volume_table.specs.declared.device.DeviceInfo.{DeviceInfo}
 use Rattle.dix_adapter.specs.Ways.{blocks_told, shapes_of}
+use Rattle.block_path.proofs.Cells.{below}
+use Rattle.stack_ops.specs.Ops.{first_virt}
+use Rattle.small_laws.proofs.Numbers.{even_size}
+use Rattle.walk_laws.specs.FirstLayer.{has_flip}
 use Rattle.walk_laws.specs.Past.{Brought, brought_by}
 use Rattle.walk_laws.specs.Settings.{Block, Setting}
 use Rattle.walk_laws.specs.UnderMap.{home}
 use Rattle.run_laws.specs.ShownRun.{IsChecked}
 use Rattle.script_text.specs.declared.script.Script.{Script}
-use Rattle.mirror_laws.specs.Mirror.{fresh}
+use Rattle.script_form_laws.proofs.Formed.{lines-bytes}
+use Rattle.script_stack.proofs.Octets.{block_octets}
+use Rattle.mirror_laws.specs.Mirror.{blocks_in, fresh}
+use Rattle.mirror_laws.specs.declared.marks.Marks.{Marks}
 use Rattle.mirror_laws.specs.OneGood.{IsUnnamed, on_leg}
 use Rattle.mirror_volume.specs.LegsPassed.{none_fails, setting_of, table_of}
 use Rattle.mirror_volume.specs.MirrorScript.{IsMirrorScript}
-use Rattle.mirror_volume.specs.Spared.{IsUnaltered, place_on, stored_on}
+use Rattle.mirror_volume.specs.Spared.{IsAltered, IsUnaltered, has_block, named_on, place_on, stored_on}
 use Rattle.mirror_volume.specs.Enough.{opening_over}
-use Rattle.mirror_volume.specs.Standing.{IsMirrorOver, half_of, mirror_setting}
+use Rattle.mirror_volume.specs.Premises.{HoldsBytes}
+use Rattle.mirror_volume.specs.Standing.{IsMirrorOver, half_of, mirror_setting, op_at}
 use Rattle.mirror_volume.proofs.Free.{SoundAs}
 use Rattle.mirror_volume.proofs.Ground.{fits, legs, sizes}
 use Rattle.mirror_volume.proofs.Premises.{checked-over, has-cells, lies-on}
-use Rattle.mirror_volume.proofs.SparedFree.{is-free}
-use Rattle.mirror_volume.proofs.SparedWrites.{Has, IsFree}
+use Rattle.mirror_volume.proofs.SparedFree.{is-free, is-shown-block}
+use Rattle.mirror_volume.proofs.SparedWrites.{Has, IsFree, IsShown}
 
 -- units of the same shapes have as many blocks
 pub as-many : (us vs : List Stored) → shapes_of vs ≡ shapes_of us → length (blocks_told vs) ≡ length (blocks_told us)
@@ -45,6 +55,14 @@ as-many (u ∷ us) (v ∷ vs) e =
 pub leg-inside : (leg : Bool) (u half : ℕ) → u < half → on_leg leg u (half + u) < half + half
 leg-inside false u half l = omega (arith, l)
 leg-inside true u half l = omega (arith, l)
+
+-- A line alters it on its way to the medium on the other leg.
+abbrev pub Altered : Script → List DeviceInfo → List Stored → (u : ℕ) → (leg : Bool) → Type 0
+Altered s devices us u leg = (k : ℕ) × IsAltered s devices us (not leg) u k TargetToMedium
+
+-- what it has, over these blocks and with these marks
+abbrev pub HasLeg : Script → List DeviceInfo → List Stored → (u : ℕ) → (leg : Bool) → Brought → List (List ℕ) → Marks → Type 0
+HasLeg s devices us u leg e blocks k = Has (mirror_setting s devices us) s.block (half_of s devices) u leg (Altered s devices us u leg) e blocks k
 
 module _ (s : Script) (devices : List DeviceInfo) (us : List Stored) (over : IsMirrorOver s devices us) where
   abbrev m : Setting
@@ -80,41 +98,69 @@ module _ (s : Script) (devices : List DeviceInfo) (us : List Stored) (over : IsM
 
   -- ---- the block
 
-  module _ (u : ℕ) (p : IsUnaltered s devices us u) where
-    pub is-checked : IsChecked m
+  module _ (u : ℕ) (leg : Bool) (p : IsUnaltered s devices us u leg) where
+    is-checked : IsChecked m
     is-checked = checked-over s devices us over p.ty p.protect
 
     -- a block of a request that no line names
     pub free : (b : Block) → IsUnnamed m b → IsFree m s.block b
     free b h = is-free m (opening_over s us) half (λ at op. (legs s devices us over).unshifted at op) is-checked b h
 
-    pub sound-at : (leg : Bool) → SoundAs m (place_on s devices leg u) (brought_by s.block (stored_on s devices us us leg u)) (stored_on s devices us us leg u)
-    sound-at leg =
+    -- that of op k on its leg
+    pub free-at : (k : ℕ) → k < length s.ops → has_block (first_virt (op_at s.ops k)) (blocks_in (op_at s.ops k)) u ≡ true → IsFree m s.block (named_on s devices leg u (op_at s.ops k) (k + 1))
+    free-at k under here =
+        free (named_on s devices leg u (op_at s.ops k) (k + 1)) (λ at. false_from_ne_true (has_flip m (named_on s devices leg u (op_at s.ops k) (k + 1)) at) (λ f. p.unnamed k at (record { under = under; here = here; flips = f })))
+
+    -- and on the other
+    pub shown-at : (k : ℕ) → k < length s.ops → has_block (first_virt (op_at s.ops k)) (blocks_in (op_at s.ops k)) u ≡ true → IsShown m s.block (Altered s devices us u leg) (named_on s devices (not leg) u (op_at s.ops k) (k + 1))
+    shown-at k under here =
+        let b = named_on s devices (not leg) u (op_at s.ops k) (k + 1) in
+        is-shown-block m (opening_over s us) half (λ at op. (legs s devices us over).unshifted at op) is-checked (even_size s.block over.bound.keeps.block_is) (lines-bytes s.block s.ops s.faults over.bound.keeps.faults_are)
+        (Altered s devices us u leg) b (λ at f. p.shown k at (record { under = under; here = here; flips = f })) (λ f. (k, record { under = under; here = here; flips = f }))
+        (λ altered. false_from_ne_true (has_flip m b MediumToTarget) (λ f. p.apart altered.0 k altered.1 (record { under = under; here = here; flips = f })))
+
+    sound-at : (c : Bool) → SoundAs m (place_on s devices c u) (brought_by s.block (stored_on s devices us us c u)) (stored_on s devices us us c u)
+    sound-at c =
         let long = is-mirror.long in
-        let v = place_on s devices leg u in
-        let l = leg-inside leg u half p.inside in
-        let c = p.clean leg in
+        let v = place_on s devices c u in
+        let l = leg-inside c u half p.inside in
+        let is = p.clean c in
         record {
           sound = record {
             bare = record {
               size = (sizes s devices us over).stored v (omega (arith, l, long)) ∙ ap (λ (ty : PiType). stored_size ty s.block) p.ty;
-              escape = subst (λ (ty : PiType). is_escaped ty (tuple_of s.block (stored_on s devices us us leg u)) ≡ false) p.ty c.no_escape;
+              escape = subst (λ (ty : PiType). is_escaped ty (tuple_of s.block (stored_on s devices us us c u)) ≡ false) p.ty is.no_escape;
             };
-            bears = record { guard = c.guard; rtag = c.rtag (ap has_ref_tag p.ty) };
-            app = c.app;
+            bears = record { guard = is.guard; rtag = is.rtag (ap has_ref_tag p.ty) };
+            app = is.app;
           };
           brought = refl;
         }
 
+    -- both legs have the same
+    same-legs : (c d : Bool) → brought_by s.block (stored_on s devices us us c u) ≡ brought_by s.block (stored_on s devices us us d u)
+    same-legs false false = refl
+    same-legs false true = sym p.equal
+    same-legs true false = p.equal
+    same-legs true true = refl
+
+    fresh-on : (c : Bool) → on_leg c fresh.leg0 fresh.leg1 ≡ true
+    fresh-on false = refl
+    fresh-on true = refl
+
     -- it has what a leg has
-    pub begins : (leg : Bool) → Has m s.block half u leg (brought_by s.block (stored_on s devices us us leg u)) (blocks_told us) fresh
-    begins false = record {
-      good = refl;
-      on0 = λ f. sound-at false;
-      on1 = λ f. subst (λ (e : Brought). SoundAs m (half + u) e (stored_on s devices us us true u)) p.equal (sound-at true);
-    }
-    begins true = record {
-      good = refl;
-      on0 = λ f. subst (λ (e : Brought). SoundAs m u e (stored_on s devices us us false u)) (sym p.equal) (sound-at false);
-      on1 = λ f. sound-at true;
-    }
+    pub begins : HoldsBytes us → HasLeg s devices us u leg (brought_by s.block (stored_on s devices us us leg u)) (blocks_told us) fresh
+    begins bytes =
+        let other = sound-at (not leg) in
+        record {
+          good = fresh-on leg;
+          sound = sound-at leg;
+          other = λ f. record {
+            fine = record {
+              size = other.sound.bare.size;
+              bytes = below 256 (stored_on s devices us us (not leg) u) (block_octets (blocks_told us) (home m (place_on s devices (not leg) u)) bytes);
+              escape = other.sound.bare.escape;
+            };
+            either = inl (subst (λ (e : Brought). SoundAs m (place_on s devices (not leg) u) e (stored_on s devices us us (not leg) u)) (same-legs (not leg) leg) other);
+          };
+        }

@@ -1,5 +1,5 @@
--- A block that nothing alters, over one op of a mirror where store calls may fail.
-use Rattle.std.proofs.Common.{◌≡◌, ◌<◌, ◌⊎◌, inl, inr, ℕ, ◌+◌, ◌-◌, Bool, true, false, List, [], length, map, get_or, set, Some, None, arith, refl, sym, ap, subst, ◌∙◌}
+-- A block of which nothing alters a leg, over one op of a mirror where store calls may fail.
+use Rattle.std.proofs.Common.{◌≡◌, ◌<◌, ◌⊎◌, inl, inr, ℕ, ◌+◌, ◌-◌, Bool, true, false, not, List, [], length, map, get_or, set, Some, None, arith, refl, sym, ap, subst, ◌∙◌}
 use Rattle.std.proofs.lemmas.List.{get_or-set_other, length-set}
 use Rattle.rig_api.specs.Telling.{block_at, changed, unit_at, with_block}
 use Rattle.rig_api.specs.declared.change.Change.{Change}
@@ -26,7 +26,6 @@ use Rattle.script_stack.proofs.Passed.{tag-fits}
 use Rattle.script_text.specs.Ops.{data_fault}
 use Rattle.script_text.specs.declared.script.Script.{Script}
 use Rattle.mirror_laws.specs.Mirror.{blocks_in, marks_of}
-use Rattle.mirror_laws.specs.OneGood.{IsUnnamed}
 use Rattle.mirror_laws.specs.declared.marks.Marks.{Marks}
 use Rattle.mirror_volume.specs.LegsPassed.{op_fault, table_of}
 use Rattle.mirror_volume.specs.LegRuns.{AllFallen, LegRun, RanLegs}
@@ -37,14 +36,14 @@ use Rattle.mirror_volume.proofs.Others.{IsSpot, put-here, spot}
 use Rattle.mirror_volume.proofs.Premises.{has-cells, lies-on}
 use Rattle.mirror_volume.proofs.Requests.{op-fits, overwrite-fits, request-fits}
 use Rattle.mirror_volume.proofs.SparedFetched.{kept-fetch}
-use Rattle.mirror_volume.proofs.SparedGround.{is-mirror, leg-inside}
-use Rattle.mirror_volume.proofs.SparedWrites.{Has, has-still}
+use Rattle.mirror_volume.proofs.SparedGround.{Altered, HasLeg, free-at, is-mirror, leg-inside, shown-at}
+use Rattle.mirror_volume.proofs.SparedWrites.{IsFree, IsShown, has-still}
 use Rattle.mirror_volume.proofs.SparedWrote.{Kept, kept-write}
 use Rattle.mirror_volume.proofs.LegsPassed.{op-keeps}
 
-module _ (s : Script) (devices : List DeviceInfo) (us : List Stored) (over : IsMirrorOver s devices us) (u : ℕ) (p : IsUnaltered s devices us u) (leg : Bool)
+module _ (s : Script) (devices : List DeviceInfo) (us : List Stored) (over : IsMirrorOver s devices us) (u : ℕ) (leg : Bool) (p : IsUnaltered s devices us u leg)
     (now : List Stored) (same : shapes_of now ≡ shapes_of us) (old : Sides) (counted : length old.marks ≡ half_of s devices) (e : Brought)
-    (has : Has (mirror_setting s devices us) s.block (half_of s devices) u leg e (blocks_told now) (marks_of old.marks u)) (i : ℕ) where
+    (has : HasLeg s devices us u leg e (blocks_told now) (marks_of old.marks u)) (i : ℕ) where
   abbrev m : Setting
   m = mirror_setting s devices us
 
@@ -65,10 +64,10 @@ module _ (s : Script) (devices : List DeviceInfo) (us : List Stored) (over : IsM
   none-run : (runs : List LegRun) (left : List Stored) → runs ≡ [] → AllFallen t now runs left → left ≡ now
   none-run runs left none all = subst (λ (rs : List LegRun). AllFallen t now rs left) none all
 
-  same-has : (left : List Stored) (new : Sides) → left ≡ now → new.marks ≡ old.marks → Has m s.block half u leg e (blocks_told left) (marks_of new.marks u)
+  same-has : (left : List Stored) (new : Sides) → left ≡ now → new.marks ≡ old.marks → HasLeg s devices us u leg e (blocks_told left) (marks_of new.marks u)
   same-has left new stayed moved =
-      subst (λ (ms : List Marks). Has m s.block half u leg e (blocks_told left) (marks_of ms u)) (sym moved)
-      (subst (λ (z : List Stored). Has m s.block half u leg e (blocks_told z) (marks_of old.marks u)) (sym stayed) has)
+      subst (λ (ms : List Marks). HasLeg s devices us u leg e (blocks_told left) (marks_of ms u)) (sym moved)
+      (subst (λ (z : List Stored). HasLeg s devices us u leg e (blocks_told z) (marks_of old.marks u)) (sym stayed) has)
 
   quiet : (op : Op) (new : Sides) (reply : Reply) (before after : RigState) (runs : List LegRun) → before.units ≡ Some now → runs ≡ [] → new.marks ≡ old.marks → RanLegs t devices runs before after
       → written_then s.block u op old.pool reply e ≡ e → ReadsRight s.block u op old new reply e → Next op new reply after
@@ -81,7 +80,7 @@ module _ (s : Script) (devices : List DeviceInfo) (us : List Stored) (over : IsM
         kept = record {
           shapes = ap shapes_of stayed ∙ same;
           counted = ap length moved ∙ counted;
-          has = subst (λ (b : Brought). Has m s.block half u leg b (blocks_told x.0) (marks_of new.marks u)) (sym last-is) (same-has x.0 new stayed moved);
+          has = subst (λ (b : Brought). HasLeg s devices us u leg b (blocks_told x.0) (marks_of new.marks u)) (sym last-is) (same-has x.0 new stayed moved);
           reads = reads;
         };
       }
@@ -116,8 +115,8 @@ module _ (s : Script) (devices : List DeviceInfo) (us : List Stored) (over : IsM
           shapes = told-shapes now dev (set (unit_at now dev).blocks (lba - (unit_at now dev).first) x.0) (length-set (unit_at now dev).blocks (lba - (unit_at now dev).first) x.0) ∙ same;
           counted = ap (λ (z : Sides). length z.marks) stayed ∙ counted;
           has =
-              subst (λ (z : Sides). Has m s.block half u leg e (blocks_told (with_block now dev lba x.0)) (marks_of z.marks u)) (sym stayed)
-              (has-still m s.block half u leg e (blocks_told now) (blocks_told (with_block now dev lba x.0)) (marks_of old.marks u) (away x.0 false) (away x.0 true) has);
+              subst (λ (z : Sides). HasLeg s devices us u leg e (blocks_told (with_block now dev lba x.0)) (marks_of z.marks u)) (sym stayed)
+              (has-still m s.block half u leg (Altered s devices us u leg) e (blocks_told now) (blocks_told (with_block now dev lba x.0)) (marks_of old.marks u) (away x.0) has);
           reads = tt;
         };
       }
@@ -125,43 +124,44 @@ module _ (s : Script) (devices : List DeviceInfo) (us : List Stored) (over : IsM
   -- ---- each op
 
   pub op-next : (op : Op) (new : Sides) (runs : List LegRun) (reply : Reply) (before after : RigState) → KeepsRules s.mode.dix s.pages s.block op → op_fault s.mode.protect t devices s.block op ≡ None → LeavesRight s devices us u op
-      → ((c : Bool) → has_block (first_virt op) (blocks_in op) u ≡ true → IsUnnamed m (named_on s devices c u op i)) → before.units ≡ Some now → OpBy s half i op old new runs reply → OpRan op t devices runs before after → OpTells op reply before after
+      → (has_block (first_virt op) (blocks_in op) u ≡ true → IsFree m s.block (named_on s devices leg u op i))
+      → (has_block (first_virt op) (blocks_in op) u ≡ true → IsShown m s.block (Altered s devices us u leg) (named_on s devices (not leg) u op i)) → before.units ≡ Some now → OpBy s half i op old new runs reply → OpRan op t devices runs before after → OpTells op reply before after
       → fails_on_leg (place_on s devices leg u) runs ≡ false → Next op new reply after
-  op-next (Fill seg byte) new runs reply before after k fault right unnamed told by ran tells fine = quiet (Fill seg byte) new reply before after runs told by.0.none by.0.marks ran refl tt
-  op-next (Put page off bytes) new runs reply before after k fault right unnamed told by ran tells fine = quiet (Put page off bytes) new reply before after runs told by.0.none by.0.marks ran refl tt
-  op-next (Show seg) new runs reply before after k fault right unnamed told by ran tells fine = quiet (Show seg) new reply before after runs told by.0.none (ap (λ (x : Sides). x.marks) by.0.same) ran refl tt
-  op-next (Seal n body tuples app rtag) new runs reply before after k fault right unnamed told by ran tells fine =
+  op-next (Fill seg byte) new runs reply before after k fault right free shown told by ran tells fine = quiet (Fill seg byte) new reply before after runs told by.0.none by.0.marks ran refl tt
+  op-next (Put page off bytes) new runs reply before after k fault right free shown told by ran tells fine = quiet (Put page off bytes) new reply before after runs told by.0.none by.0.marks ran refl tt
+  op-next (Show seg) new runs reply before after k fault right free shown told by ran tells fine = quiet (Show seg) new reply before after runs told by.0.none (ap (λ (x : Sides). x.marks) by.0.same) ran refl tt
+  op-next (Seal n body tuples app rtag) new runs reply before after k fault right free shown told by ran tells fine =
       quiet (Seal n body tuples app rtag) new reply before after runs told by.0.none (ap (λ (x : Sides). x.marks) by.0.same) ran refl tt
-  op-next (Write v n body app) new runs reply before after k fault right unnamed told by ran tells fine =
+  op-next (Write v n body app) new runs reply before after k fault right free shown told by ran tells fine =
       let x = ran.fallen now told in
       let req = request-fits s devices v n body over.bound (no_fault (data_fault s.pages s.block n body) _ _ k.rules) fault in
       record {
         left = x.0;
         units = x.1.0;
-        kept = kept-write s devices us over u p leg now same old counted e has i v n body app req (tag-fits app k.ranges.1) right unnamed new runs reply x.0 by.1 x.1.1 fine;
+        kept = kept-write s devices us over u leg p now same old counted e has i v n body app req (tag-fits app k.ranges.1) right free shown new runs reply x.0 by.1 x.1.1 fine;
       }
-  op-next (Fetch v n body) new runs reply before after k fault right unnamed told by ran tells fine =
+  op-next (Fetch v n body) new runs reply before after k fault right free shown told by ran tells fine =
       let x = ran.fallen now told in
       let req = request-fits s devices v n body over.bound (no_fault (data_fault s.pages s.block n body) _ _ k.rules) fault in
       record {
         left = x.0;
         units = x.1.0;
-        kept = kept-fetch s devices us over u p leg now same old counted e has i v n body req unnamed new runs reply x.0 by x.1.1 fine;
+        kept = kept-fetch s devices us over u leg p now same old counted e has i v n body req free shown new runs reply x.0 by x.1.1 fine;
       }
-  op-next (WritePi v n body tuples) new runs reply before after k fault right unnamed told by ran tells fine =
+  op-next (WritePi v n body tuples) new runs reply before after k fault right free shown told by ran tells fine =
       quiet (WritePi v n body tuples) new reply before after runs told by.0.none (ap (λ (x : Sides). x.marks) by.0.same) ran refl tt
-  op-next (FetchPi v n body tuples) new runs reply before after k fault right unnamed told by ran tells fine =
+  op-next (FetchPi v n body tuples) new runs reply before after k fault right free shown told by ran tells fine =
       quiet (FetchPi v n body tuples) new reply before after runs told by.0.none (ap (λ (x : Sides). x.marks) by.0.same) ran refl tt
-  op-next (Overwrite dev lba change) new runs reply before after k fault right unnamed told by ran tells fine =
+  op-next (Overwrite dev lba change) new runs reply before after k fault right free shown told by ran tells fine =
       overwritten dev lba change (overwrite-fits s.mode.protect t devices s.block dev lba change fault).to right new reply before after told by.0.same by.1 tells
-  op-next Wait new runs reply before after k fault right unnamed told by ran tells fine = quiet Wait new reply before after runs told by.0.none (ap (λ (x : Sides). x.marks) by.0.same) ran refl tt
+  op-next Wait new runs reply before after k fault right free shown told by ran tells fine = quiet Wait new reply before after runs told by.0.none (ap (λ (x : Sides). x.marks) by.0.same) ran refl tt
 
 -- op number k of the script, from 0
-pub kept-op : (s : Script) (devices : List DeviceInfo) (us : List Stored) (over : IsMirrorOver s devices us) (u : ℕ) (p : IsUnaltered s devices us u) (leg : Bool) (now : List Stored) (same : shapes_of now ≡ shapes_of us) (old : Sides)
-    (counted : length old.marks ≡ half_of s devices) (e : Brought) (has : Has (mirror_setting s devices us) s.block (half_of s devices) u leg e (blocks_told now) (marks_of old.marks u)) (k : ℕ) → k < length s.ops
+pub kept-op : (s : Script) (devices : List DeviceInfo) (us : List Stored) (over : IsMirrorOver s devices us) (u : ℕ) (leg : Bool) (p : IsUnaltered s devices us u leg) (now : List Stored) (same : shapes_of now ≡ shapes_of us) (old : Sides)
+    (counted : length old.marks ≡ half_of s devices) (e : Brought) (has : HasLeg s devices us u leg e (blocks_told now) (marks_of old.marks u)) (k : ℕ) → k < length s.ops
     → (new : Sides) (runs : List LegRun) (reply : Reply) (before after : RigState) → before.units ≡ Some now → OpBy s (half_of s devices) (k + 1) (op_at s.ops k) old new runs reply → OpRan (op_at s.ops k) (table_of s devices) devices runs before after
     → OpTells (op_at s.ops k) reply before after → fails_on_leg (place_on s devices leg u) runs ≡ false
-    → Next s devices us over u p leg now same old counted e has (k + 1) (op_at s.ops k) new reply after
-kept-op s devices us over u p leg now same old counted e has k more new runs reply before after told by ran tells fine =
-    op-next s devices us over u p leg now same old counted e has (k + 1) (op_at s.ops k) new runs reply before after (op-keeps s over.bound.keeps k more) (op-fits s devices k over.bound more) (p.right k more)
-    (λ c here. p.unnamed c k more here) told by ran tells fine
+    → Next s devices us over u leg p now same old counted e has (k + 1) (op_at s.ops k) new reply after
+kept-op s devices us over u leg p now same old counted e has k more new runs reply before after told by ran tells fine =
+    op-next s devices us over u leg p now same old counted e has (k + 1) (op_at s.ops k) new runs reply before after (op-keeps s over.bound.keeps k more) (op-fits s devices k over.bound more) (p.right k more)
+    (free-at s devices us over u leg p k more) (shown-at s devices us over u leg p k more) told by ran tells fine

@@ -62,6 +62,7 @@ module _ (m : Setting) (size : ℕ) (block : ℕ → Block) (blocks : List (List
   -- What comes of block j is the medium, where a request names it, or what comes of the stored block.
   pub record Comes (j : ℕ) (came : Result (List ℕ) Why) : Type 0 where
     pub either : Named j ⊎ (why_of came ≡ why_of (reading m (block j) blocks))
+    pub reads : (landing : List ℕ) → came ≡ Ok landing → why_of (reading m (block j) blocks) ≡ None
     pub lands : (frame landing : List ℕ) → came ≡ Ok landing → reading m (block j) blocks ≡ Ok frame → size ≤ length frame → landing ≡ take size frame
 
   -- one request
@@ -96,6 +97,7 @@ module _ (m : Setting) (size : ℕ) (block : ℕ → Block) (blocks : List (List
   pub base-comes : (j : ℕ) → Comes j (base j)
   base-comes j = record {
     either = inr (cut-why (reading m (block j) blocks));
+    reads = λ landing e. sym (cut-why (reading m (block j) blocks)) ∙ ap why_of e;
     lands = λ frame landing e f more. cut-lands (reading m (block j) blocks) frame landing e f;
   }
 
@@ -149,6 +151,9 @@ module _ (m : Setting) (size : ℕ) (block : ℕ → Block) (blocks : List (List
     came-fits : (j : ℕ) → a ≤ j → j < a + c → Comes j (came j)
     came-fits j l h = record {
       either = elim (each.either (j - a) inside) [ inl medium ↦ inl (subst Named there (named (j - a) inside medium)) | inr same ↦ inr (came-why j ∙ same ∙ ap (λ q. why_of (reading m (block q) blocks)) there) ];
+      reads = λ others e.
+          (let none : get_or found (j - a) None ≡ None = sym (came-why j) ∙ ap why_of e in
+          elim (each.either (j - a) inside) [ inl medium ↦ absurd (let z : None ≡ Some Medium = sym none ∙ medium in cc) | inr same ↦ sym (same ∙ ap (λ q. why_of (reading m (block q) blocks)) there) ∙ none ]);
       lands = λ frame others e f more. lands-by (get_or found (j - a) None) refl frame others e f more;
     } where
       inside : j - a < c

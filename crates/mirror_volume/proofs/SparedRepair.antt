@@ -62,7 +62,7 @@ none-flips (f ∷ faults) at label e h = by (is_line_of f at label) refl (none-f
 fails-parts : (v : ℕ) (r : LegRun) (runs : List LegRun) → fails_on_leg v (r ∷ runs) ≡ false → (names_medium v r.own.ops (replies_of r) ≡ false) × (fails_on_leg v runs ≡ false)
 fails-parts v r runs h = or_parts (names_medium v r.own.ops (replies_of r)) (fails_on_leg v runs) h
 
-module _ (s : Script) (devices : List DeviceInfo) (us : List Stored) (over : IsMirrorOver s devices us) (u : ℕ) (p : IsUnaltered s devices us u) (leg : Bool) (e : Brought) where
+module _ (s : Script) (devices : List DeviceInfo) (us : List Stored) (over : IsMirrorOver s devices us) (u : ℕ) (leg : Bool) (p : IsUnaltered s devices us u leg) (e : Brought) where
   abbrev m : Setting
   m = mirror_setting s devices us
 
@@ -306,7 +306,7 @@ module _ (s : Script) (devices : List DeviceInfo) (us : List Stored) (over : IsM
         let under : j < n = omega (arith, l, a, wanted0-long) in
         let sound : SoundAs m (v + j) e (get_or (blocks_told now) (home m (v + j)) []) =
         subst (λ (x : ℕ). SoundAs m x e (get_or (blocks_told now) (home m x) [])) (ap (λ (c : Bool). place_on s devices c u) on ∙ sym at) g.sound in
-        let comes = (free s devices us over u p (block0 j) (unnamed-zero (block0 j) refl)).comes e (blocks_told now) sound in
+        let comes = (free s devices us over u leg p (block0 j) (unnamed-zero (block0 j) refl)).comes e (blocks_told now) sound in
         let fine0 : fails_on_leg (v + j) by.looks0 ≡ false =
         subst (λ (x : ℕ). fails_on_leg x by.looks0 ≡ false) (ap (λ (c : Bool). place_on s devices c u) on ∙ sym at) (fails-first (place_on s devices leg u) by.looks0 (by.looks1 ++ by.mends) named-none) in
         let bit : get_or (fresh_on0 marks) j false ≡ true =
@@ -321,7 +321,7 @@ module _ (s : Script) (devices : List DeviceInfo) (us : List Stored) (over : IsM
         let place : place_on s devices leg u ≡ half + (v + j) = ap (λ (c : Bool). place_on s devices c u) on ∙ ap (λ (x : ℕ). half + x) (sym at) in
         let sound : SoundAs m (half + (v + j)) e (get_or (blocks_told now) (home m (half + (v + j))) []) =
         subst (λ (x : ℕ). SoundAs m x e (get_or (blocks_told now) (home m x) [])) place g.sound in
-        let comes = (free s devices us over u p (block1 j) (unnamed-zero (block1 j) refl)).comes e (blocks_told now) sound in
+        let comes = (free s devices us over u leg p (block1 j) (unnamed-zero (block1 j) refl)).comes e (blocks_told now) sound in
         let fine1 : fails_on_leg (half + (v + j)) by.looks1 ≡ false =
         subst (λ (x : ℕ). fails_on_leg x by.looks1 ≡ false) place (fails-first (place_on s devices leg u) by.looks1 by.mends (fails-last (place_on s devices leg u) by.looks0 (by.looks1 ++ by.mends) named-none)) in
         let bit : get_or (fresh_on1 marks) j false ≡ true =

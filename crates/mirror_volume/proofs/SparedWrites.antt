@@ -1,5 +1,5 @@
--- A block of a mirror that no fault line names, along writes where store calls may fail: it keeps a leg, and a fresh leg has what it was last written with.
-use Rattle.std.proofs.Common.{◌≡◌, ◌<◌, ◌≤◌, ◌⊎◌, inl, inr, ℕ, zero, suc, ◌+◌, ◌-◌, Bool, true, false, eqb, if◌then◌else◌, List, [], ◌∷◌, length, get_or, set, Option, Some, None, refl, sym, ap, subst, ◌∙◌, arith}
+-- A block of a mirror of which nothing alters a leg, along writes where store calls may fail: it keeps that leg, which has what it was last written with, and the other has it, is spoilt or is stale.
+use Rattle.std.proofs.Common.{◌≡◌, ◌<◌, ◌≤◌, ◌⊎◌, inl, inr, ℕ, zero, suc, ◌+◌, ◌-◌, Bool, true, false, eqb, not, if◌then◌else◌, List, [], ◌∷◌, length, get_or, set, Option, Some, None, refl, sym, ap, subst, ◌∙◌, arith}
 use Rattle.std.specs.Prelude.{Ok}
 use Rattle.std.proofs.lemmas.Bool.{eq-eqb, false≢true, ne_eqb}
 use Rattle.std.proofs.lemmas.List.{get_or-set_other, get_or-set_same, length-set}
@@ -17,7 +17,9 @@ use Rattle.mirror_laws.specs.OneGood.{on_leg}
 use Rattle.mirror_laws.specs.OnLegs.{listed_written, marks_written}
 use Rattle.mirror_laws.specs.Repair.{reading, writing}
 use Rattle.mirror_laws.specs.declared.marks.Marks.{Marks}
+use Rattle.block_path.proofs.Cells.{AllBelow}
 use Rattle.mirror_volume.proofs.Free.{IsWhole, SoundAs}
+use Rattle.mirror_volume.proofs.SparedShown.{StandsAs}
 
 -- ---- what is listed of a block
 
@@ -88,63 +90,106 @@ pub record IsFree (m : Setting) (size : ℕ) (b : Block) : Type 0 where
   pub stores : (e : Brought) → IsWhole size e → as_expected m e.app ≡ true → (stored : List ℕ) × ((writing m b e ≡ Ok stored) × SoundAs m b.virt e stored)
   pub comes : (e : Brought) (blocks : List (List ℕ)) → SoundAs m b.virt e (get_or blocks (home m b.virt) []) → (frame : List ℕ) × ((reading m b blocks ≡ Ok frame) × ((length frame ≡ size + 8) × (brought_by size frame ≡ e)))
 
--- Its good leg is fresh, and each fresh leg has what it was last written with.
-pub record Has (m : Setting) (size half u : ℕ) (leg : Bool) (e : Brought) (blocks : List (List ℕ)) (k : Marks) : Type 0 where
-  pub good : on_leg leg k.leg0 k.leg1 ≡ true
-  pub on0 : k.leg0 ≡ true → SoundAs m u e (get_or blocks (home m u) [])
-  pub on1 : k.leg1 ≡ true → SoundAs m (half + u) e (get_or blocks (home m (half + u)) [])
+-- A block whose alterations are shown, on a leg of which a line may have altered what is stored: what its write stores is right or spoilt, and of what is stored so a read delivers what is right alone.
+pub record IsShown (m : Setting) (size : ℕ) (altered : Type 0) (b : Block) : Type 0 where
+  pub stores : (e : Brought) → IsWhole size e → AllBelow 256 e.body → (stored : List ℕ) → writing m b e ≡ Ok stored → StandsAs m b.virt e altered stored
+  pub comes : (e : Brought) (blocks : List (List ℕ)) → StandsAs m b.virt e altered (get_or blocks (home m b.virt) []) → (frame : List ℕ) → reading m b blocks ≡ Ok frame → (length frame ≡ size + 8) × (brought_by size frame ≡ e)
 
--- what its good leg has
-pub its-sound : (m : Setting) (size half u : ℕ) (leg : Bool) (e : Brought) (blocks : List (List ℕ)) (k : Marks) → Has m size half u leg e blocks k → SoundAs m (on_leg leg u (half + u)) e (get_or blocks (home m (on_leg leg u (half + u))) [])
-its-sound m size half u false e blocks k h = h.on0 h.good
-its-sound m size half u true e blocks k h = h.on1 h.good
+-- Its good leg is fresh, and has what it was last written with; the other has it, is spoilt or is stale.
+pub record Has (m : Setting) (size half u : ℕ) (leg : Bool) (altered : Type 0) (e : Brought) (blocks : List (List ℕ)) (k : Marks) : Type 0 where
+  pub good : on_leg leg k.leg0 k.leg1 ≡ true
+  pub sound : SoundAs m (on_leg leg u (half + u)) e (get_or blocks (home m (on_leg leg u (half + u))) [])
+  pub other : on_leg (not leg) k.leg0 k.leg1 ≡ true → StandsAs m (on_leg (not leg) u (half + u)) e altered (get_or blocks (home m (on_leg (not leg) u (half + u))) [])
 
 -- What is stored of it stays.
-pub has-still : (m : Setting) (size half u : ℕ) (leg : Bool) (e : Brought) (old new : List (List ℕ)) (k : Marks) → get_or new (home m u) [] ≡ get_or old (home m u) [] → get_or new (home m (half + u)) [] ≡ get_or old (home m (half + u)) []
-    → Has m size half u leg e old k → Has m size half u leg e new k
-has-still m size half u leg e old new k first second h = record {
+pub has-still : (m : Setting) (size half u : ℕ) (leg : Bool) (altered : Type 0) (e : Brought) (old new : List (List ℕ)) (k : Marks)
+    → ((c : Bool) → get_or new (home m (on_leg c u (half + u))) [] ≡ get_or old (home m (on_leg c u (half + u))) []) → Has m size half u leg altered e old k → Has m size half u leg altered e new k
+has-still m size half u leg altered e old new k same h = record {
   good = h.good;
-  on0 = λ f. subst (SoundAs m u e) (sym first) (h.on0 f);
-  on1 = λ f. subst (SoundAs m (half + u) e) (sym second) (h.on1 f);
+  sound = subst (SoundAs m (on_leg leg u (half + u)) e) (sym (same leg)) h.sound;
+  other = λ f. subst (StandsAs m (on_leg (not leg) u (half + u)) e altered) (sym (same (not leg))) (h.other f);
 }
+
+-- What a fresh leg delivers of it is what it was last written with.
+pub delivers-it : (m : Setting) (size half u : ℕ) (leg : Bool) (altered : Type 0) (e : Brought) (blocks : List (List ℕ)) (k : Marks) (b : Bool → Block) → ((c : Bool) → (b c).virt ≡ on_leg c u (half + u))
+    → IsFree m size (b leg) → IsShown m size altered (b (not leg)) → Has m size half u leg altered e blocks k
+    → (c : Bool) → on_leg c k.leg0 k.leg1 ≡ true → (frame : List ℕ) → reading m (b c) blocks ≡ Ok frame → (length frame ≡ size + 8) × (brought_by size frame ≡ e)
+delivers-it m size half u leg altered e blocks k b places free shown h c fresh-there frame r = by leg c free shown h.sound h.other fresh-there r where
+  good : (d : Bool) → IsFree m size (b d) → SoundAs m (on_leg d u (half + u)) e (get_or blocks (home m (on_leg d u (half + u))) []) → reading m (b d) blocks ≡ Ok frame → (length frame ≡ size + 8) × (brought_by size frame ≡ e)
+  good d free sound q =
+      let x = free.comes e blocks (subst (λ (v : ℕ). SoundAs m v e (get_or blocks (home m v) [])) (sym (places d)) sound) in
+      let z : Ok x.0 ≡ Ok frame = sym x.1.0 ∙ q in
+      let same : x.0 ≡ frame = cc in
+      (ap length (sym same) ∙ x.1.1.0, ap (brought_by size) (sym same) ∙ x.1.1.1)
+
+  bad : (d : Bool) → IsShown m size altered (b d) → StandsAs m (on_leg d u (half + u)) e altered (get_or blocks (home m (on_leg d u (half + u))) []) → reading m (b d) blocks ≡ Ok frame → (length frame ≡ size + 8) × (brought_by size frame ≡ e)
+  bad d shown stands q = shown.comes e blocks (subst (λ (v : ℕ). StandsAs m v e altered (get_or blocks (home m v) [])) (sym (places d)) stands) frame q
+
+  by : (leg c : Bool) → IsFree m size (b leg) → IsShown m size altered (b (not leg)) → SoundAs m (on_leg leg u (half + u)) e (get_or blocks (home m (on_leg leg u (half + u))) [])
+      → (on_leg (not leg) k.leg0 k.leg1 ≡ true → StandsAs m (on_leg (not leg) u (half + u)) e altered (get_or blocks (home m (on_leg (not leg) u (half + u))) []))
+      → on_leg c k.leg0 k.leg1 ≡ true → reading m (b c) blocks ≡ Ok frame → (length frame ≡ size + 8) × (brought_by size frame ≡ e)
+  by false false free shown sound other f q = good false free sound q
+  by false true free shown sound other f q = bad true shown (other f) q
+  by true false free shown sound other f q = bad false shown (other f) q
+  by true true free shown sound other f q = good true free sound q
 
 -- What a write of it leaves on one leg, by what is found there.
 pub record LegWrote (m : Setting) (b : Block) (x : Brought) (new : List (List ℕ)) (found : Option Why) : Type 0 where
   pub stores : found ≡ None → (stored : List ℕ) × ((writing m b x ≡ Ok stored) × (get_or new (home m b.virt) [] ≡ stored))
   pub may : (stored : List ℕ) → writing m b x ≡ Ok stored → (found ≡ None) ⊎ (found ≡ Some Medium)
 
-module _ (m : Setting) (size half u : ℕ) (b0 b1 : Block) (x : Brought) (whole : IsWhole size x) (expected : as_expected m x.app ≡ true) (free0 : IsFree m size b0) (free1 : IsFree m size b1) where
-  stored-right : (b : Block) (free : IsFree m size b) (new : List (List ℕ)) (found : Option Why) → LegWrote m b x new found → found ≡ None → SoundAs m b.virt x (get_or new (home m b.virt) [])
-  stored-right b free new found w e =
+module _ (m : Setting) (size half u : ℕ) (leg : Bool) (altered : Type 0) (b : Bool → Block) (places : (c : Bool) → (b c).virt ≡ on_leg c u (half + u)) (x : Brought) (whole : IsWhole size x) (bytes : AllBelow 256 x.body) (expected : as_expected m x.app ≡ true)
+    (free : IsFree m size (b leg)) (shown : IsShown m size altered (b (not leg))) where
+  abbrev Wrote : (left : List (List ℕ)) → (w0 w1 : Option Why) → Bool → Type 0
+  Wrote left w0 w1 c = LegWrote m (b c) x left (on_leg c w0 w1)
+
+  stored-right : (left : List (List ℕ)) (w0 w1 : Option Why) → Wrote left w0 w1 leg → on_leg leg w0 w1 ≡ None → SoundAs m (on_leg leg u (half + u)) x (get_or left (home m (on_leg leg u (half + u))) [])
+  stored-right left w0 w1 w e =
       let a = w.stores e in
       let c = free.stores x whole expected in
       let q : Ok a.0 ≡ Ok c.0 = sym a.1.0 ∙ c.1.0 in
       let same : c.0 ≡ a.0 = cc in
-      subst (SoundAs m b.virt x) (same ∙ sym a.1.1) c.1.1
+      subst (λ (v : ℕ). SoundAs m v x (get_or left (home m v) [])) (places leg) (subst (SoundAs m (b leg).virt x) (same ∙ sym a.1.1) c.1.1)
 
-  accepts : (b : Block) (free : IsFree m size b) (new : List (List ℕ)) (found : Option Why) → LegWrote m b x new found → (found ≡ Some Medium → ⊥) → found ≡ None
-  accepts b free new found w off = let c = free.stores x whole expected in elim (w.may c.0 c.1.0) [ inl none ↦ none | inr medium ↦ absurd (off medium) ]
+  stored-so : (left : List (List ℕ)) (w0 w1 : Option Why) → Wrote left w0 w1 (not leg) → on_leg (not leg) w0 w1 ≡ None
+      → StandsAs m (on_leg (not leg) u (half + u)) x altered (get_or left (home m (on_leg (not leg) u (half + u))) [])
+  stored-so left w0 w1 w e =
+      let a = w.stores e in
+      subst (λ (v : ℕ). StandsAs m v x altered (get_or left (home m v) [])) (places (not leg)) (subst (StandsAs m (b (not leg)).virt x altered) (sym a.1.1) (shown.stores x whole bytes a.0 a.1.0))
 
-  pub record IsWrittenOn (leg : Bool) (left : List (List ℕ)) (w0 w1 : Option Why) (k : Marks) : Type 0 where
-    pub has : Has m size half u leg x left (marked w0 w1 k)
+  accepts : (left : List (List ℕ)) (w0 w1 : Option Why) → Wrote left w0 w1 leg → (on_leg leg w0 w1 ≡ Some Medium → ⊥) → on_leg leg w0 w1 ≡ None
+  accepts left w0 w1 w off = let c = free.stores x whole expected in elim (w.may c.0 c.1.0) [ inl none ↦ none | inr medium ↦ absurd (off medium) ]
+
+  pub record IsWrittenOn (left : List (List ℕ)) (w0 w1 : Option Why) (k : Marks) : Type 0 where
+    pub has : Has m size half u leg altered x left (marked w0 w1 k)
     pub unlisted : neither w0 w1 ≡ None
 
-  pub written-on : (leg : Bool) (left : List (List ℕ)) (w0 w1 : Option Why) (k : Marks) → b0.virt ≡ u → b1.virt ≡ half + u → LegWrote m b0 x left w0 → LegWrote m b1 x left w1
-      → (on_leg leg w0 w1 ≡ Some Medium → ⊥) → IsWrittenOn leg left w0 w1 k
-  written-on leg left w0 w1 k e0 e1 l0 l1 off = by leg w0 w1 off (at0 w0 l0) (at1 w1 l1) l0 l1 where
-    at0 : (w : Option Why) → LegWrote m b0 x left w → w ≡ None → SoundAs m u x (get_or left (home m u) [])
-    at0 w l e = subst (λ v. SoundAs m v x (get_or left (home m v) [])) e0 (stored-right b0 free0 left w l e)
+  pub written-on : (left : List (List ℕ)) (w0 w1 : Option Why) (k : Marks) → ((c : Bool) → LegWrote m (b c) x left (on_leg c w0 w1)) → (on_leg leg w0 w1 ≡ Some Medium → ⊥) → IsWrittenOn left w0 w1 k
+  written-on left w0 w1 k wrote off =
+      let none = accepts left w0 w1 (wrote leg) off in
+      record {
+        has = record {
+          good = (fresh-after leg w0 w1 none).0;
+          sound = stored-right left w0 w1 (wrote leg) none;
+          other = λ f. stored-so left w0 w1 (wrote (not leg)) (none-there leg w0 w1 none f);
+        };
+        unlisted = (fresh-after leg w0 w1 none).1;
+      }
+    where
+      -- what is accepted on a leg is fresh there, and isn't listed
+      fresh-after : (c : Bool) (w0 w1 : Option Why) → on_leg c w0 w1 ≡ None → (on_leg c (marked w0 w1 k).leg0 (marked w0 w1 k).leg1 ≡ true) × (neither w0 w1 ≡ None)
+      fresh-after false None None e = (refl, refl)
+      fresh-after false None (Some w) e = (refl, refl)
+      fresh-after false (Some w) w1 e = absurd cc
+      fresh-after true None None e = (refl, refl)
+      fresh-after true (Some w) None e = (refl, refl)
+      fresh-after true w0 (Some w) e = absurd cc
 
-    at1 : (w : Option Why) → LegWrote m b1 x left w → w ≡ None → SoundAs m (half + u) x (get_or left (home m (half + u)) [])
-    at1 w l e = subst (λ v. SoundAs m v x (get_or left (home m v) [])) e1 (stored-right b1 free1 left w l e)
-
-    by : (leg : Bool) (w0 w1 : Option Why) → (on_leg leg w0 w1 ≡ Some Medium → ⊥) → (w0 ≡ None → SoundAs m u x (get_or left (home m u) [])) → (w1 ≡ None → SoundAs m (half + u) x (get_or left (home m (half + u)) []))
-        → LegWrote m b0 x left w0 → LegWrote m b1 x left w1 → IsWrittenOn leg left w0 w1 k
-    by false None None off s0 s1 l0 l1 = record { has = record { good = refl; on0 = λ _. s0 refl; on1 = λ _. s1 refl }; unlisted = refl }
-    by true None None off s0 s1 l0 l1 = record { has = record { good = refl; on0 = λ _. s0 refl; on1 = λ _. s1 refl }; unlisted = refl }
-    by false None (Some w) off s0 s1 l0 l1 = record { has = record { good = refl; on0 = λ _. s0 refl; on1 = λ q. absurd (false≢true q) }; unlisted = refl }
-    by true None (Some w) off s0 s1 l0 l1 = absurd (let z = accepts b1 free1 left (Some w) l1 off in cc)
-    by false (Some w) None off s0 s1 l0 l1 = absurd (let z = accepts b0 free0 left (Some w) l0 off in cc)
-    by true (Some w) None off s0 s1 l0 l1 = record { has = record { good = refl; on0 = λ q. absurd (false≢true q); on1 = λ _. s1 refl }; unlisted = refl }
-    by false (Some w) (Some x) off s0 s1 l0 l1 = absurd (let z = accepts b0 free0 left (Some w) l0 off in cc)
-    by true (Some w) (Some x) off s0 s1 l0 l1 = absurd (let z = accepts b1 free1 left (Some x) l1 off in cc)
+      -- and the other leg is fresh only where it accepted it too
+      none-there : (c : Bool) (w0 w1 : Option Why) → on_leg c w0 w1 ≡ None → on_leg (not c) (marked w0 w1 k).leg0 (marked w0 w1 k).leg1 ≡ true → on_leg (not c) w0 w1 ≡ None
+      none-there false None None e f = refl
+      none-there false None (Some w) e f = absurd (false≢true f)
+      none-there false (Some w) w1 e f = absurd cc
+      none-there true None None e f = refl
+      none-there true (Some w) None e f = absurd (false≢true f)
+      none-there true w0 (Some w) e f = absurd cc

@@ -1,6 +1,6 @@
--- A block that nothing alters, over a write of a mirror where store calls may fail.
-use Rattle.std.proofs.Common.{◌≡◌, ◌<◌, ◌≤◌, ◌^◌, ℕ, ◌+◌, ◌-◌, ◌*◌, Bool, true, false, eqb, ◌&&◌, is_none, if◌then◌else◌, List, [], ◌∷◌, length, get_or, set, take, drop, Option, Some, None, refl, sym, ap, subst, ◌∙◌, arith}
-use Rattle.std.specs.Prelude.{nat_le, nat_lt}
+-- A block of which nothing alters a leg, over a write of a mirror where store calls may fail.
+use Rattle.std.proofs.Common.{◌≡◌, ◌<◌, ◌≤◌, ◌^◌, ℕ, ◌+◌, ◌-◌, ◌*◌, Bool, true, false, eqb, not, ◌&&◌, is_none, if◌then◌else◌, List, [], ◌∷◌, length, get_or, set, take, drop, Option, Some, None, refl, sym, ap, subst, ◌∙◌, arith}
+use Rattle.std.specs.Prelude.{All, nat_le, nat_lt}
 use Rattle.std.proofs.lemmas.Bool.{and_from, and_parts, false≢true, leb-true, le-leb, lt-ltb, ltb-true}
 use Rattle.std.proofs.lemmas.List.{length-map, length-set}
 use Rattle.page_pool.specs.declared.segs.Seg.{Seg}
@@ -8,6 +8,8 @@ use Rattle.page_pool.specs.Pages.{byte_at, bytes_in}
 use Rattle.page_pool.specs.Places.{range_of, total}
 use Rattle.page_pool.proofs.Placing.{length-places_in}
 use Rattle.page_pool.proofs.Spreads.{range-all}
+use Rattle.block_path.proofs.Cells.{AllBelow, below as all_below}
+use Rattle.run_laws.proofs.Passed.{below_drop, below_take}
 use Rattle.bio_core.specs.declared.fate.Why.{Why}
 use Rattle.bio_core.specs.declared.fate.Why.TheVariants.{Medium}
 use Rattle.rig_api.specs.Target.{Stored}
@@ -27,7 +29,7 @@ use Rattle.walk_laws.specs.UnderMap.{home}
 use Rattle.script_text.specs.declared.script.Script.{Script}
 use Rattle.script_stack.specs.Followed.{HasFallen, none_fails, setting_of}
 use Rattle.mirror_laws.specs.Mirror.{marked, marks_of}
-use Rattle.mirror_laws.specs.OneGood.{IsUnnamed, on_leg}
+use Rattle.mirror_laws.specs.OneGood.{on_leg}
 use Rattle.mirror_laws.specs.OnLegs.{listed_written, marks_written}
 use Rattle.mirror_laws.specs.declared.marks.Marks.{Marks}
 use Rattle.mirror_volume.specs.LegsPassed.{table_of}
@@ -42,10 +44,10 @@ use Rattle.mirror_volume.proofs.FellLegs.{Says, WroteEach}
 use Rattle.mirror_volume.proofs.FellWrite.{FellWrite, fell-write}
 use Rattle.mirror_volume.proofs.Free.{IsWhole}
 use Rattle.mirror_volume.proofs.Requests.{IsRequest, whole-piece}
-use Rattle.mirror_volume.proofs.SparedGround.{free, home-inside, homes-apart, is-mirror}
+use Rattle.mirror_volume.proofs.SparedGround.{Altered, HasLeg, home-inside, homes-apart, is-mirror}
 use Rattle.mirror_volume.proofs.SparedNames.{lists-it, names-it, one-fails, rest-fails}
 use Rattle.mirror_volume.proofs.SparedReads.{slice-long}
-use Rattle.mirror_volume.proofs.SparedWrites.{Has, IsWrittenOn, LegWrote, has-still, listed-at, marks-in, marks-out, written-at, written-on}
+use Rattle.mirror_volume.proofs.SparedWrites.{IsFree, IsShown, IsWrittenOn, LegWrote, has-still, listed-at, marks-in, marks-out, written-at, written-on}
 
 pub marks-kept : (v : ℕ) (whys others : List (Option Why)) (marks : List Marks) → length (marks_written v whys others marks) ≡ length marks
 marks-kept v [] others marks = refl
@@ -64,15 +66,16 @@ request-has v n u j l e = and_from (nat_le v u) (nat_lt u (v + n)) (le-leb v u (
 pub record Kept (s : Script) (devices : List DeviceInfo) (us : List Stored) (u : ℕ) (leg : Bool) (old new : Sides) (left : List Stored) (op : Op) (reply : Reply) (e : Brought) : Type 0 where
   pub shapes : shapes_of left ≡ shapes_of us
   pub counted : length new.marks ≡ half_of s devices
-  pub has : Has (mirror_setting s devices us) s.block (half_of s devices) u leg (written_then s.block u op old.pool reply e) (blocks_told left) (marks_of new.marks u)
+  pub has : HasLeg s devices us u leg (written_then s.block u op old.pool reply e) (blocks_told left) (marks_of new.marks u)
   pub reads : ReadsRight s.block u op old new reply e
 
-module _ (s : Script) (devices : List DeviceInfo) (us : List Stored) (over : IsMirrorOver s devices us) (u : ℕ) (p : IsUnaltered s devices us u) (leg : Bool)
+module _ (s : Script) (devices : List DeviceInfo) (us : List Stored) (over : IsMirrorOver s devices us) (u : ℕ) (leg : Bool) (p : IsUnaltered s devices us u leg)
     (now : List Stored) (same : shapes_of now ≡ shapes_of us) (old : Sides) (counted : length old.marks ≡ half_of s devices) (e : Brought)
-    (has : Has (mirror_setting s devices us) s.block (half_of s devices) u leg e (blocks_told now) (marks_of old.marks u))
+    (has : HasLeg s devices us u leg e (blocks_told now) (marks_of old.marks u))
     (i v n : ℕ) (body : List Seg) (app : ℕ) (req : IsRequest s (half_of s devices) v n body) (below : app < 2 ^ 16)
     (right : has_block v n u ≡ true → (as_expected (mirror_setting s devices us) app ≡ true) × (eqb app 0xFFFF ≡ false))
-    (unnamed : (leg : Bool) → has_block v n u ≡ true → IsUnnamed (mirror_setting s devices us) (named_on s devices leg u (Write v n body app) i)) where
+    (free : has_block v n u ≡ true → IsFree (mirror_setting s devices us) s.block (named_on s devices leg u (Write v n body app) i))
+    (shown : has_block v n u ≡ true → IsShown (mirror_setting s devices us) s.block (Altered s devices us u leg) (named_on s devices (not leg) u (Write v n body app) i)) where
   abbrev m : Setting
   m = mirror_setting s devices us
 
@@ -177,7 +180,7 @@ module _ (s : Script) (devices : List DeviceInfo) (us : List Stored) (over : IsM
   -- ---- both legs
 
   module _ (r0 r1 : LegRun) (mid left : List Stored) (own0 : r0.own ≡ write_script s half p0 app bytes) (own1 : r1.own ≡ write_script s half p1 app bytes)
-      (l0 : Leg p0 block0 now mid r0) (l1 : Leg p1 block1 mid left r1) (fine : fails_on_leg (place_on s devices leg u) (r0 ∷ r1 ∷ []) ≡ false) (new : Sides)
+      (l0 : Leg p0 block0 now mid r0) (l1 : Leg p1 block1 mid left r1) (are-bytes : All (λ x. x < 256) bytes) (fine : fails_on_leg (place_on s devices leg u) (r0 ∷ r1 ∷ []) ≡ false) (new : Sides)
       (moved : new.marks ≡ marks_written v (found_by n (replies_of r0)) (found_by n (replies_of r1)) old.marks) (reply : Reply)
       (replied : reply ≡ whole_or_bad (bad_from 0 (listed_written (found_by n (replies_of r0)) (found_by n (replies_of r1))))) where
     abbrev found0 : List (Option Why)
@@ -245,13 +248,18 @@ module _ (s : Script) (devices : List DeviceInfo) (us : List Stored) (over : IsM
           let fails : fails_on_leg (half + u) (r0 ∷ r1 ∷ []) ≡ true = rest-fails (half + u) r0 (r1 ∷ []) (one-fails (half + u) r1 [] (leg-names p1 r1 (half + u) j refl own1 l1.says q place)) in
           false≢true (sym (subst (λ (c : Bool). fails_on_leg (place_on s devices c u) (r0 ∷ r1 ∷ []) ≡ false) g fine) ∙ fails)
 
-      written : IsWrittenOn m size half u (named_on s devices false u (Write v n body app) i) (named_on s devices true u (Write v n body app) i) (brought j) whole (right here).0
-          (free s devices us over u p (named_on s devices false u (Write v n body app) i) (unnamed false here)) (free s devices us over u p (named_on s devices true u (Write v n body app) i) (unnamed true here))
-          leg (blocks_told left) (get_or found0 j None) (get_or found1 j None) (marks_of old.marks u)
+      wrote : (c : Bool) → LegWrote m (named_on s devices c u (Write v n body app) i) (brought j) (blocks_told left) (on_leg c (get_or found0 j None) (get_or found1 j None))
+      wrote false = wrote0
+      wrote true = wrote1
+
+      octets : AllBelow 256 (take size (drop (j * size) bytes))
+      octets = below_take 256 size (drop (j * size) bytes) (below_drop 256 (j * size) bytes (all_below 256 bytes are-bytes))
+
+      written : IsWrittenOn m size half u leg (Altered s devices us u leg) (λ c. named_on s devices c u (Write v n body app) i) (λ c. refl) (brought j) whole octets (right here).0 (free here) (shown here)
+          (blocks_told left) (get_or found0 j None) (get_or found1 j None) (marks_of old.marks u)
       written =
-          written-on m size half u (named_on s devices false u (Write v n body app) i) (named_on s devices true u (Write v n body app) i) (brought j) whole (right here).0
-          (free s devices us over u p (named_on s devices false u (Write v n body app) i) (unnamed false here)) (free s devices us over u p (named_on s devices true u (Write v n body app) i) (unnamed true here))
-          leg (blocks_told left) (get_or found0 j None) (get_or found1 j None) (marks_of old.marks u) refl refl wrote0 wrote1 (off leg refl)
+          written-on m size half u leg (Altered s devices us u leg) (λ c. named_on s devices c u (Write v n body app) i) (λ c. refl) (brought j) whole octets (right here).0 (free here) (shown here)
+          (blocks_told left) (get_or found0 j None) (get_or found1 j None) (marks_of old.marks u) wrote (off leg refl)
 
       its-mark : marks_of new.marks u ≡ marked (get_or found0 j None) (get_or found1 j None) (marks_of old.marks u)
       its-mark =
@@ -270,10 +278,10 @@ module _ (s : Script) (devices : List DeviceInfo) (us : List Stored) (over : IsM
       last-is =
           (λ x. if here x && is_none (unlisted x) then brought j else e)
 
-      in-it : Has m size half u leg (written_then size u (Write v n body app) old.pool reply e) (blocks_told left) (marks_of new.marks u)
+      in-it : HasLeg s devices us u leg (written_then size u (Write v n body app) old.pool reply e) (blocks_told left) (marks_of new.marks u)
       in-it =
-          subst (λ (x : Brought). Has m size half u leg x (blocks_told left) (marks_of new.marks u)) (sym last-is)
-          (subst (λ (k : Marks). Has m size half u leg (brought j) (blocks_told left) k) (sym its-mark) written.has)
+          subst (λ (x : Brought). HasLeg s devices us u leg x (blocks_told left) (marks_of new.marks u)) (sym last-is)
+          (subst (λ (k : Marks). HasLeg s devices us u leg (brought j) (blocks_told left) k) (sym its-mark) written.has)
 
     -- ---- where it hasn't
 
@@ -302,18 +310,22 @@ module _ (s : Script) (devices : List DeviceInfo) (us : List Stored) (over : IsM
           let inside = req.inside in
           stays (half + u) (omega (arith, below-half)) (λ a l q. omega (arith, q, l, inside)) (λ a l q. not-here a l (omega (arith, q)))
 
+      both-stay : (c : Bool) → get_or (blocks_told left) (home m (on_leg c u (half + u))) [] ≡ get_or (blocks_told now) (home m (on_leg c u (half + u))) []
+      both-stay false = on-first
+      both-stay true = on-second
+
       as-before : written_then size u (Write v n body app) old.pool reply e ≡ e
       as-before =
           (λ x. if gone x && is_none (listed_in reply (u - v)) then record { body = take size (drop ((u - v) * size) bytes); app = app } else e)
 
-      out-of-it : Has m size half u leg (written_then size u (Write v n body app) old.pool reply e) (blocks_told left) (marks_of new.marks u)
+      out-of-it : HasLeg s devices us u leg (written_then size u (Write v n body app) old.pool reply e) (blocks_told left) (marks_of new.marks u)
       out-of-it =
-          subst (λ (x : Brought). Has m size half u leg x (blocks_told left) (marks_of new.marks u)) (sym as-before)
-          (subst (λ (k : Marks). Has m size half u leg e (blocks_told left) k) (sym out-mark) (has-still m size half u leg e (blocks_told now) (blocks_told left) (marks_of old.marks u) on-first on-second has))
+          subst (λ (x : Brought). HasLeg s devices us u leg x (blocks_told left) (marks_of new.marks u)) (sym as-before)
+          (subst (λ (k : Marks). HasLeg s devices us u leg e (blocks_told left) k) (sym out-mark) (has-still m size half u leg (Altered s devices us u leg) e (blocks_told now) (blocks_told left) (marks_of old.marks u) both-stay has))
 
-    pub after-both : Has m size half u leg (written_then size u (Write v n body app) old.pool reply e) (blocks_told left) (marks_of new.marks u)
+    pub after-both : HasLeg s devices us u leg (written_then size u (Write v n body app) old.pool reply e) (blocks_told left) (marks_of new.marks u)
     after-both = by (has_block v n u) refl where
-      by : (c : Bool) → has_block v n u ≡ c → Has m size half u leg (written_then size u (Write v n body app) old.pool reply e) (blocks_told left) (marks_of new.marks u)
+      by : (c : Bool) → has_block v n u ≡ c → HasLeg s devices us u leg (written_then size u (Write v n body app) old.pool reply e) (blocks_told left) (marks_of new.marks u)
       by true q = in-it q
       by false q = out-of-it q
 
@@ -330,7 +342,7 @@ module _ (s : Script) (devices : List DeviceInfo) (us : List Stored) (over : IsM
       let none = subst (λ (rs : List LegRun). fails_on_leg (place_on s devices leg u) rs ≡ false) w.runs_are fine in
       record {
         shapes = last.shapes;
-        counted = long-marks w.on0 w.on1 mid left w.own0 w.own1 l0 last none new w.marks reply w.reply_is;
-        has = after-both w.on0 w.on1 mid left w.own0 w.own1 l0 last none new w.marks reply w.reply_is;
+        counted = long-marks w.on0 w.on1 mid left w.own0 w.own1 l0 last w.octets none new w.marks reply w.reply_is;
+        has = after-both w.on0 w.on1 mid left w.own0 w.own1 l0 last w.octets none new w.marks reply w.reply_is;
         reads = tt;
       }

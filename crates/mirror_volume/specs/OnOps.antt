@@ -1,4 +1,4 @@
-use Rattle.std.specs.Prelude.{ℕ, ◌≡◌, ◌≤◌, ◌⊎◌, Bool, true, false, List, [], ◌∷◌, ◌++◌, drop, replicate, take, Option, Some, is_some}
+use Rattle.std.specs.Prelude.{ℕ, ◌≡◌, ◌≤◌, ◌⊎◌, ◌<◌, Bool, true, false, List, All, [], ◌∷◌, ◌++◌, drop, replicate, take, Option, Some, is_some}
 use Rattle.bio_core.specs.declared.fate.Why.{Why}
 use Rattle.page_pool.specs.declared.segs.Seg.{Seg}
 use Rattle.page_pool.specs.Pages.{Wrote, bytes_in, part}
@@ -14,7 +14,7 @@ use Rattle.mirror_laws.specs.declared.marks.Marks.{Marks}
 use Rattle.mirror_laws.specs.OnLegs.{listed_written, marks_written}
 use Rattle.mirror_volume.specs.declared.piece.Piece.{Piece}
 use Rattle.mirror_volume.specs.Inner.{write_script}
-use Rattle.dix_base.specs.Told.{Calm, Rose}
+use Rattle.dix_base.specs.Told.{Rose}
 use Rattle.rig_api.specs.declared.change.Change.{Change}
 use Rattle.rig_api.specs.Telling.{block_at, changed, with_block}
 use Rattle.rig_api.specs.State.{RigState}
@@ -25,14 +25,13 @@ use Rattle.mirror_volume.specs.LegsPassed.{table_of}
 use Rattle.mirror_volume.specs.LegRuns.{AllOwn, AllWalked, GoOn, LegRun, RanLegs, found_by, replies_of}
 use Rattle.mirror_volume.specs.Asked.{IsReadOf, ReadBy}
 
--- One stored block is changed, where the rig tells its blocks and its count of faults doesn't rise.
-pub record Altered (dev lba : ℕ) (change : Change) (runs : List LegRun) (before after : RigState) : Type 0 where
+-- No leg is asked, nothing is put on record, the armed faults stay, and the count of faults doesn't fall.
+pub record AsksNoLeg (runs : List LegRun) (before after : RigState) : Type 0 where
   pub none : runs ≡ []
   pub standing : after.standing ≡ before.standing
   pub faults : before.faults ≤ after.faults
   pub records : after.log ≡ before.log
   pub armed : after.armed ≡ before.armed
-  pub told : (us : List Stored) → before.units ≡ Some us → Calm before.faults after.faults → after.units ≡ Some (with_block us dev lba (changed us change (block_at us dev lba)))
 
 -- What an op of a mirror's script does, by its runs on the legs: over any rig, whatever these replied.
 
@@ -50,8 +49,9 @@ pub record IsWriteOf (s : Script) (half op v n app : ℕ) (bytes : List ℕ) (ow
   pub on1 : Bool
   pub own_is : own ≡ write_script s half (record (whole_request op v n) { on1 = on1 }) app bytes
 
--- A write of these data: one run on leg 0, then one on leg 1.
+-- A write of these data, which are bytes: one run on leg 0, then one on leg 1.
 pub record WroteBy (s : Script) (half op v n app : ℕ) (bytes : List ℕ) (old new : List Marks) (runs : List LegRun) (reply : Reply) : Type 0 where
+  pub octets : All (λ x. x < 256) bytes
   pub on0 : LegRun
   pub on1 : LegRun
   pub runs_are : runs ≡ on0 ∷ on1 ∷ []
@@ -128,7 +128,7 @@ OpTells (FetchPi v n body tuples) reply before after = Unit {0}
 OpTells (Overwrite dev lba change) reply before after = OverwriteTells dev lba change reply before after
 OpTells Wait reply before after = Unit {0}
 
--- What an op leaves at the rig: that of its runs. An overwrite has none, and alters one stored block.
+-- What an op leaves at the rig: that of its runs. An overwrite has none; what it alters is said by `OpTells`.
 abbrev pub OpRan : Op → Table → List DeviceInfo → List LegRun → (before after : RigState) → Type 0
 OpRan (Fill seg byte) t devices runs before after = RanLegs t devices runs before after
 OpRan (Put page off bytes) t devices runs before after = RanLegs t devices runs before after
@@ -138,7 +138,7 @@ OpRan (Write v n body app) t devices runs before after = RanLegs t devices runs 
 OpRan (Fetch v n body) t devices runs before after = RanLegs t devices runs before after
 OpRan (WritePi v n body tuples) t devices runs before after = RanLegs t devices runs before after
 OpRan (FetchPi v n body tuples) t devices runs before after = RanLegs t devices runs before after
-OpRan (Overwrite dev lba change) t devices runs before after = Altered dev lba change runs before after
+OpRan (Overwrite dev lba change) t devices runs before after = AsksNoLeg runs before after
 OpRan Wait t devices runs before after = RanLegs t devices runs before after
 
 -- What an op leaves at the target: what its runs leave. An overwrite has none; it changes its stored block, and doesn't fail.

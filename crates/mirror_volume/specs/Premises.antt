@@ -17,7 +17,7 @@ use Rattle.mirror_form_laws.specs.Forms.{leaves_a_leg, shows_on_legs}
 use Rattle.mirror_volume.specs.Standing.{half_of, mirror_setting}
 use Rattle.mirror_volume.specs.Enough.{opening_over}
 
--- What is stored is bytes; so is all that a rig tells.
+-- What is stored is bytes. The laws on forms of faults are of any blocks, and need it said; of what a rig tells its contract says it, so no clause of a call asks for it.
 abbrev pub HoldsBytes : List Stored → Type 0
 HoldsBytes us = All (All (λ x. x < 256)) (blocks_told us)
 

@@ -1,7 +1,9 @@
--- A block of a mirror that nothing alters, with a leg on which no request fails for it at the medium: what is asked of it, and what is said of it.
-use Rattle.std.specs.Prelude.{ℕ, ◌≡◌, ◌+◌, ◌-◌, ◌*◌, ◌<◌, Bool, true, false, eqb, is_none, nat_le, nat_lt, ◌&&◌, ◌||◌, if◌then◌else◌, List, [], ◌∷◌, drop, get_or, length, take, None}
+-- A block of a mirror with a leg on which nothing alters it and no request fails for it at the medium: what is asked of it, and what is said of it.
+use Rattle.std.specs.Prelude.{ℕ, ◌≡◌, ◌+◌, ◌-◌, ◌*◌, ◌<◌, Bool, true, false, eqb, is_none, nat_le, nat_lt, not, ◌&&◌, ◌||◌, if◌then◌else◌, List, [], ◌∷◌, drop, get_or, length, take, None}
 use Rattle.std.specs.List.{list_any}
 use Rattle.pi_tuple.specs.declared.checks.PiType.TheVariants.{One}
+use Rattle.fault_schedule.specs.declared.fault.Crossing.{Crossing}
+use Rattle.fault_schedule.specs.declared.fault.Crossing.TheVariants.{MediumToTarget, TargetToMedium}
 use Rattle.page_pool.specs.declared.segs.Seg.{Seg}
 use Rattle.page_pool.specs.Pages.{Wrote, bytes_in}
 use Rattle.page_pool.specs.Places.{range_of, total}
@@ -16,14 +18,16 @@ use Rattle.stack_ops.specs.declared.reply.Reply.{Reply}
 use Rattle.stack_ops.specs.declared.reply.Reply.TheVariants.{Bad, Medium, Shown, Silent, Whole}
 use Rattle.volume_table.specs.declared.device.DeviceInfo.{DeviceInfo}
 use Rattle.volume_table.specs.Places.{place_in}
+use Rattle.walk_laws.specs.FirstLayer.{has_flip}
 use Rattle.walk_laws.specs.Past.{Brought, brought_by}
 use Rattle.walk_laws.specs.PlainMap.{as_expected}
 use Rattle.walk_laws.specs.ReadsAs.{listed_in}
 use Rattle.walk_laws.specs.Settings.{Block}
 use Rattle.walk_laws.specs.UnderMap.{IsClean, address_of, home}
 use Rattle.script_text.specs.declared.script.Script.{Script}
+use Rattle.run_premises.specs.Forms.{is_shown, kind_at, mask_of}
 use Rattle.mirror_laws.specs.Mirror.{blocks_in}
-use Rattle.mirror_laws.specs.OneGood.{HoldsProper, IsUnnamed, on_leg}
+use Rattle.mirror_laws.specs.OneGood.{HoldsProper, on_leg}
 use Rattle.mirror_volume.specs.LegsPassed.{table_of}
 use Rattle.mirror_volume.specs.LegRuns.{LegRun, replies_of}
 use Rattle.mirror_volume.specs.OnOps.{Sides}
@@ -49,7 +53,7 @@ names_medium v (op ∷ ops) (reply ∷ replies) = lists_medium (first_virt op) v
 abbrev pub fails_on_leg : (v : ℕ) → List LegRun → Bool
 fails_on_leg v runs = list_any (λ (r : LegRun). names_medium v r.own.ops (replies_of r)) runs
 
--- ---- a block that nothing alters
+-- ---- a block that nothing alters on a leg
 
 -- the virtual block at which block u stands on a leg
 abbrev pub place_on : Script → List DeviceInfo → (leg : Bool) → (u : ℕ) → ℕ
@@ -81,15 +85,27 @@ LeavesRight s devices us u (Overwrite dev lba change) =
     (leg : Bool) → dev ≡ (place_in (table_of s devices).entries (place_on s devices leg u)).0 → lba ≡ (place_in (table_of s devices).entries (place_on s devices leg u)).1 → ⊥
 LeavesRight s devices us u Wait = Unit {0}
 
--- The volume is of type 1, and commands have protect field 001b.
--- Block u is clean on both legs, with the same data and application tag. No fault line alters it on its way to or from either, no op overwrites it there, and each write of it has the expected application tag, which is no escape.
-pub record IsUnaltered (s : Script) (devices : List DeviceInfo) (us : List Stored) (u : ℕ) : Type 0 where
+-- Op k, from 0, is a request of block u, and a fault line alters the block at this crossing on this leg.
+pub record IsAltered (s : Script) (devices : List DeviceInfo) (us : List Stored) (leg : Bool) (u k : ℕ) (at : Crossing) : Type 0 where
+  pub under : k < length s.ops
+  pub here : has_block (first_virt (op_at s.ops k)) (blocks_in (op_at s.ops k)) u ≡ true
+  pub flips : has_flip (mirror_setting s devices us) (named_on s devices leg u (op_at s.ops k) (k + 1)) at ≡ true
+
+-- All lines that name this block of a request at this crossing are shown together: they leave its tags, and its guard shows the rest.
+abbrev pub IsShownAt : Script → (at : Crossing) → Block → Type 0
+IsShownAt s at b = is_shown s.block (kind_at s.mode.kind at) (mask_of s.block s.faults at (record { op = b.op; k = b.k })) ≡ true
+
+-- The volume is of type 1, and commands have protect field 001b. Block u is clean on both legs, with the same data and application tag. No op overwrites it there, and each write of it has the expected application tag, which is no escape.
+-- No fault line alters it on this leg. On the other its lines are shown wherever they alter it, and none alters it on its way from the medium if one does on its way there.
+pub record IsUnaltered (s : Script) (devices : List DeviceInfo) (us : List Stored) (u : ℕ) (leg : Bool) : Type 0 where
   pub ty : (table_of s devices).ty ≡ One
   pub protect : s.mode.protect ≡ 1
   pub inside : u < half_of s devices
   pub clean : (leg : Bool) → IsClean (mirror_setting s devices us) (address_of (mirror_setting s devices us) (place_on s devices leg u)) (stored_on s devices us us leg u)
   pub equal : brought_by s.block (stored_on s devices us us true u) ≡ brought_by s.block (stored_on s devices us us false u)
-  pub unnamed : (leg : Bool) (k : ℕ) → k < length s.ops → has_block (first_virt (op_at s.ops k)) (blocks_in (op_at s.ops k)) u ≡ true → IsUnnamed (mirror_setting s devices us) (named_on s devices leg u (op_at s.ops k) (k + 1))
+  pub unnamed : (k : ℕ) (at : Crossing) → IsAltered s devices us leg u k at → ⊥
+  pub shown : (k : ℕ) (at : Crossing) → IsAltered s devices us (not leg) u k at → IsShownAt s at (named_on s devices (not leg) u (op_at s.ops k) (k + 1))
+  pub apart : (j k : ℕ) → IsAltered s devices us (not leg) u j TargetToMedium → IsAltered s devices us (not leg) u k MediumToTarget → ⊥
   pub right : (k : ℕ) → k < length s.ops → LeavesRight s devices us u (op_at s.ops k)
 
 -- ---- what is said of it

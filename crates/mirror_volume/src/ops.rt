@@ -4,7 +4,7 @@ ghost use Rattle.std.specs.Prelude.{◌≡◌, ◌<◌, ◌+◌, ◌⊎◌, [], 
 ghost use Rattle.stack_ops.specs.declared.op.Op.TheVariants.{Fetch, Write};
 ghost use Rattle.stack_ops.specs.declared.reply.Reply.TheVariants.{Medium, Silent};
 ghost use Rattle.stack_core.specs.Doing.{HasChangedBlocks};
-ghost use Rattle.mirror_volume.specs.OnOps.{Altered, DidOp, OverwriteTells, RanOp};
+ghost use Rattle.mirror_volume.specs.OnOps.{AsksNoLeg, DidOp, OverwriteTells, RanOp};
 ghost use Rattle.mirror_volume.specs.Plans.{IsRequestOf, both_of};
 ghost use Rattle.mirror_volume.specs.Running.{CanRun};
 ghost use Rattle.mirror_volume.specs.Standing.{op_at};
@@ -81,7 +81,7 @@ fn fetch_blocks<R: Rig>(
 fn overwrite<R: Rig>(dev: u32, lba: u64, change: &Change, rig: &mut R) -> Reply
     requires { HasChangedBlocks (is_some (R.state rig.old).image) (R.state rig.old).standing dev lba change.now }
     ensures reply { (result ≡ Silent) ⊎ (result ≡ Medium) }
-    ensures altered { Altered dev lba change.now [] (R.state rig.old) (R.state rig.new) }
+    ensures asked { AsksNoLeg [] (R.state rig.old) (R.state rig.new) }
     ensures made { OverwriteTells dev lba change.now result (R.state rig.old) (R.state rig.new) }
     ensures tells { is_some (R.state rig.new).image ≡ is_some (R.state rig.old).image }
     ensures standing { (R.state rig.new).standing ≡ (R.state rig.old).standing }

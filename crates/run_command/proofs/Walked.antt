@@ -72,7 +72,7 @@ goes_from s told ready end spare same goes =
 pub went_from : (s : Script) (begun r : Stack) (told ready end : RigState) (spare : Room) → ready ≡ record told { room = spare; armed = s.faults } → Went begun ready r end → Went begun (armed_for s told) r end
 went_from s begun r told ready end spare same went =
     let w : Went begun (record told { room = spare; armed = s.faults }) r end = subst (λ (v : RigState). Went begun v r end) same went in
-    record { walks = w.walks; told = w.told; falling = w.falling; silent = w.silent; faults = w.faults; counts = w.counts; sheet = w.sheet; answered = λ m n opening first k none us units armed calm. answers_armed us (w.answered m n opening first k none us units armed calm) }
+    record { walks = w.walks; falling = w.falling; faults = w.faults; counts = w.counts; sheet = w.sheet; answered = λ m n opening first k none us units armed calm. answers_armed us (w.answered m n opening first k none us units armed calm) }
   where
     answers_armed : (us : List Stored) → Answers us (record told { room = spare; armed = s.faults }) end × (end.standing ≡ told.standing) × (end.armed ≡ s.faults) → Answers us (armed_for s told) end × (end.standing ≡ told.standing) × (end.armed ≡ s.faults)
     answers_armed us x = let a = x.0 in (record { records = a.records; log = a.log; left = a.left; answered = a.answered; units = a.units }, x.1, x.2)

@@ -5,6 +5,7 @@ pub mod FormRows
 pub mod Frames
 pub mod Lines
 pub mod Near
+pub mod OneWay
 pub mod Passed
 pub mod Runs
 pub mod Shown

@@ -1,5 +1,5 @@
 -- Along steps whose faults have a form, whatever names their blocks: what stands in the pages and on the volume, and that each fault is shown.
-use Rattle.std.proofs.Common.{◌≡◌, ◌<◌, ℕ, zero, suc, ◌+◌, ◌-◌, ◌%◌, ◌^◌, Bool, true, false, eqb, ◌||◌, not, if◌then◌else◌, List, [], ◌∷◌, ◌++◌, length, take, drop, get_or, set, refl, sym, ap, subst, ◌∙◌, arith, length-append}
+use Rattle.std.proofs.Common.{◌≡◌, ◌<◌, ℕ, zero, suc, ◌+◌, ◌%◌, ◌^◌, Bool, true, false, eqb, ◌||◌, not, if◌then◌else◌, List, [], ◌∷◌, ◌++◌, length, take, drop, get_or, set, refl, sym, ap, subst, ◌∙◌, arith}
 use Rattle.std.specs.Prelude.{All, pos, nat_abs}
 use Rattle.std.specs.Int.{w32, from_be_bytes, to_be_bytes}
 use Rattle.std.specs.List.{list_all}
@@ -8,12 +8,8 @@ use Rattle.std.proofs.lemmas.List.{length-set}
 use Rattle.pi_guard.specs.Guards.{guard_of}
 use Rattle.pi_guard.specs.declared.GuardKind.{GuardKind}
 use Rattle.pi_guard.specs.declared.GuardKind.TheVariants.{Crc}
-use Rattle.pi_guard.proofs.GuardSizes.{guard_below}
-use Rattle.pi_tuple.specs.Finds.{is_escaped}
 use Rattle.pi_tuple.specs.Tuples.{ref_tag, tuple_bytes}
 use Rattle.pi_tuple.specs.declared.tuple.Tuple.{Tuple}
-use Rattle.pi_tuple.specs.declared.checks.PiType.TheVariants.{One}
-use Rattle.pi_tuple.proofs.TupleLaws.{tag_below}
 use Rattle.page_pool.specs.Cells.{gather, scatter}
 use Rattle.fault_schedule.specs.Altered.{shift_of}
 use Rattle.fault_schedule.specs.declared.fault.Crossing.TheVariants.{AdapterToTarget, HostToAdapter, MediumToTarget, TargetToMedium}
@@ -22,18 +18,19 @@ use Rattle.integrity_payload.specs.declared.payload.Owner.{Owner}
 use Rattle.stack_ops.specs.declared.op.Op.{Op}
 use Rattle.volume_table.specs.Places.{volume_len}
 use Rattle.block_path.specs.Acts.{State, act}
-use Rattle.block_path.specs.Blocks.{fetched_cell, own_cell, own_frame, own_tuple, read_by, stored_cell, tag_after, tuple_after, written_by}
+use Rattle.block_path.specs.Blocks.{fetched_cell, own_cell, own_frame, read_by, stored_cell, tag_after, tuple_after, written_by}
 use Rattle.block_path.specs.Routes.{moved}
 use Rattle.block_path.specs.WayIn.{Delivers, Spoils, Stops, WayIn, way_in}
 use Rattle.block_path.specs.WayOut.{Fails, Refuses, Stores, WayOut, way_out}
 use Rattle.block_path.proofs.Cells.{AllBelow, below, gather_length}
 use Rattle.run_laws.specs.Passed.{LiesInImage, detectable, step_shows, has_flip, has_shift, act_of, Block, Setting, route, Alters, Reads, Seals, Sets, Shows, Step, Writes, WritesPi, each_from, AreClean, NoneEscapes, SuppliesNoEscape, home}
-use Rattle.run_laws.proofs.Passed.{Small, below_append, below_drop, below_gather, below_replicate, below_scatter, below_take, data_is, four_below, tuple_below, tuple_is}
+use Rattle.run_laws.proofs.Passed.{below_append, below_drop, below_gather, below_replicate, below_scatter, below_take, four_below, tuple_below}
 use Rattle.run_laws.proofs.Layers.{checked, unmoved}
 use Rattle.run_laws.proofs.Along.{set_cases}
 use Rattle.run_premises.specs.Forms.{is_good_line}
 use Rattle.run_premises.specs.FormedRun.{IsOfBytes}
 use Rattle.run_premises.proofs.Lines.{no_shift}
+use Rattle.run_premises.proofs.OneWay.{own_fine, own_right}
 use Rattle.run_premises.proofs.Ways.{Fine, Kept, OfBytes, Right, comes_bytes, comes_shown, goes_kept, goes_shown}
 
 -- What a step asks: of each block that it moves, that it is named and lies on the volume, and that its frame has its length. A frame with a tuple of the application's own asks what is said of such blocks.
@@ -145,22 +142,6 @@ module _ (m' : Setting) (ops : List Op) (even : m'.size % 2 ≡ 0) (flips : All 
 
   -- ---- frames of the host
 
-  own_fine : (b : Block) (app : ℕ) (x : List ℕ) → length x ≡ n → AllBelow 256 x → app < 2 ^ 16 → is_escaped One (own_tuple (route m b) app x) ≡ false → IsFine (own_frame (route m b) app x)
-  own_fine b app x l h a e =
-      let t = own_tuple (route m b) app x in
-      let small : Small t = record { guard = guard_below m'.mode.kind x; app = a; rtag = tag_below b.virt } in
-      record {
-        size = length-append x (tuple_bytes t) ∙ ap (λ k. k + 8) l;
-        bytes = below_append 256 x (tuple_bytes t) h (tuple_below t);
-        escape = ap (λ u. is_escaped One u) (tuple_is n x t l small) ∙ e;
-      }
-
-  own_right : (b : Block) (app : ℕ) (x : List ℕ) → length x ≡ n → app < 2 ^ 16 → IsRight m'.mode.kind (own_frame (route m b) app x)
-  own_right b app x l a =
-      let t = own_tuple (route m b) app x in
-      let small : Small t = record { guard = guard_below m'.mode.kind x; app = a; rtag = tag_below b.virt } in
-      ap (λ (u : Tuple). u.guard) (tuple_is n x t l small) ∙ ap (guard_of m'.mode.kind) (sym (data_is n x t l))
-
   tag_bytes : (b : Block) (tag : List ℕ) → AllBelow 256 tag → AllBelow 256 (tag_after (route m b) tag)
   tag_bytes b tag h = by (eqb (from_be_bytes w32 tag) (ref_tag b.virt) || eqb (from_be_bytes w32 tag) (ref_tag (route m b).lba)) where
     by : (c : Bool) → AllBelow 256 (if c then to_be_bytes w32 (ref_tag b.virt) else tag)
@@ -192,12 +173,12 @@ module _ (m' : Setting) (ops : List Op) (even : m'.size % 2 ≡ 0) (flips : All 
       let l = gather_length 0 body s.bytes ∙ fit.1.1.0 in
       let bytes = below_gather 256 body s.bytes (omega arith) h.pages in
       let frame = own_frame (route m b) app x in
-      let f = own_fine b app x l bytes fit.1.1.1 (e refl) in
+      let f = own_fine m' b app x l bytes fit.1.1.1 (e refl) in
       let w = way_out faults m.site.device (route m b) frame in
       let log = get_or s.logs (own_cell m.site (route m b)) [] in
       let k = goes_kept m' ops even flips form b frame f in
       record {
-        shown = goes_shown m' ops even flips form b frame f (λ q. own_right b app x l fit.1.1.1);
+        shown = goes_shown m' ops even flips form b frame f (λ q. own_right m' b app x l fit.1.1.1);
         holds = record { pages = h.pages; size = written_size b w [] log s.blocks ∙ h.size; each = written_held b w [] log s fit.0 fit.1.0 k h };
       }
   one_step (WritesPi b frame) s fit e h =

@@ -15,7 +15,7 @@ use Rattle.volume_table.specs.Faults.{device}
 use Rattle.volume_table.specs.Places.{place_in}
 use Rattle.script_run_laws.proofs.AtUnits.{lies-at-units}
 use Rattle.rig_api.specs.declared.units.UnitSpec.{UnitSpec}
-use Rattle.script_text.specs.Passed.{Op, Silent}
+use Rattle.script_text.specs.Passed.{Op}
 use Rattle.volume_table.specs.declared.device.DeviceInfo.{DeviceInfo}
 use Rattle.volume_table.specs.Tables.{MadeFor, Table}
 use Rattle.dix_adapter.specs.Passed.{target}
@@ -29,9 +29,9 @@ use Rattle.script_run_laws.proofs.Standing.{seals-whole, stands-on-ground}
 use Rattle.script_run_laws.proofs.Units.{over-units}
 use Rattle.stack_core.specs.declared.stack.Stack.{Stack}
 use Rattle.stack_core.specs.NewStacks.{IsSetUp}
-use Rattle.stack_core.specs.Walking.{IsOver, NoneFailed, Opens, SizesFit, WalksAtFirst, WalksFallingAtFirst, WalksToldAtFirst}
+use Rattle.stack_core.specs.Walking.{IsOver, Opens, SizesFit, WalksAtFirst, WalksFallingAtFirst}
 use Rattle.script_stack.specs.Beginning.{setup_of}
-use Rattle.script_stack.specs.Followed.{BeginsFalling, BeginsTold, BeginsWalks, SizesAre, begun_of, none_fails, setting_of, unit_of}
+use Rattle.script_stack.specs.Followed.{BeginsFalling, BeginsWalks, SizesAre, begun_of, setting_of, unit_of}
 use Rattle.script_stack.proofs.Runs.{own-infos}
 use Rattle.script_stack.proofs.Ready.{sizes-of}
 
@@ -143,18 +143,7 @@ module _ (s : Script) (t : Table) (devices : List DeviceInfo) (r : Stack) (suits
         armed = sym is.faults;
       }
 
-  pub begins-told : WalksToldAtFirst r → BeginsTold s t devices r
-  begins-told first us st log found shapes =
-      let b = begins-at none_fails us st found shapes in
-      first (setting_of s t (shapes_of us) none_fails) (4096 * s.pages) (begun_of s (shapes_of us) (blocks_told us)) us s.faults st log b.opens_so b.over b.sizes b.site b.units b.armed refl
-
   pub begins-falling : WalksFallingAtFirst r → BeginsFalling s t devices r
   begins-falling first fails us st log found shapes =
       let b = begins-at fails us st found shapes in
       first (setting_of s t (shapes_of us) fails) (4096 * s.pages) (begun_of s (shapes_of us) (blocks_told us)) us s.faults st log b.opens_so b.over b.sizes b.site b.units b.armed refl
-
--- no op has replied yet
-pub none-failed : (n : ℕ) → NoneFailed (replicate n Silent)
-none-failed zero i = refl
-none-failed (suc n) zero = refl
-none-failed (suc n) (suc i) = none-failed n i

@@ -24,11 +24,11 @@ use Rattle.script_run_laws.specs.SuitsStack.{SuitsStack}
 use Rattle.script_run_laws.specs.Units.{AreStored}
 use Rattle.stack_core.specs.Mediums.{HasCounted, RoseBy, medium_lines}
 use Rattle.stack_core.specs.Stacks.{GoesOn, IsFinished, IsStack, StackStays, plan_in}
-use Rattle.stack_core.specs.Walking.{NoneFailed, Walks, WalksFalling}
+use Rattle.stack_core.specs.Walking.{Walks, WalksFalling}
 use Rattle.stack_core.specs.declared.stack.Stack.{Stack}
 use Rattle.stack_core.proofs.ToldOps.{is_told}
 use Rattle.stack_laws.specs.View.{start}
-use Rattle.script_stack.specs.Followed.{BeginsTold, BeginsWalks, HasWalked, IsBackedBy, SizesAre, begun_of, failed_in, none_fails, setting_of, unit_of, BeginsFalling, HasFallen, KnownBlocks, NoMediumLine}
+use Rattle.script_stack.specs.Followed.{BeginsWalks, HasWalked, IsBackedBy, SizesAre, begun_of, failed_in, none_fails, setting_of, unit_of, BeginsFalling, HasFallen, KnownBlocks, NoMediumLine}
 use Rattle.stack_core.specs.Going.{Went}
 use Rattle.script_stack.specs.Sends.{IsPlanFor, SendsBy, SendsFor, by_words, entries_of}
 use Rattle.script_stack.proofs.Following.{told-shapes, told-stored}
@@ -71,9 +71,7 @@ pub record IsOver (s : Script) (t : Table) (devices : List DeviceInfo) (words : 
   pub ops : r.sheet.ops ≡ s.ops
   pub ended : IsFinished r
   pub walks : BeginsWalks s t devices begun
-  pub told : BeginsTold s t devices begun
   pub falling : BeginsFalling s t devices begun
-  pub silent : NoneFailed begun.replies.items
   pub goes : GoesOn old new
   pub tells : is_some image' ≡ is_some image
   pub went : Went begun old r new

@@ -1,5 +1,5 @@
 -- Steps one after another.
-use Rattle.std.proofs.Common.{◌≤◌, ◌++◌, ◌∙◌, ℕ, ap, refl, arith}
+use Rattle.std.proofs.Common.{◌++◌, ◌∙◌, ap, refl, arith}
 use Rattle.std.specs.List.{list_any}
 use Rattle.std.proofs.lemmas.List.{append_assoc}
 use Rattle.rig_api.specs.State.{RigState}
@@ -7,25 +7,16 @@ use Rattle.stack_core.proofs.Passed.{puts_nothing, puts_then}
 use Rattle.script_text.specs.Passed.{is_overwrite}
 use Rattle.stack_core.specs.declared.sheet.Sheet.{Sheet}
 use Rattle.stack_core.specs.Stacks.{GoesOn, StackStays}
-use Rattle.dix_base.specs.Told.{Calm}
 use Rattle.stack_core.specs.declared.stack.Stack.{Stack}
 use Rattle.stack_core.specs.Going.{Went}
 
 pub went_nowhere : (s : Stack) (o : RigState) → Went s o s o
-went_nowhere s o = record { walks = λ m n opening first w. w; told = λ m n opening first w calm. w; falling = λ m n opening first w. w; silent = λ calm h. h; faults = omega arith; counts = λ first h. h; sheet = refl; answered = λ m n opening first w none. puts_nothing o o refl refl refl refl }
-
-calm-first : (a b c : ℕ) → a ≤ b → b ≤ c → Calm a c → Calm a b
-calm-first a b c l k h = let x = h.0 in let y = h.1 in (omega arith, omega arith)
-
-calm-then : (a b c : ℕ) → a ≤ b → b ≤ c → Calm a c → Calm b c
-calm-then a b c l k h = let x = h.0 in let y = h.1 in (omega arith, omega arith)
+went_nowhere s o = record { walks = λ m n opening first w. w; falling = λ m n opening first w. w; faults = omega arith; counts = λ first h. h; sheet = refl; answered = λ m n opening first w none. puts_nothing o o refl refl refl refl }
 
 pub went_on : (s : Stack) (o : RigState) (s' : Stack) (o' : RigState) (s'' : Stack) (o'' : RigState) → Went s o s' o' → Went s' o' s'' o'' → Went s o s'' o''
 went_on s o s' o' s'' o'' a b = record {
   walks = λ m n opening first w. b.walks m n opening first (a.walks m n opening first w);
-  told = λ m n opening first w calm. b.told m n opening first (a.told m n opening first w (calm-first o.faults o'.faults o''.faults a.faults b.faults calm)) (calm-then o.faults o'.faults o''.faults a.faults b.faults calm);
   falling = λ m n opening first w. b.falling m n opening first (a.falling m n opening first w);
-  silent = λ calm h. b.silent (calm-then o.faults o'.faults o''.faults a.faults b.faults calm) (a.silent (calm-first o.faults o'.faults o''.faults a.faults b.faults calm) h);
   faults = (let x = a.faults in let y = b.faults in omega arith);
   counts = λ first h. b.counts first (a.counts first h);
   sheet = b.sheet ∙ a.sheet;

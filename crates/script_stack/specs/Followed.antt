@@ -20,7 +20,7 @@ use Rattle.stack_core.specs.Mediums.{RoseBy, medium_lines}
 use Rattle.stack_core.specs.Passed.{pages_from, requests_from, script_replies, script_walk, Setting}
 use Rattle.stack_core.specs.declared.stack.Stack.{Stack}
 use Rattle.stack_core.specs.Stacks.{IsFinished, IsStack}
-use Rattle.stack_core.specs.Walking.{EndsFallen, Walks, WalksFalling, WalksTold, is_medium}
+use Rattle.stack_core.specs.Walking.{EndsFallen, Walks, WalksFalling, is_medium}
 use Rattle.script_stack.specs.Sends.{SendsFor, by_words}
 use Rattle.page_pool.specs.declared.TheConstants.{PAGE}
 
@@ -84,12 +84,7 @@ abbrev pub BeginsWalks : Script → Table → List DeviceInfo → Stack → Type
 BeginsWalks s t devices r = (fails : ℕ → Bool) (blocks : List (List ℕ)) (st : Standing) (log : List LogEntry) → SizesAre devices st
     → Walks (setting_of s t (map unit_of devices) fails) (PAGE * s.pages) (begun_of s (map unit_of devices) blocks) (length log) r st log
 
--- and over a rig with these devices that tells its blocks, with the script's faults armed.
-abbrev pub BeginsTold : Script → Table → List DeviceInfo → Stack → Type 0
-BeginsTold s t devices r = (us : List Stored) (st : Standing) (log : List LogEntry) → devices ≡ map info_of (specs_of st) → shapes_of us ≡ specs_of st
-    → WalksTold (setting_of s t (shapes_of us) none_fails) (PAGE * s.pages) (begun_of s (shapes_of us) (blocks_told us)) (length log) r (Some us) s.faults st log
-
--- So it does where store calls may fail.
+-- and over a rig with these devices that tells its blocks, with the script's faults armed, where store calls may fail.
 abbrev pub BeginsFalling : Script → Table → List DeviceInfo → Stack → Type 0
 BeginsFalling s t devices r = (fails : ℕ → Bool) (us : List Stored) (st : Standing) (log : List LogEntry) → devices ≡ map info_of (specs_of st) → shapes_of us ≡ specs_of st
     → WalksFalling (setting_of s t (shapes_of us) fails) (PAGE * s.pages) (begun_of s (shapes_of us) (blocks_told us)) (length log) r (Some us) s.faults st log

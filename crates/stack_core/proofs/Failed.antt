@@ -31,12 +31,6 @@ known_done (Overwrite dev lba change) kind room old new reply h = by h.1 where
   by (inr e) = inr (ap is_medium e)
 known_done Wait kind room old new reply h = inl tt
 
-pub known_calm : (op : Op) (kind : GuardKind) (room : Room) (old new : List (List ℕ)) (reply : Reply) → OpDone op kind room old new reply → is_medium reply ≡ false → IsKnown op reply
-known_calm op kind room old new reply h e = by (known_done op kind room old new reply h) where
-  by : IsKnown op reply ⊎ (is_medium reply ≡ true) → IsKnown op reply
-  by (inl k) = k
-  by (inr m) = absurd (false≢true (sym e ∙ m))
-
 -- what is known of it didn't fail
 pub known_silent : (op : Op) (kind : GuardKind) (room : Room) (old new : List (List ℕ)) (reply : Reply) → OpDone op kind room old new reply → IsKnown op reply → is_medium reply ≡ false
 known_silent (Fill seg byte) kind room old new reply h k = ap is_medium h.1

@@ -2,7 +2,6 @@
 use Rattle.std.proofs.Common.{◌≡◌, ℕ, false, refl, arith}
 use Rattle.std.specs.List.{list_any}
 use Rattle.std.specs.Prelude.{is_some}
-use Rattle.dix_base.specs.Told.{Calm}
 use Rattle.rig_api.specs.State.{RigState, Stays as RigStays}
 use Rattle.rig_api.specs.Telling.{IsStanding, units_told}
 use Rattle.record_laws.specs.Answered.{PutsAnswers}
@@ -14,10 +13,10 @@ use Rattle.stack_core.specs.declared.stack.Stack.{Stack}
 use Rattle.stack_core.specs.Going.{StandsOver, Went}
 use Rattle.stack_core.specs.Mediums.{HasCounted}
 use Rattle.stack_core.specs.Stacks.{HasStep, IsStack, Reaches, StackStays, plan_in}
-use Rattle.stack_core.specs.Walking.{Enters, NoneFailed, WalksOn}
+use Rattle.stack_core.specs.Walking.{Enters, WalksOn}
 use Rattle.stack_core.proofs.Going.{spare-left}
 use Rattle.stack_core.proofs.Steps.{SendsNot}
-use Rattle.stack_core.proofs.ToldOps.{falling_entered, falling_on, told_entered, told_on, walks_entered, walks_on}
+use Rattle.stack_core.proofs.ToldOps.{falling_entered, falling_on, walks_entered, walks_on}
 
 -- the rig has what the ops name, as long as it stands
 pub reaches-on : (s s' : Stack) (o o' : RigState) → s'.sheet ≡ s.sheet → o'.standing ≡ o.standing → is_some o'.image ≡ is_some o.image → Reaches s (is_some o.image) o.standing → Reaches s' (is_some o'.image) o'.standing
@@ -33,12 +32,10 @@ stands-left s s' word cut c o o' n h a ch d is e st room t = record {
 }
 
 -- one that leaves the rig alone
-pub went-still : (s s' : Stack) (o : RigState) → IsStack s → StackStays s s' → WalksOn s s' → (NoneFailed s.replies.items → NoneFailed s'.replies.items) → ((first : ℕ) → HasCounted first s o.faults → HasCounted first s' o.faults) → Went s o s' o
-went-still s s' o k stays on silent counts = record {
+pub went-still : (s s' : Stack) (o : RigState) → IsStack s → StackStays s s' → WalksOn s s' → ((first : ℕ) → HasCounted first s o.faults → HasCounted first s' o.faults) → Went s o s' o
+went-still s s' o k stays on counts = record {
   walks = λ m n opening first w. walks_on m n opening first s s' o.standing o.log k stays on w;
-  told = λ m n opening first w calm. told_on m n opening first s s' o.units o.armed o.standing o.log k stays on w;
   falling = λ m n opening first w. falling_on m n opening first s s' o.units o.armed o.standing o.log k stays on w;
-  silent = λ calm h. silent h;
   faults = omega arith;
   counts = counts;
   sheet = stays.sheet;
@@ -47,12 +44,10 @@ went-still s s' o k stays on silent counts = record {
 
 -- one that admits an op
 pub went-entered : (s s' : Stack) (o o' : RigState) → IsStack s → StackStays s s' → Enters o o' s s' → RigStays o o' → o'.log ≡ o.log → o.units ≡ units_told o.standing o.image → IsStanding o.standing o.image →
-    (Calm o.faults o'.faults → NoneFailed s.replies.items → NoneFailed s'.replies.items) → ((first : ℕ) → HasCounted first s o.faults → HasCounted first s' o'.faults) → (list_any is_overwrite s.sheet.ops ≡ false → PutsAnswers o o') → Went s o s' o'
-went-entered s s' o o' k stays enters rig log laid ready silent counts answered = record {
+    ((first : ℕ) → HasCounted first s o.faults → HasCounted first s' o'.faults) → (list_any is_overwrite s.sheet.ops ≡ false → PutsAnswers o o') → Went s o s' o'
+went-entered s s' o o' k stays enters rig log laid ready counts answered = record {
   walks = λ m n opening first w. rw (rig.standing, log) (walks_entered m n opening first s s' o o' k stays enters w);
-  told = λ m n opening first w calm. rw (rig.standing, log) (told_entered m n opening first s s' o o' k stays enters laid ready rig.armed calm w);
   falling = λ m n opening first w. rw (rig.standing, log) (falling_entered m n opening first s s' o o' k stays enters laid ready rig.armed w);
-  silent = silent;
   faults = rig.count;
   counts = counts;
   sheet = stays.sheet;

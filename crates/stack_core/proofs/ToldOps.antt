@@ -2,7 +2,6 @@
 use Rattle.std.proofs.Common.{◌≡◌, ◌⊎◌, inl, inr, ◌<◌, ◌≤◌, ℕ, ◌+◌, ◌-◌, true, leb, ltb, List, [], ◌∷◌, length, drop, get_or, set, Option, Some, None, refl, sym, ap, subst, ◌∙◌, arith}
 use Rattle.std.specs.Prelude.{is_some}
 use Rattle.std.proofs.lemmas.Bool.{and_parts}
-use Rattle.dix_base.specs.Told.{Calm}
 use Rattle.fault_schedule.specs.Altered.{byte_at, xored_from}
 use Rattle.fault_schedule.specs.declared.fault.FaultLine.{FaultLine}
 use Rattle.rig_api.specs.Target.{Stored}
@@ -29,7 +28,7 @@ use Rattle.stack_core.specs.Courses.{Course, Falling, Straight}
 use Rattle.stack_core.specs.declared.stack.Stack.{Stack}
 use Rattle.stack_core.specs.Doing.{CanReach}
 use Rattle.stack_core.specs.Stacks.{IsStack, StackStays}
-use Rattle.stack_core.specs.Walking.{Enters, Fails, IsKnown, KnownBy, Walks, WalksAtTarget, WalksBy, WalksFalling, WalksOn, WalksTold, op_left, units_left}
+use Rattle.stack_core.specs.Walking.{Enters, Fails, IsKnown, KnownBy, Walks, WalksAtTarget, WalksBy, WalksFalling, WalksOn, op_left, units_left}
 use Rattle.stack_core.proofs.WalkedRecord.{over_record, records_stay}
 use Rattle.stack_core.proofs.WalkedTold.{told_stay}
 
@@ -115,9 +114,6 @@ at_target_on : (course : Course) (m : Setting) (n : ℕ) (opening : State) (firs
 at_target_on course m n opening first s s' units armed st log k stays on w =
     told_stay m n opening first s units armed st log k w s' stays units w.us armed log w.recorded_from w.told_are refl (on course m n opening (recorded m (drop first log)) (blocks_told w.us) w.over w.walks)
 
-pub told_on : (m : Setting) (n : ℕ) (opening : State) (first : ℕ) (s s' : Stack) (units : Option (List Stored)) (armed : List FaultLine) (st : Standing) (log : List LogEntry) → IsStack s → StackStays s s' → WalksOn s s' → WalksTold m n opening first s units armed st log → WalksTold m n opening first s' units armed st log
-told_on m n opening first s s' units armed st log k stays on w = at_target_on Straight m n opening first s s' units armed st log k stays on w
-
 pub falling_on : (m : Setting) (n : ℕ) (opening : State) (first : ℕ) (s s' : Stack) (units : Option (List Stored)) (armed : List FaultLine) (st : Standing) (log : List LogEntry) → IsStack s → StackStays s s' → WalksOn s s' → WalksFalling m n opening first s units armed st log → WalksFalling m n opening first s' units armed st log
 falling_on m n opening first s s' units armed st log k stays on w = (w.0, at_target_on (Falling w.0) m n opening first s s' units armed st log k stays on w.1)
 
@@ -137,11 +133,6 @@ at_target_entered course m n opening first s s' o o' k stays enters laid ready s
     let left = left_is w.us o.standing m o.image enters.op cell us ready (subst (λ t. CanReach t o.standing enters.op) told enters.reach) in
     told_stay m n opening first s o.units o.armed o.standing o.log k w s' stays o'.units (units_left enters.op w.us) o'.armed o.log w.recorded_from (enters.tells w.us w.told_are known) still
     (subst (λ x. WalksBy course m n opening (recorded m (drop first o.log)) x s') (sym left) (enters.walks course by_course m n opening (recorded m (drop first o.log)) (blocks_told w.us) w.over w.walks))
-
-pub told_entered : (m : Setting) (n : ℕ) (opening : State) (first : ℕ) (s s' : Stack) (o o' : RigState) → IsStack s → StackStays s s' → Enters o o' s s' →
-    o.units ≡ units_told o.standing o.image → IsStanding o.standing o.image → o'.armed ≡ o.armed → Calm o.faults o'.faults → WalksTold m n opening first s o.units o.armed o.standing o.log → WalksTold m n opening first s' o'.units o'.armed o.standing o.log
-told_entered m n opening first s s' o o' k stays enters laid ready still calm w =
-    at_target_entered Straight m n opening first s s' o o' k stays enters laid ready still (enters.calm calm) tt w
 
 pub falling_entered : (m : Setting) (n : ℕ) (opening : State) (first : ℕ) (s s' : Stack) (o o' : RigState) → IsStack s → StackStays s s' →
     (enters : Enters o o' s s') → o.units ≡ units_told o.standing o.image → IsStanding o.standing o.image → o'.armed ≡ o.armed → WalksFalling m n opening first s o.units o.armed o.standing o.log → WalksFalling m n opening first s' o'.units o'.armed o.standing o.log

@@ -6,7 +6,6 @@ use Rattle.bio_core.specs.declared.fate.Fate.{Fate}
 use Rattle.bio_core.specs.declared.fate.Fate.TheVariants.{Untouched}
 use Rattle.bio_core.specs.declared.fate.Why.{Why}
 use Rattle.bio_core.specs.Bios.{block_size}
-use Rattle.dix_base.specs.Told.{Calm}
 use Rattle.fault_schedule.specs.declared.fault.FaultLine.{FaultLine}
 use Rattle.rig_api.specs.Target.{Stored}
 use Rattle.range_gate.specs.Gates.{has_ended}
@@ -218,13 +217,7 @@ abbrev pub WalksAtFirst : Stack → Type 0
 WalksAtFirst s = (m : Setting) (n : ℕ) (opening : State) (st : Standing) (log : List LogEntry)
     → Opens opening s → IsOver m n opening s.sheet s.adapter s.host → SizesFit m st → Walks m n opening (length log) s st log
 
--- So it does over a rig that tells its blocks, which are those of the opening, with its faults armed.
-abbrev pub WalksToldAtFirst : Stack → Type 0
-WalksToldAtFirst s = (m : Setting) (n : ℕ) (opening : State) (us : List Stored) (armed : List FaultLine) (st : Standing) (log : List LogEntry)
-    → Opens opening s → IsOver m n opening s.sheet s.adapter s.host → SizesFit m st → m.site ≡ site_of s.adapter (specs_of st) → AreAtUnits m (specs_of st) s.sheet.ops
-    → armed ≡ s.adapter.tamper → opening.blocks ≡ blocks_told us → WalksTold m n opening (length log) s (Some us) armed st log
-
--- And so it does where store calls may fail.
+-- So it does over a rig that tells its blocks, which are those of the opening, with its faults armed, where store calls may fail.
 abbrev pub WalksFallingAtFirst : Stack → Type 0
 WalksFallingAtFirst s = (m : Setting) (n : ℕ) (opening : State) (us : List Stored) (armed : List FaultLine) (st : Standing) (log : List LogEntry)
     → Opens opening s → IsOver m n opening s.sheet s.adapter s.host → SizesFit m st → m.site ≡ site_of s.adapter (specs_of st) → AreAtUnits m (specs_of st) s.sheet.ops
@@ -313,7 +306,6 @@ pub record Enters (before after : RigState) (old new : Stack) : Type 0 where
   pub reply : Reply
   pub reach : CanReach (is_some before.image) before.standing op
   pub known : IsKnown op reply ⊎ Fails before after op old new
-  pub calm : Calm before.faults after.faults → IsKnown op reply
   pub walks : (course : Course) → KnownBy course op reply → (over : Setting) (n : ℕ) (opening : State) (es : List Sent) (left : List (List ℕ)) → IsOver over n opening old.sheet old.adapter old.host → WalksBy course over n opening es left old
       → WalksBy course over n opening es (op_left over op left) new
   pub tells : (us : List Stored) → before.units ≡ Some us → IsKnown op reply → after.units ≡ Some (units_left op us)

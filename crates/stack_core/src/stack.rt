@@ -12,7 +12,7 @@ ghost use Rattle.stack_core.specs.Replies.{HoldsSeal};
 ghost use Rattle.stack_ops.specs.declared.reply.Reply.TheVariants.{Medium, Silent};
 ghost use Rattle.stack_core.specs.Done.{MadeBy, OpDone, Sealed, WriteMade, WriteMapped};
 ghost use Rattle.stack_core.specs.Doing.{CanDo, CanReach, HasChangedBlocks};
-ghost use Rattle.stack_core.specs.Walking.{Enters, IsChosen, IsKnown, LeavesOwn, NoneFailed, WalksOn, is_medium, units_left};
+ghost use Rattle.stack_core.specs.Walking.{Enters, IsChosen, IsKnown, LeavesOwn, WalksOn, is_medium, units_left};
 ghost use Rattle.dix_base.specs.Told.{Calm};
 ghost use Rattle.rig_api.specs.Telling.{block_at, changed, frame_size, unit_at, with_block};
 ghost use Rattle.rig_api.specs.State.{Stays as RigStays};
@@ -134,7 +134,6 @@ impl Stack {
         ensures stays { StackStays self.old self.new }
         ensures step { (cut : ℕ) → Does (plan_in self.old.sheet) self.old.machine (End q) cut self.new.machine }
         ensures walks { IsChosen self.old (End q) → WalksOn self.old self.new }
-        ensures silent { NoneFailed self.old.replies.items → NoneFailed self.new.replies.items }
         ensures kept { self.new.kept ≡ self.old.kept }
         ensures few { medium_replies self.new.replies.items ≤ medium_replies self.old.replies.items }
     {

@@ -92,7 +92,7 @@ returns-in-Overwrite-clause-ran g c =
     let now : RigState = g.R.Rig.state c.args.rig.now in
     let is = op-is p.script.ops c.as_slice.result.now c.args.at c.index-as_slice-at.result (Overwrite c.in-Overwrite.dev c.in-Overwrite.lba c.in-Overwrite.change) c.as_slice.ensures c.requires.op c.index-as_slice-at.is c.in-Overwrite.is in
     let after : RigState = g.R.Rig.state c.overwrite.new.rig in
-    did-overwrite p.script p.devices.items p.half (c.args.at + 1) c.args.state.now.used old now after (op_at p.script.ops c.args.at) c.in-Overwrite.dev c.in-Overwrite.lba c.in-Overwrite.change c.overwrite.result is c.overwrite.ensures.reply c.overwrite.ensures.altered c.overwrite.ensures.made c.overwrite.ensures.tells
+    did-overwrite p.script p.devices.items p.half (c.args.at + 1) c.args.state.now.used old now after (op_at p.script.ops c.args.at) c.in-Overwrite.dev c.in-Overwrite.lba c.in-Overwrite.change c.overwrite.result is c.overwrite.ensures.reply c.overwrite.ensures.asked c.overwrite.ensures.made c.overwrite.ensures.tells
 
 pub returns-in-Seal-clause-ran : goal.returns-in-Seal-clause-ran
 returns-in-Seal-clause-ran g c =

@@ -69,6 +69,7 @@ returns-clause-ran g c =
     let listed : c.deref-4.result.now ≡ listed_written (found_by on0.n (replies_of first.run)) (found_by on0.n (replies_of last.run)) =
     c.deref-4.ensures.value ∙ written-back c.in_ok-found0.found0.len c.list_by_both.new.found0 _ long ∙ c.list_by_both.ensures ∙ (λ i. listed_written ((both0 ∙ first.so) i) (both1 i)) in
     run-both _ of0 of1 (IfOk-weaker c.request_reply.result _ _ (λ (reply : Reply) e. record {
+      octets = c.fits-bytes.1;
       on0 = first.run;
       on1 = last.run;
       runs_are = λ i. first.only i ++ last.only i;

@@ -1,6 +1,5 @@
-use Rattle.std.proofs.Common.{[], length, refl, replicate, subst, sym}
-use Rattle.stack_core.specs.Walking.{NoneFailed}
-use Rattle.script_stack.proofs.Begins.{begins-falling, begins-told, begins-walks, none-failed}
+use Rattle.std.proofs.Common.{[], refl, replicate}
+use Rattle.script_stack.proofs.Begins.{begins-falling, begins-walks}
 use Rattle.script_stack.proofs.Reach.{reaches}
 use Rattle.script_stack.proofs.Ready.{can-start}
 use Rattle.script_stack.proofs.SendsBy.{plan_is}
@@ -25,9 +24,7 @@ returns-clause-begins c =
       plan = plan_is s t r.sheet made.is.ops made.is.shifted made.is.ios made.is.table made.is.limits made.new.queues;
       schedule = refl;
       walks = begins-walks s t devices r c.requires.suits c.requires.lines c.requires.few c.requires.made c.requires.bound made.is made.new.pool made.follows.walks;
-      told = begins-told s t devices r c.requires.suits c.requires.lines c.requires.few c.requires.made c.requires.bound made.is made.new.pool made.follows.told;
       falling = begins-falling s t devices r c.requires.suits c.requires.lines c.requires.few c.requires.made c.requires.bound made.is made.new.pool made.follows.falling;
-      silent = subst NoneFailed (sym made.new.replies) (none-failed (length s.ops));
       counted = none_counted r _ _ made.new.first made.new.kept made.new.replies;
     }
 

@@ -16,9 +16,8 @@ use Rattle.stack_core.specs.Stacks.{room_at}
 use Rattle.stack_ops.specs.declared.reply.Reply.TheVariants.{Silent}
 use Rattle.stack_walk_laws.specs.Sheets.{io_at, op_in}
 use Rattle.stack_ops.specs.declared.op.Op.TheVariants.{Wait}
-use Rattle.stack_core.specs.Walking.{IsKnown, LeavesOwn, NoneFailed, data_of, units_left, is_medium}
-use Rattle.stack_core.proofs.Failed.{is_overwrite_done, known_calm, known_done, quiet_by}
-use Rattle.stack_core.proofs.Failing.{one-more}
+use Rattle.stack_core.specs.Walking.{IsKnown, LeavesOwn, data_of, units_left, is_medium}
+use Rattle.stack_core.proofs.Failed.{is_overwrite_done, known_done, quiet_by}
 use Rattle.stack_core.proofs.Walked.{walk_admits, walk_fails, walk_op}
 use Rattle.stack_core.specs.Mediums.{RoseBy, medium_replies}
 use Rattle.stack_core.proofs.StackCounts.{set_rises}
@@ -106,7 +105,6 @@ returns-then-request-gt0-clause-walks g c = λ ch.
       reply = Silent;
       reach = tt;
       known = inl tt;
-      calm = λ calm. tt;
       walks = λ course known over n opening es left o w. walk_admits over n opening es left s c.requires.stands.stack o w _ c.args.q c.admit-op.result (record { sheet = refl; adapter = refl; host = refl }) ch (c.admit-op.ensures.step 0) c.admit-op.ensures.op some c.make_tuples.new.pool made refl;
       tells = λ us e known. e;
     })
@@ -139,26 +137,22 @@ returns-clause-walks g c = λ ch.
           tells = λ us e. subst (λ op. LeavesOwn op us (g.R.Rig.state c.do_op-done.new.rig).units) (c.op.ensures ∙ x.is) (c.do_op-done.ensures.failed us e m);
         }))
       ];
-      calm = λ calm. known_calm (op_in s.sheet.ops i) s.adapter.kind (room_at s.rooms.items i) s.pool c.do_op-done.new.pool c.do_op-done.result done' (c.do_op-done.ensures.silent calm);
       walks = λ course known over n opening es left o w. walk_op over n opening es left s c.requires.stands.stack o w _ c.args.q i (record { sheet = refl; adapter = refl; host = refl }) ch (c.admit-op.ensures.step 0) c.admit-op.ensures.op empty c.do_op-done.new.pool c.do_op-done.result
           (quiet_by course (op_in s.sheet.ops i) s.adapter.kind (room_at s.rooms.items i) s.pool c.do_op-done.new.pool c.do_op-done.result done' known) done' same;
       tells = λ us e known. c.do_op-done.ensures.left us e (subst (λ op. IsKnown op c.do_op-done.result) (sym c.op.ensures) known) ∙ ap (λ op. Some (units_left op us)) c.op.ensures;
     })
 
 pub returns-then-request-gt0-clause-fails : goal.returns-then-request-gt0-clause-fails
-returns-then-request-gt0-clause-fails g c = record { silent = λ calm h. h; counts = λ n first h. h }
+returns-then-request-gt0-clause-fails g c = λ n first h. h
 
 pub returns-clause-fails : goal.returns-clause-fails
 returns-clause-fails g c =
     let replies = c.args.self.now.replies.items in
     let o = g.R.Rig.state c.args.rig.now in
     let o' = g.R.Rig.state c.do_op-done.new.rig in
-    record {
-      silent = λ calm h. subst NoneFailed (sym c.set_reply.ensures) (one-more replies c.admit-op.result c.do_op-done.result (c.do_op-done.ensures.silent calm) h);
-      counts = λ n first h.
-          subst (λ rs. RoseBy (n + medium_replies rs) first o'.faults) (sym c.set_reply.ensures)
-          (set_rises replies c.admit-op.result c.do_op-done.result o.faults o'.faults c.do_op-done.ensures.stays.count (λ calm e. false≢true (sym (c.do_op-done.ensures.silent calm) ∙ ap is_medium e)) n first h);
-    }
+    λ n first h.
+    subst (λ rs. RoseBy (n + medium_replies rs) first o'.faults) (sym c.set_reply.ensures)
+    (set_rises replies c.admit-op.result c.do_op-done.result o.faults o'.faults c.do_op-done.ensures.stays.count (λ calm e. false≢true (sym (c.do_op-done.ensures.silent calm) ∙ ap is_medium e)) n first h)
 
 pub returns-then-request-gt0-clause-rig : goal.returns-then-request-gt0-clause-rig
 returns-then-request-gt0-clause-rig g c =

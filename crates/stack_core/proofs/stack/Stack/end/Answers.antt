@@ -1,4 +1,4 @@
-use Rattle.std.proofs.Common.{length, ap, refl, ◌∙◌, arith, drop, get_or, set, take, subst, sym}
+use Rattle.std.proofs.Common.{length, ap, refl, ◌∙◌, arith, drop, get_or, set, take}
 use Rattle.std.proofs.lemmas.List.{length-set}
 use Rattle.stack_steps.specs.declared.choice.Choice.TheVariants.{End}
 use Rattle.stack_core.specs.Stacks.{plan_in}
@@ -10,8 +10,7 @@ use Rattle.bio_core.specs.declared.request.Io.{Io}
 use Rattle.stack_core.specs.declared.kept.Room.TheVariants.{Nothing}
 use Rattle.stack_core.specs.Replies.{reply_of}
 use Rattle.stack_walk_laws.specs.Sheets.{io_at}
-use Rattle.stack_core.specs.Walking.{NoneFailed, data_of, is_medium}
-use Rattle.stack_core.proofs.Failing.{one-more, request-silent}
+use Rattle.stack_core.specs.Walking.{data_of}
 use Rattle.stack_core.proofs.Walked.{walk_ends}
 use Rattle.stack_core.specs.Mediums.{medium_replies, one_reply}
 use Rattle.stack_core.proofs.StackCounts.{few_replies, request_quiet}
@@ -79,9 +78,6 @@ returns-clause-walks c = λ ch course over n opening es left o w.
     let replies = c.set_reply.ensures ∙ ap (set s.replies.items i) reply in
     walk_ends over n opening es left s c.requires.stack o w _ c.args.q i (record { sheet = refl; adapter = refl; host = refl }) ch (c.end-op.ensures.step (plan_in c.args.self.now.sheet) 0 c.args.self.now.sheet.right.fine) (c.end-op.ensures.op (plan_in c.args.self.now.sheet) c.args.self.now.sheet.right.fine)
     (ap (λ x. record d { rooms = x; replies = c.set_reply.new.replies.items }) c.take_room-room.ensures.rooms ∙ ap (λ x. record d { rooms = set s.rooms.items i Nothing; replies = x }) replies))
-
-pub returns-clause-silent : goal.returns-clause-silent
-returns-clause-silent c = λ h. subst NoneFailed (sym c.set_reply.ensures) (one-more c.args.self.now.replies.items c.end-op.result c.reply_of.result (ap is_medium c.reply_of.ensures ∙ request-silent c.of-fates.result.now c.take_room-room.result) h)
 
 pub returns-clause-few : goal.returns-clause-few
 returns-clause-few c =
