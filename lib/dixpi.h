@@ -150,6 +150,55 @@ DIXPI_STATUS dixpi_cdb_encode(const struct dixpi_cdb *cdb, uint8_t out[32], uint
    bit is set outside the fields above. */
 DIXPI_STATUS dixpi_cdb_decode(const uint8_t *bytes, size_t len, struct dixpi_cdb *cdb);
 
+/* Commands as initiators send them, with each bit that they may set (SBC-3, clause 5; DLD and the sixth bit of the
+   group number by SBC-4), in a field that may be longer than the command. */
+enum dixpi_more_ops { /* beside those of enum dixpi_op */
+    DIXPI_READ_12 = 0xA8,
+    DIXPI_WRITE_12 = 0xAA,
+    DIXPI_VERIFY_12 = 0xAF,
+    DIXPI_VERIFY_32 = 0x7F0A,
+    DIXPI_WRITE_AND_VERIFY_10 = 0x2E,
+    DIXPI_WRITE_AND_VERIFY_12 = 0xAE,
+    DIXPI_WRITE_AND_VERIFY_16 = 0x8E,
+    DIXPI_WRITE_AND_VERIFY_32 = 0x7F0C,
+    DIXPI_WRITE_SAME_10 = 0x41,
+    DIXPI_WRITE_SAME_16 = 0x93,
+    DIXPI_WRITE_SAME_32 = 0x7F0D,
+    DIXPI_COMPARE_AND_WRITE = 0x89
+};
+/* Beside DIXPI_FUA of READ, WRITE and COMPARE AND WRITE, and DIXPI_DPO of these, VERIFY and WRITE AND VERIFY. */
+enum dixpi_command_flag {
+    DIXPI_FUA_NV = 0x02, /* where FUA is */
+    DIXPI_RARC = 0x04,   /* of READ */
+    DIXPI_NDOB = 0x100,  /* of WRITE SAME(16) and (32) */
+    DIXPI_UNMAP = 0x800, /* of WRITE SAME, as ANCHOR */
+    DIXPI_ANCHOR = 0x1000
+};
+struct dixpi_command {
+    uint64_t lba;       /* these six as in struct dixpi_cdb; n of COMPARE AND WRITE is below 256 */
+    uint32_t op, n, ref;
+    uint16_t app, mask;
+    uint32_t protect;   /* RDPROTECT, WRPROTECT, VRPROTECT: 0 to 5 */
+    uint32_t flags;     /* enum dixpi_cdb_flag and enum dixpi_command_flag, added */
+    uint32_t bytchk;    /* BYTCHK of VERIFY and WRITE AND VERIFY, 0 to 3; else 0 */
+    uint32_t dld;       /* duration limit of READ and WRITE of 16 and 32 bytes, 0 to 7; else 0 */
+    uint32_t group;     /* GROUP NUMBER, below 64; of READ CAPACITY 0 */
+    uint32_t control;   /* CONTROL, below 256 */
+};
+/* How many bytes a command has, by its operation code and behind 7Fh by its byte 7, whether or not it is served; 0
+   where the bytes don't tell it: none, fewer than 8 behind 7Fh, or a code that is reserved or a vendor's. */
+uint32_t dixpi_cdb_len(const uint8_t *bytes, size_t len);
+/* Writes 10, 12, 16 or 32 bytes to out and their number to *len; the rest of out stays. DIXPI_BAD_OPCODE, or
+   DIXPI_BAD_FIELD where the form can't carry a number. */
+DIXPI_STATUS dixpi_command_encode(const struct dixpi_command *command, uint8_t out[32], uint32_t *len);
+/* The inverse, of bytes that begin with the command; what stands behind it isn't read. DIXPI_BAD_LENGTH where there are
+   fewer than it asks for, DIXPI_BAD_FIELD also where a bit is set outside the fields. */
+DIXPI_STATUS dixpi_command_decode(const uint8_t *bytes, size_t len, struct dixpi_command *command);
+/* The checks that a protect field asks of the protection information that travels, for `checks` of struct dixpi_want:
+   all for 1 and 5, the tags for 2, the guard for 4; DIXPI_CHECK_NONE for 3, and for 0, with which none travels; else 0,
+   which no check takes. */
+uint32_t dixpi_protect_checks(uint32_t protect);
+
 /* Sense data. */
 struct dixpi_sense {
     uint64_t info;          /* INFORMATION: the LBA of the block that the sense speaks of */
