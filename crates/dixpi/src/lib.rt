@@ -14,6 +14,7 @@ mod runs;
 mod senses;
 mod single;
 mod status;
+mod texts;
 
 pub use apart::{dixpi_dix_generate, dixpi_dix_verify, dixpi_dix_verify_from};
 pub use blocks::{dixpi_generate, dixpi_remap, dixpi_verify, dixpi_verify_from};
@@ -24,3 +25,4 @@ pub use runs::{dixpi_run_begin, dixpi_run_finish, dixpi_run_update};
 pub use senses::{dixpi_sense_check, dixpi_sense_decode, dixpi_sense_encode, dixpi_sense_find};
 pub use single::{dixpi_check, dixpi_tuple_read, dixpi_tuple_write};
 pub use status::dixpi_version;
+pub use texts::{dixpi_check_name, dixpi_found_text, dixpi_status_text};

@@ -12,3 +12,4 @@ pub mod Runs
 pub mod Seen
 pub mod Senses
 pub mod Single
+pub mod Texts

@@ -19,6 +19,7 @@ mod run;
 mod seen;
 mod sensing;
 mod single;
+mod texts;
 
 pub use apart::{dix_generate, dix_verify};
 pub use block::{Found, Want};
@@ -37,3 +38,4 @@ pub use run::Run;
 pub use seen::Seen;
 pub use sensing::SenseFields;
 pub use single::{TupleFields, check};
+pub use texts::{check_name, found_text, write_ended};
