@@ -208,7 +208,10 @@ struct dixpi_sense {
 /* Writes 18 bytes (fixed format), or 20 (descriptor format) where info needs 64 bits, and their number to *len. The
    rest of out stays. DIXPI_BAD_FIELD: the key isn't below 16. */
 DIXPI_STATUS dixpi_sense_encode(const struct dixpi_sense *sense, uint8_t out[20], uint32_t *len);
-/* The inverse: DIXPI_BAD_LENGTH where the response code asks for more bytes, DIXPI_BAD_FIELD for any other form. */
+/* The same in descriptor format, as where D_SENSE is 1: 8 bytes, or 20 where there is an information. */
+DIXPI_STATUS dixpi_sense_describe(const struct dixpi_sense *sense, uint8_t out[20], uint32_t *len);
+/* The inverse of _encode: DIXPI_BAD_LENGTH where the response code asks for more bytes, DIXPI_BAD_FIELD for any other
+   form. */
 DIXPI_STATUS dixpi_sense_decode(const uint8_t *bytes, size_t len, struct dixpi_sense *sense);
 /* Sense data as devices send them: response codes 70h to 73h, of any length from the qualifier on, whatever stands
    elsewhere. info is that of the fixed format or of the first information descriptor, where it is valid. *deferred is 1
@@ -218,6 +221,13 @@ DIXPI_STATUS dixpi_sense_find(const uint8_t *bytes, size_t len, struct dixpi_sen
 /* The check that failed (enum dixpi_check), by additional sense code 10h, or 0. Else *by_target is 1 for ABORTED
    COMMAND, which the target answers, and 0 for ILLEGAL REQUEST, which the adapter does. */
 uint32_t dixpi_sense_check(const struct dixpi_sense *sense, uint32_t *by_target);
+
+/* Texts. Each call answers how many bytes its text has, whatever room there is in out, cuts it where it doesn't fit,
+   and ends it with a byte of 0 wherever size isn't 0, as snprintf does. 80 bytes are enough for each. */
+uint64_t dixpi_check_name(uint32_t check, char *out, size_t size);   /* guard, application tag, reference tag */
+uint64_t dixpi_status_text(uint32_t status, char *out, size_t size); /* of enum dixpi_status */
+/* block 7: guard wanted f684, has bdb6 */
+uint64_t dixpi_found_text(const struct dixpi_found *found, char *out, size_t size);
 
 uint32_t dixpi_version(void); /* 0x000200 is 0.2.0 */
 

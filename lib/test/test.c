@@ -651,7 +651,7 @@ static void commands(void) {
     IS(dixpi_cdb_encode(&capacity, out, &len) == DIXPI_BAD_OPCODE);
 }
 
-/* Commands as initiators send them: the tables of SBC-3, clause 5, by hand; those of READ and WRITE with their flags are
+/* Commands as initiators send them: the tables of SBC-3, clause 5, by hand; those of READ and WRITE with flags are
    what Linux' sd and sg3_utils (sg_read, sg_write_x, sg_verify, sg_write_same, sg_compare_and_write) send. */
 static const struct {
     const char *bytes;
@@ -660,10 +660,12 @@ static const struct {
 } COMMANDS[] = {
     /* RDPROTECT 1, DPO, FUA, RARC; group 5. A field of 16 bytes. */
     {"\x28\x3c\0\0\x12\x34\x05\0\x08\0\xee\xee\xee\xee\xee\xee", 10,
-     {.lba = 0x1234, .op = DIXPI_READ_10, .n = 8, .protect = 1, .flags = DIXPI_DPO | DIXPI_FUA | DIXPI_RARC, .group = 5}},
+     {.lba = 0x1234, .op = DIXPI_READ_10, .n = 8, .protect = 1, .flags = DIXPI_DPO | DIXPI_FUA | DIXPI_RARC,
+      .group = 5}},
     /* WRPROTECT 5, FUA_NV; group 63 of SBC-4. */
     {"\x2a\xa2\xff\xff\xff\xff\x3f\xff\xff\x04", 10,
-     {.lba = 0xFFFFFFFF, .op = DIXPI_WRITE_10, .n = 65535, .protect = 5, .flags = DIXPI_FUA_NV, .group = 63, .control = 4}},
+     {.lba = 0xFFFFFFFF, .op = DIXPI_WRITE_10, .n = 65535, .protect = 5, .flags = DIXPI_FUA_NV, .group = 63,
+      .control = 4}},
     /* VRPROTECT 2 with BYTCHK 01b, and 11b with DPO. */
     {"\x2f\x42\0\0\0\x07\0\0\x01\0", 10, {.lba = 7, .op = DIXPI_VERIFY_10, .n = 1, .protect = 2, .bytchk = 1}},
     {"\xaf\x16\0\0\0\x07\0\0\0\x01\0\0", 12,
@@ -800,12 +802,83 @@ static void drawn_commands(void) {
     }
 }
 
+/* Texts into room of each size: what snprintf writes, and nothing behind it. */
+static void says(uint64_t answer, const char *out, size_t size, const char *wanted) {
+    char by_hand[96];
+    memset(by_hand, 'x', sizeof by_hand);
+    IS((uint64_t)snprintf(by_hand, size, "%s", wanted) == answer);
+    IS(!memcmp(out, by_hand, sizeof by_hand));
+}
+
+static void texts(void) {
+    static const char *const WORDS[] = {"no block differs, or it is done", "a block differs", "the layout is none",
+                                        "the length is none", "the operation code isn't served",
+                                        "a field isn't served", "no status"};
+    static const char *const NAMES[] = {"no check", "no check", "guard", "no check", "application tag", "no check",
+                                        "no check", "no check", "reference tag"};
+    for (size_t size = 0; size <= 90; size++) {
+        char out[96], wanted[96];
+        for (uint32_t status = 0; status < 7; status++) {
+            memset(out, 'x', sizeof out);
+            says(dixpi_status_text(status, out, size), out, size, WORDS[status]);
+        }
+        for (uint32_t check = 0; check < 9; check++) {
+            struct dixpi_found f = {(uint64_t)drawn() << drawn() % 33, check, drawn() >> (check < 8 ? 16 : 0),
+                                    drawn() >> 16};
+            memset(out, 'x', sizeof out);
+            says(dixpi_check_name(check, out, size), out, size, NAMES[check]);
+            int digits = check == 8 ? 8 : 4;
+            snprintf(wanted, sizeof wanted, "block %llu: %s wanted %0*x, has %0*x", (unsigned long long)f.block,
+                     NAMES[check], digits, f.expected, digits, f.actual);
+            memset(out, 'x', sizeof out);
+            says(dixpi_found_text(&f, out, size), out, size, wanted);
+        }
+    }
+    char out[96];
+    memset(out, 'x', sizeof out);
+    says(dixpi_found_text(&(struct dixpi_found){7, DIXPI_CHECK_GUARD, 0xF684, 0xBDB6}, out, 96), out, 96,
+         "block 7: guard wanted f684, has bdb6");
+    memset(out, 'x', sizeof out);
+    says(dixpi_found_text(&(struct dixpi_found){UINT64_MAX, 0, UINT32_MAX, 0x10000}, out, 96), out, 96,
+         "block 18446744073709551615: no check wanted ffffffff, has 00010000");
+    IS(dixpi_found_text(&NOTHING, NULL, 0) == strlen("block 9: no check wanted 0009, has 0009"));
+}
+
+/* Descriptor format on wish, which tells the same. */
+static void described_senses(void) {
+    for (int k = 0; k < 2000; k++) {
+        uint64_t info = (uint64_t)drawn() << 32 | drawn();
+        struct dixpi_sense s = {.info = info >> drawn() % 64, .key = (uint8_t)(drawn() % 18), .asc = (uint8_t)drawn(),
+                                .ascq = (uint8_t)drawn(), .has_info = (uint8_t)(drawn() % 2)};
+        uint8_t out[20], wanted[20];
+        struct dixpi_sense seen;
+        uint32_t len = 77, deferred = 77, size = s.key > 15 ? 77 : s.has_info ? 20 : 8;
+        memset(out, 0xEE, 20);
+        memset(wanted, 0xEE, 20);
+        if (s.key < 16)
+            memcpy(wanted, (uint8_t[]){0x72, s.key, s.asc, s.ascq, 0, 0, 0, s.has_info ? 0x0C : 0}, 8);
+        if (s.key < 16 && s.has_info) {
+            memcpy(wanted + 8, "\0\x0a\x80", 4);
+            put64(wanted + 12, s.info);
+        }
+        IS(dixpi_sense_describe(&s, out, &len) == (s.key < 16 ? DIXPI_OK : DIXPI_BAD_FIELD));
+        IS(len == size && !memcmp(out, wanted, 20));
+        if (s.key > 15)
+            continue;
+        IS(dixpi_sense_find(out, len, &seen, &deferred) == DIXPI_OK && deferred == 0);
+        IS(seen.key == s.key && seen.asc == s.asc && seen.ascq == s.ascq && seen.has_info == s.has_info);
+        IS(seen.info == (s.has_info ? s.info : 0));
+    }
+}
+
 int main(void) {
     IS(dixpi_version() == 0x000200);
     guards();
     tuples();
     senses();
     sent_senses();
+    described_senses();
+    texts();
     commands();
     sent_commands();
     drawn_commands();

@@ -10,6 +10,7 @@ ghost use Rattle.pi_blocks.specs.Laws.{AreBytes, AreFineWhenMade, AreFineWhenMad
 ghost use Rattle.pi_blocks.specs.Laws.{IsUndone, MakesTuplesAlone, MakesTuplesApart, MapsTagsAlone, StayFine};
 ghost use Rattle.pi_blocks.specs.Layouts.{AreBlocks, is_good};
 ghost use Rattle.pi_blocks.specs.Seen.{Tells as TellsSense};
+ghost use Rattle.pi_blocks.specs.Senses.{described};
 ghost use Rattle.sense_codes.specs.Written.{Fits as FitsSense, written};
 ghost use Rattle.sense_codes.specs.declared.Sense.{Sense as AnySense};
 ghost use Rattle.pi_blocks.specs.declared.block.Want.{Want as AnyWant};
@@ -60,6 +61,11 @@ pub fn made_blocks_are_fine()
 /// the finder says the same.
 pub fn a_written_sense_is_found()
     ensures { (s : AnySense) → FitsSense s → TellsSense (written s) s false }
+{}
+
+/// The same of the bytes that it is described by.
+pub fn a_described_sense_is_found()
+    ensures { (s : AnySense) → FitsSense s → TellsSense (described s) s false }
 {}
 
 /// The codec's bytes of a command are those of its numbers with flags, group and control 0: with these, encoder and

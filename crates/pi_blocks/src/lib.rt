@@ -26,9 +26,10 @@ pub use block::{Found, Want};
 pub use checking::verify;
 pub use commands::CdbFields;
 pub use laws::{
-    a_check_has_one_answer, a_written_sense_is_found, commands_that_are_read_are_written,
-    made_blocks_are_fine, making_writes_tuples_alone, mapped_blocks_stay_fine,
-    mapping_back_undoes_mapping, mapping_changes_tags_alone, plain_commands_are_the_codecs,
+    a_check_has_one_answer, a_described_sense_is_found, a_written_sense_is_found,
+    commands_that_are_read_are_written, made_blocks_are_fine, making_writes_tuples_alone,
+    mapped_blocks_stay_fine, mapping_back_undoes_mapping, mapping_changes_tags_alone,
+    plain_commands_are_the_codecs,
 };
 pub use layout::{Layout, Refusal, Unchecked};
 pub use making::generate;
