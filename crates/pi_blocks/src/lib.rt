@@ -29,7 +29,7 @@ pub use laws::{
     a_check_has_one_answer, a_described_sense_is_found, a_written_sense_is_found,
     commands_that_are_read_are_written, made_blocks_are_fine, making_writes_tuples_alone,
     mapped_blocks_stay_fine, mapping_back_undoes_mapping, mapping_changes_tags_alone,
-    plain_commands_are_the_codecs,
+    plain_commands_are_the_codecs, unread_bytes_tell_nothing,
 };
 pub use layout::{Layout, Refusal, Unchecked};
 pub use making::generate;
