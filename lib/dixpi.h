@@ -150,6 +150,55 @@ DIXPI_STATUS dixpi_cdb_encode(const struct dixpi_cdb *cdb, uint8_t out[32], uint
    bit is set outside the fields above. */
 DIXPI_STATUS dixpi_cdb_decode(const uint8_t *bytes, size_t len, struct dixpi_cdb *cdb);
 
+/* Commands as initiators send them, with each bit that they may set (SBC-3, clause 5; DLD and the sixth bit of the
+   group number by SBC-4), in a field that may be longer than the command. */
+enum dixpi_more_ops { /* beside those of enum dixpi_op */
+    DIXPI_READ_12 = 0xA8,
+    DIXPI_WRITE_12 = 0xAA,
+    DIXPI_VERIFY_12 = 0xAF,
+    DIXPI_VERIFY_32 = 0x7F0A,
+    DIXPI_WRITE_AND_VERIFY_10 = 0x2E,
+    DIXPI_WRITE_AND_VERIFY_12 = 0xAE,
+    DIXPI_WRITE_AND_VERIFY_16 = 0x8E,
+    DIXPI_WRITE_AND_VERIFY_32 = 0x7F0C,
+    DIXPI_WRITE_SAME_10 = 0x41,
+    DIXPI_WRITE_SAME_16 = 0x93,
+    DIXPI_WRITE_SAME_32 = 0x7F0D,
+    DIXPI_COMPARE_AND_WRITE = 0x89
+};
+/* Beside DIXPI_FUA of READ, WRITE and COMPARE AND WRITE, and DIXPI_DPO of these, VERIFY and WRITE AND VERIFY. */
+enum dixpi_command_flag {
+    DIXPI_FUA_NV = 0x02, /* where FUA is */
+    DIXPI_RARC = 0x04,   /* of READ */
+    DIXPI_NDOB = 0x100,  /* of WRITE SAME(16) and (32) */
+    DIXPI_UNMAP = 0x800, /* of WRITE SAME, as ANCHOR */
+    DIXPI_ANCHOR = 0x1000
+};
+struct dixpi_command {
+    uint64_t lba;       /* these six as in struct dixpi_cdb; n of COMPARE AND WRITE is below 256 */
+    uint32_t op, n, ref;
+    uint16_t app, mask;
+    uint32_t protect;   /* RDPROTECT, WRPROTECT, VRPROTECT: 0 to 5 */
+    uint32_t flags;     /* enum dixpi_cdb_flag and enum dixpi_command_flag, added */
+    uint32_t bytchk;    /* BYTCHK of VERIFY and WRITE AND VERIFY, 0 to 3; else 0 */
+    uint32_t dld;       /* duration limit of READ and WRITE of 16 and 32 bytes, 0 to 7; else 0 */
+    uint32_t group;     /* GROUP NUMBER, below 64; of READ CAPACITY 0 */
+    uint32_t control;   /* CONTROL, below 256 */
+};
+/* How many bytes a command has, by its operation code and behind 7Fh by its byte 7, whether or not it is served; 0
+   where the bytes don't tell it: none, fewer than 8 behind 7Fh, or a code that is reserved or a vendor's. */
+uint32_t dixpi_cdb_len(const uint8_t *bytes, size_t len);
+/* Writes 10, 12, 16 or 32 bytes to out and their number to *len; the rest of out stays. DIXPI_BAD_OPCODE, or
+   DIXPI_BAD_FIELD where the form can't carry a number. */
+DIXPI_STATUS dixpi_command_encode(const struct dixpi_command *command, uint8_t out[32], uint32_t *len);
+/* The inverse, of bytes that begin with the command; what stands behind it isn't read. DIXPI_BAD_LENGTH where there are
+   fewer than it asks for, DIXPI_BAD_FIELD also where a bit is set outside the fields. */
+DIXPI_STATUS dixpi_command_decode(const uint8_t *bytes, size_t len, struct dixpi_command *command);
+/* The checks that a protect field asks of the protection information that travels, for `checks` of struct dixpi_want:
+   all for 1 and 5, the tags for 2, the guard for 4; DIXPI_CHECK_NONE for 3, and for 0, with which none travels; else 0,
+   which no check takes. */
+uint32_t dixpi_protect_checks(uint32_t protect);
+
 /* Sense data. */
 struct dixpi_sense {
     uint64_t info;          /* INFORMATION: the LBA of the block that the sense speaks of */
@@ -159,7 +208,10 @@ struct dixpi_sense {
 /* Writes 18 bytes (fixed format), or 20 (descriptor format) where info needs 64 bits, and their number to *len. The
    rest of out stays. DIXPI_BAD_FIELD: the key isn't below 16. */
 DIXPI_STATUS dixpi_sense_encode(const struct dixpi_sense *sense, uint8_t out[20], uint32_t *len);
-/* The inverse: DIXPI_BAD_LENGTH where the response code asks for more bytes, DIXPI_BAD_FIELD for any other form. */
+/* The same in descriptor format, as where D_SENSE is 1: 8 bytes, or 20 where there is an information. */
+DIXPI_STATUS dixpi_sense_describe(const struct dixpi_sense *sense, uint8_t out[20], uint32_t *len);
+/* The inverse of _encode: DIXPI_BAD_LENGTH where the response code asks for more bytes, DIXPI_BAD_FIELD for any other
+   form. */
 DIXPI_STATUS dixpi_sense_decode(const uint8_t *bytes, size_t len, struct dixpi_sense *sense);
 /* Sense data as devices send them: response codes 70h to 73h, of any length from the qualifier on, whatever stands
    elsewhere. info is that of the fixed format or of the first information descriptor, where it is valid. *deferred is 1
@@ -169,6 +221,13 @@ DIXPI_STATUS dixpi_sense_find(const uint8_t *bytes, size_t len, struct dixpi_sen
 /* The check that failed (enum dixpi_check), by additional sense code 10h, or 0. Else *by_target is 1 for ABORTED
    COMMAND, which the target answers, and 0 for ILLEGAL REQUEST, which the adapter does. */
 uint32_t dixpi_sense_check(const struct dixpi_sense *sense, uint32_t *by_target);
+
+/* Texts. Each call answers how many bytes its text has, whatever room there is in out, cuts it where it doesn't fit,
+   and ends it with a byte of 0 wherever size isn't 0, as snprintf does. 80 bytes are enough for each. */
+uint64_t dixpi_check_name(uint32_t check, char *out, size_t size);   /* guard, application tag, reference tag */
+uint64_t dixpi_status_text(uint32_t status, char *out, size_t size); /* of enum dixpi_status */
+/* block 7: guard wanted f684, has bdb6 */
+uint64_t dixpi_found_text(const struct dixpi_found *found, char *out, size_t size);
 
 uint32_t dixpi_version(void); /* 0x000200 is 0.2.0 */
 

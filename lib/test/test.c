@@ -30,6 +30,13 @@ static_assert(offsetof(struct dixpi_cdb, app) == 20 && offsetof(struct dixpi_cdb
 static_assert(offsetof(struct dixpi_cdb, protect) == 24 && offsetof(struct dixpi_cdb, flags) == 28, "cdb");
 static_assert(offsetof(struct dixpi_cdb, group) == 32 && offsetof(struct dixpi_cdb, control) == 36, "cdb");
 
+static_assert(sizeof(struct dixpi_command) == 48 && offsetof(struct dixpi_command, op) == 8, "command");
+static_assert(offsetof(struct dixpi_command, n) == 12 && offsetof(struct dixpi_command, ref) == 16, "command");
+static_assert(offsetof(struct dixpi_command, app) == 20 && offsetof(struct dixpi_command, mask) == 22, "command");
+static_assert(offsetof(struct dixpi_command, protect) == 24 && offsetof(struct dixpi_command, flags) == 28, "command");
+static_assert(offsetof(struct dixpi_command, bytchk) == 32 && offsetof(struct dixpi_command, dld) == 36, "command");
+static_assert(offsetof(struct dixpi_command, group) == 40 && offsetof(struct dixpi_command, control) == 44, "command");
+
 static unsigned passed, failed;
 
 static void is_true(int holds, int line, const char *what) {
@@ -665,14 +672,238 @@ static void commands(void) {
     IS(dixpi_cdb_encode(&capacity, out, &len) == DIXPI_BAD_OPCODE);
 }
 
+/* Commands as initiators send them: the tables of SBC-3, clause 5, by hand; those of READ and WRITE with flags are
+   what Linux' sd and sg3_utils (sg_read, sg_write_x, sg_verify, sg_write_same, sg_compare_and_write) send. */
+static const struct {
+    const char *bytes;
+    size_t len;
+    struct dixpi_command says;
+} COMMANDS[] = {
+    /* RDPROTECT 1, DPO, FUA, RARC; group 5. A field of 16 bytes. */
+    {"\x28\x3c\0\0\x12\x34\x05\0\x08\0\xee\xee\xee\xee\xee\xee", 10,
+     {.lba = 0x1234, .op = DIXPI_READ_10, .n = 8, .protect = 1, .flags = DIXPI_DPO | DIXPI_FUA | DIXPI_RARC,
+      .group = 5}},
+    /* WRPROTECT 5, FUA_NV; group 63 of SBC-4. */
+    {"\x2a\xa2\xff\xff\xff\xff\x3f\xff\xff\x04", 10,
+     {.lba = 0xFFFFFFFF, .op = DIXPI_WRITE_10, .n = 65535, .protect = 5, .flags = DIXPI_FUA_NV, .group = 63,
+      .control = 4}},
+    /* VRPROTECT 2 with BYTCHK 01b, and 11b with DPO. */
+    {"\x2f\x42\0\0\0\x07\0\0\x01\0", 10, {.lba = 7, .op = DIXPI_VERIFY_10, .n = 1, .protect = 2, .bytchk = 1}},
+    {"\xaf\x16\0\0\0\x07\0\0\0\x01\0\0", 12,
+     {.lba = 7, .op = DIXPI_VERIFY_12, .n = 1, .flags = DIXPI_DPO, .bytchk = 3}},
+    {"\x8f\x62\0\0\0\1\0\0\0\0\0\0\1\0\x1f\0", 16,
+     {.lba = 0x100000000, .op = DIXPI_VERIFY_16, .n = 256, .protect = 3, .bytchk = 1, .group = 31}},
+    /* READ(12) and WRITE(12). */
+    {"\xa8\x20\0\0\0\1\0\1\0\0\x02\0", 12, {.lba = 1, .op = DIXPI_READ_12, .n = 65536, .protect = 1, .group = 2}},
+    {"\xaa\x08\0\0\0\1\0\0\0\2\0\0", 12, {.lba = 1, .op = DIXPI_WRITE_12, .n = 2, .flags = DIXPI_FUA}},
+    /* READ(16) with duration limits: the third bit stands in byte 1, the others in bits 7 and 6 of byte 14. */
+    {"\x88\x21\0\0\0\0\0\0\x12\x34\0\0\0\x08\x40\0", 16,
+     {.lba = 0x1234, .op = DIXPI_READ_16, .n = 8, .protect = 1, .dld = 5}},
+    {"\x8a\x28\0\0\0\0\0\0\x12\x34\0\0\0\x08\xc3\0", 16,
+     {.lba = 0x1234, .op = DIXPI_WRITE_16, .n = 8, .protect = 1, .flags = DIXPI_FUA, .dld = 3, .group = 3}},
+    /* WRITE AND VERIFY, WRITE SAME, COMPARE AND WRITE. */
+    {"\x2e\x32\0\0\0\x09\0\0\x02\0", 10,
+     {.lba = 9, .op = DIXPI_WRITE_AND_VERIFY_10, .n = 2, .protect = 1, .flags = DIXPI_DPO, .bytchk = 1}},
+    {"\xae\x02\0\0\0\x09\0\0\0\2\0\0", 12, {.lba = 9, .op = DIXPI_WRITE_AND_VERIFY_12, .n = 2, .bytchk = 1}},
+    {"\x8e\x20\0\0\0\0\0\0\0\x09\0\0\0\2\0\0", 16,
+     {.lba = 9, .op = DIXPI_WRITE_AND_VERIFY_16, .n = 2, .protect = 1}},
+    {"\x41\x08\0\0\0\x09\0\0\0\0", 10, {.lba = 9, .op = DIXPI_WRITE_SAME_10, .flags = DIXPI_UNMAP}},
+    {"\x93\x39\0\0\0\0\0\0\0\x09\0\0\x10\0\0\0", 16,
+     {.lba = 9, .op = DIXPI_WRITE_SAME_16, .n = 4096, .protect = 1, .flags = DIXPI_ANCHOR | DIXPI_UNMAP | DIXPI_NDOB}},
+    {"\x89\x38\0\0\0\0\0\0\0\x09\0\0\0\1\0\0", 16,
+     {.lba = 9, .op = DIXPI_COMPARE_AND_WRITE, .n = 1, .protect = 1, .flags = DIXPI_DPO | DIXPI_FUA}},
+    /* Of 32 bytes: expected tags, and the duration limit in byte 11. */
+    {"\x7f\0\0\0\0\0\0\x18\0\x09\x28\x05\0\0\0\0\0\0\x12\x34\0\0\x12\x34\0\0\0\0\0\0\0\x08", 32,
+     {.lba = 0x1234, .op = DIXPI_READ_32, .n = 8, .ref = 0x1234, .protect = 1, .flags = DIXPI_FUA, .dld = 5}},
+    {"\x7f\x04\0\0\0\0\x07\x18\0\x0a\x32\0\0\0\0\1\0\0\0\2\0\0\0\2\xbe\xef\xff\xff\0\0\0\1", 32,
+     {.lba = 0x100000002, .op = DIXPI_VERIFY_32, .n = 1, .ref = 2, .app = 0xBEEF, .mask = 0xFFFF, .protect = 1,
+      .flags = DIXPI_DPO, .bytchk = 1, .group = 7, .control = 4}},
+    {"\x7f\0\0\0\0\0\0\x18\0\x0b\x22\0\0\0\0\0\0\0\0\2\0\0\0\2\0\0\0\0\0\0\0\1", 32,
+     {.lba = 2, .op = DIXPI_WRITE_32, .n = 1, .ref = 2, .protect = 1, .flags = DIXPI_FUA_NV}},
+    {"\x7f\0\0\0\0\0\0\x18\0\x0c\x22\0\0\0\0\0\0\0\0\2\0\0\0\2\0\0\0\0\0\0\0\1", 32,
+     {.lba = 2, .op = DIXPI_WRITE_AND_VERIFY_32, .n = 1, .ref = 2, .protect = 1, .bytchk = 1}},
+    {"\x7f\0\0\0\0\0\0\x18\0\x0d\x21\0\0\0\0\0\0\0\0\2\0\0\0\2\0\0\0\0\0\0\0\1", 32,
+     {.lba = 2, .op = DIXPI_WRITE_SAME_32, .n = 1, .ref = 2, .protect = 1, .flags = DIXPI_NDOB}},
+    {"\x9e\x10\0\0\0\0\0\0\0\0\0\0\0\x20\0\0", 16, {.op = DIXPI_READ_CAPACITY_16, .n = 32}},
+};
+
+/* Bytes that aren't served, in a buffer of so many, and why. */
+static const struct {
+    const char *bytes;
+    size_t len, is;
+    uint32_t status;
+} REFUSED[] = {
+    {"", 0, 0, DIXPI_BAD_LENGTH},
+    {"\x28\0\0\0\0\0\0\0\0", 9, 10, DIXPI_BAD_LENGTH},
+    {"\x88\0\0\0\0\0\0\0\0\0\0\0", 12, 16, DIXPI_BAD_LENGTH},
+    {"\x7f\0\0\0\0\0\0", 7, 0, DIXPI_BAD_LENGTH},
+    {"\x7f\0\0\0\0\0\0\x18\0\x09\0\0\0\0\0\0", 16, 32, DIXPI_BAD_LENGTH},
+    {"\x7f\0\0\0\0\0\0\x10\0\x09\0\0\0\0\0\0\0\0\0\0\0\0\0\0", 24, 24, DIXPI_BAD_FIELD},
+    {"\x7f\0\0\0\0\0\0\x18\x88\x09\0\0\0\0\0\0\0\0\0\0\0\0\0\0\0\0\0\0\0\0\0\0", 32, 32, DIXPI_BAD_OPCODE},
+    {"\x12\0\0\0\x24\0", 6, 6, DIXPI_BAD_OPCODE},
+    {"\x9e\x12\0\0\0\0\0\0\0\0\0\0\0\x20\0\0", 16, 16, DIXPI_BAD_OPCODE},
+    {"\xc1\0\0\0\0\0\0\0\0\0", 10, 0, DIXPI_BAD_OPCODE},
+    {"\x28\xc0\0\0\0\0\0\0\0\0", 10, 10, DIXPI_BAD_FIELD}, /* RDPROTECT 6 */
+    {"\x2a\x04\0\0\0\0\0\0\0\0", 10, 10, DIXPI_BAD_FIELD}, /* RARC of WRITE */
+    {"\x2f\x08\0\0\0\0\0\0\0\0", 10, 10, DIXPI_BAD_FIELD}, /* FUA of VERIFY */
+    {"\x41\x01\0\0\0\0\0\0\0\0", 10, 10, DIXPI_BAD_FIELD}, /* NDOB of WRITE SAME(10) */
+    {"\x89\0\0\0\0\0\0\0\0\0\0\0\1\0\0\0", 16, 16, DIXPI_BAD_FIELD}, /* 256 blocks of COMPARE AND WRITE */
+};
+
+static void sent_commands(void) {
+    for (size_t i = 0; i < sizeof COMMANDS / sizeof *COMMANDS; i++) {
+        size_t len = COMMANDS[i].len;
+        uint8_t out[32], *bytes = fenced(len), *field = fenced(32);
+        struct dixpi_command back;
+        uint32_t count = 77;
+        memcpy(bytes, COMMANDS[i].bytes, len);
+        fill(field, 32);
+        memcpy(field, COMMANDS[i].bytes, len);
+        IS(dixpi_cdb_len(bytes, len) == len && dixpi_cdb_len(field, 32) == len);
+        memset(&back, 0x5A, sizeof back);
+        IS(dixpi_command_decode(bytes, len, &back) == DIXPI_OK && !memcmp(&back, &COMMANDS[i].says, sizeof back));
+        memset(&back, 0x5A, sizeof back);
+        IS(dixpi_command_decode(field, 32, &back) == DIXPI_OK && !memcmp(&back, &COMMANDS[i].says, sizeof back));
+        IS(dixpi_command_decode(bytes, len - 1, &back) == DIXPI_BAD_LENGTH);
+        memset(out, 0xEE, 32);
+        IS(dixpi_command_encode(&COMMANDS[i].says, out, &count) == DIXPI_OK && count == len);
+        IS(!memcmp(out, bytes, len));
+        for (size_t k = len; k < 32; k++)
+            IS(out[k] == 0xEE);
+    }
+    for (size_t i = 0; i < sizeof REFUSED / sizeof *REFUSED; i++) {
+        uint8_t *bytes = fenced(REFUSED[i].len);
+        struct dixpi_command back = COMMANDS[0].says;
+        memcpy(bytes, REFUSED[i].bytes, REFUSED[i].len);
+        IS(dixpi_cdb_len(bytes, REFUSED[i].len) == REFUSED[i].is);
+        IS(dixpi_command_decode(bytes, REFUSED[i].len, &back) == REFUSED[i].status);
+        IS(!memcmp(&back, &COMMANDS[0].says, sizeof back));
+    }
+    static const uint32_t ASKED[] = {1, 14, 12, 1, 2, 14, 0, 0, 0};
+    for (uint32_t i = 0; i < 9; i++)
+        IS(dixpi_protect_checks(i) == ASKED[i]);
+}
+
+/* Numbers that draw themselves: what encodes decodes to the same, what decodes encodes to the same, each bit that is
+   flipped is seen or refused, and both decoders agree where the exact one answers. */
+static void drawn_commands(void) {
+    for (int k = 0; k < 20000; k++) {
+        struct dixpi_command c = COMMANDS[drawn() % (sizeof COMMANDS / sizeof *COMMANDS)].says, back, again;
+        uint8_t out[32], twice[32];
+        uint32_t len, more;
+        switch (drawn() % 8) {
+        case 0: c.flags ^= 1u << drawn() % 14; break;
+        case 1: c.protect = drawn() % 8; break;
+        case 2: c.dld = drawn() % 9; break;
+        case 3: c.bytchk = drawn() % 5; break;
+        case 4: c.group = drawn() % 66; break;
+        case 5: c.lba ^= 1ull << drawn() % 64; break;
+        case 6: c.n ^= 1u << drawn() % 32; break;
+        default: c.op ^= 1u << drawn() % 16;
+        }
+        memset(out, 0xEE, 32);
+        if (dixpi_command_encode(&c, out, &len) != DIXPI_OK)
+            continue;
+        IS(len == dixpi_cdb_len(out, 32));
+        IS(dixpi_command_decode(out, 32, &back) == DIXPI_OK && !memcmp(&back, &c, sizeof c));
+        out[drawn() % len] ^= (uint8_t)(1 << drawn() % 8);
+        if (dixpi_command_decode(out, 32, &again) == DIXPI_OK) {
+            IS(memcmp(&again, &c, sizeof c) != 0);
+            IS(dixpi_command_encode(&again, twice, &more) == DIXPI_OK && !memcmp(twice, out, more));
+        }
+        struct dixpi_cdb exact;
+        uint32_t is = dixpi_cdb_len(out, 32);
+        if (is && is <= 32 && dixpi_cdb_decode(out, is, &exact) == DIXPI_OK) {
+            IS(dixpi_command_decode(out, 32, &again) == DIXPI_OK);
+            IS(again.lba == exact.lba && again.op == exact.op && again.n == exact.n && again.ref == exact.ref);
+            IS(again.app == exact.app && again.mask == exact.mask && again.protect == exact.protect);
+            IS(again.flags == exact.flags && again.group == exact.group && again.control == exact.control);
+            IS(!again.bytchk && !again.dld);
+        }
+    }
+}
+
+/* Texts into room of each size: what snprintf writes, and nothing behind it. */
+static void says(uint64_t answer, const char *out, size_t size, const char *wanted) {
+    char by_hand[96];
+    memset(by_hand, 'x', sizeof by_hand);
+    IS((uint64_t)snprintf(by_hand, size, "%s", wanted) == answer);
+    IS(!memcmp(out, by_hand, sizeof by_hand));
+}
+
+static void texts(void) {
+    static const char *const WORDS[] = {"no block differs, or it is done", "a block differs", "the layout is none",
+                                        "the length is none", "the operation code isn't served",
+                                        "a field isn't served", "no status"};
+    static const char *const NAMES[] = {"no check", "no check", "guard", "no check", "application tag", "no check",
+                                        "no check", "no check", "reference tag"};
+    for (size_t size = 0; size <= 90; size++) {
+        char out[96], wanted[96];
+        for (uint32_t status = 0; status < 7; status++) {
+            memset(out, 'x', sizeof out);
+            says(dixpi_status_text(status, out, size), out, size, WORDS[status]);
+        }
+        for (uint32_t check = 0; check < 9; check++) {
+            struct dixpi_found f = {(uint64_t)drawn() << drawn() % 33, check, drawn() >> (check < 8 ? 16 : 0),
+                                    drawn() >> 16};
+            memset(out, 'x', sizeof out);
+            says(dixpi_check_name(check, out, size), out, size, NAMES[check]);
+            int digits = check == 8 ? 8 : 4;
+            snprintf(wanted, sizeof wanted, "block %llu: %s wanted %0*x, has %0*x", (unsigned long long)f.block,
+                     NAMES[check], digits, f.expected, digits, f.actual);
+            memset(out, 'x', sizeof out);
+            says(dixpi_found_text(&f, out, size), out, size, wanted);
+        }
+    }
+    char out[96];
+    memset(out, 'x', sizeof out);
+    says(dixpi_found_text(&(struct dixpi_found){7, DIXPI_CHECK_GUARD, 0xF684, 0xBDB6}, out, 96), out, 96,
+         "block 7: guard wanted f684, has bdb6");
+    memset(out, 'x', sizeof out);
+    says(dixpi_found_text(&(struct dixpi_found){UINT64_MAX, 0, UINT32_MAX, 0x10000}, out, 96), out, 96,
+         "block 18446744073709551615: no check wanted ffffffff, has 00010000");
+    IS(dixpi_found_text(&NOTHING, NULL, 0) == strlen("block 9: no check wanted 0009, has 0009"));
+}
+
+/* Descriptor format on wish, which tells the same. */
+static void described_senses(void) {
+    for (int k = 0; k < 2000; k++) {
+        uint64_t info = (uint64_t)drawn() << 32 | drawn();
+        struct dixpi_sense s = {.info = info >> drawn() % 64, .key = (uint8_t)(drawn() % 18), .asc = (uint8_t)drawn(),
+                                .ascq = (uint8_t)drawn(), .has_info = (uint8_t)(drawn() % 2)};
+        uint8_t out[20], wanted[20];
+        struct dixpi_sense seen;
+        uint32_t len = 77, deferred = 77, size = s.key > 15 ? 77 : s.has_info ? 20 : 8;
+        memset(out, 0xEE, 20);
+        memset(wanted, 0xEE, 20);
+        if (s.key < 16)
+            memcpy(wanted, (uint8_t[]){0x72, s.key, s.asc, s.ascq, 0, 0, 0, s.has_info ? 0x0C : 0}, 8);
+        if (s.key < 16 && s.has_info) {
+            memcpy(wanted + 8, "\0\x0a\x80", 4);
+            put64(wanted + 12, s.info);
+        }
+        IS(dixpi_sense_describe(&s, out, &len) == (s.key < 16 ? DIXPI_OK : DIXPI_BAD_FIELD));
+        IS(len == size && !memcmp(out, wanted, 20));
+        if (s.key > 15)
+            continue;
+        IS(dixpi_sense_find(out, len, &seen, &deferred) == DIXPI_OK && deferred == 0);
+        IS(seen.key == s.key && seen.asc == s.asc && seen.ascq == s.ascq && seen.has_info == s.has_info);
+        IS(seen.info == (s.has_info ? s.info : 0));
+    }
+}
+
 int main(void) {
     IS(dixpi_version() == 0x000200);
     guards();
     tuples();
     senses();
     sent_senses();
+    described_senses();
+    texts();
     commands();
     empty_parts();
+    sent_commands();
+    drawn_commands();
     for (size_t i = 0; i < sizeof LAYOUTS / sizeof *LAYOUTS; i++)
         for (uint32_t type = 1; type <= 3; type++)
             for (uint32_t guard = DIXPI_CRC; guard <= DIXPI_IP; guard++) {

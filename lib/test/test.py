@@ -45,6 +45,12 @@ class Cdb(ctypes.Structure):
     _fields_ += [(name, c_uint32) for name in ("protect", "flags", "group", "control")]
 
 
+class Command(ctypes.Structure):
+    _fields_ = [("lba", c_uint64)] + [(name, c_uint32) for name in ("op", "n", "ref")]
+    _fields_ += [("app", c_uint16), ("mask", c_uint16)]
+    _fields_ += [(name, c_uint32) for name in ("protect", "flags", "bytchk", "dld", "group", "control")]
+
+
 class Part(ctypes.Structure):
     _fields_ = [("base", c_void_p), ("len", c_size_t)]
 
@@ -52,7 +58,7 @@ class Part(ctypes.Structure):
 dixpi = ctypes.CDLL(sys.argv[1])
 layout_at, want_at, found_at, parts_at = POINTER(Layout), POINTER(Want), POINTER(Found), POINTER(Part)
 tuple_at, run_at, sense_at, number_at = POINTER(Tuple), POINTER(Run), POINTER(Sense), POINTER(c_uint32)
-cdb_at = POINTER(Cdb)
+cdb_at, command_at = POINTER(Cdb), POINTER(Command)
 TYPES = {
     "crc16": (c_uint16, c_void_p, c_size_t),
     "crc16_after": (c_uint16, c_uint16, c_void_p, c_size_t),
@@ -76,6 +82,14 @@ TYPES = {
     ),
     "cdb_encode": (c_uint32, cdb_at, c_void_p, number_at),
     "cdb_decode": (c_uint32, c_void_p, c_size_t, cdb_at),
+    "cdb_len": (c_uint32, c_void_p, c_size_t),
+    "command_encode": (c_uint32, command_at, c_void_p, number_at),
+    "command_decode": (c_uint32, c_void_p, c_size_t, command_at),
+    "protect_checks": (c_uint32, c_uint32),
+    "sense_describe": (c_uint32, sense_at, c_void_p, number_at),
+    "check_name": (c_uint64, c_uint32, c_void_p, c_size_t),
+    "status_text": (c_uint64, c_uint32, c_void_p, c_size_t),
+    "found_text": (c_uint64, found_at, c_void_p, c_size_t),
     "sense_encode": (c_uint32, sense_at, c_void_p, number_at),
     "sense_decode": (c_uint32, c_void_p, c_size_t, sense_at),
     "sense_find": (c_uint32, c_void_p, c_size_t, sense_at, number_at),
@@ -186,6 +200,8 @@ long = memory(bytes.fromhex("f0000b0000123458000000001003") + bytes(82))
 holds("sense_decode, of a device", dixpi.dixpi_sense_decode(long, 96, back) == 5)
 holds("sense_find", dixpi.dixpi_sense_find(long, 96, back, by_target) == 0 and by_target.value == 0)
 holds("the sense found", (back.key, back.asc, back.ascq, back.info) == (0xB, 0x10, 3, 0x1234))
+holds("sense_describe", dixpi.dixpi_sense_describe(sense, out, length) == 0 and length.value == 20)
+holds("the sense described", bytes(out) == bytes.fromhex("720b10030000000c000a80000000000000001234"))
 sense.info = 1 << 32
 wide = bytes.fromhex("720b10030000000c000a80000000000100000000")
 holds("sense_encode, 64 bits", dixpi.dixpi_sense_encode(sense, out, length) == 0 and length.value == 20)
@@ -205,6 +221,30 @@ out[10] |= 4
 holds("cdb_decode, a bit", dixpi.dixpi_cdb_decode(out, 32, back) == 5)
 cdb.op = 0x7F0A
 holds("cdb_encode, an operation code", dixpi.dixpi_cdb_encode(cdb, out, length) == 4)
+
+# READ(16) with RDPROTECT 1, FUA and duration limit 5, in a field of 32 bytes.
+command = Command(0x1234, 0x88, 8, 0, 0, 0, 1, 8, 0, 5, 3, 0)
+wire = bytes.fromhex("88290000000000001234000000084300")
+out, back = memory(bytes(32)), Command()
+holds("command_encode", dixpi.dixpi_command_encode(command, out, length) == 0 and length.value == 16)
+holds("its bytes", bytes(out) == wire + bytes(16))
+holds("cdb_len", dixpi.dixpi_cdb_len(out, 32) == 16 and dixpi.dixpi_cdb_len(memory(b"\xc0"), 1) == 0)
+holds("command_decode", dixpi.dixpi_command_decode(memory(wire + b"x" * 16), 32, back) == 0)
+holds("its numbers", bytes(back) == bytes(command))
+holds("command_decode, cut", dixpi.dixpi_command_decode(out, 15, back) == 3)
+asked = [dixpi.dixpi_protect_checks(protect) for protect in range(8)]
+holds("protect_checks", asked == [1, 14, 12, 1, 2, 14, 0, 0])
+
+text = memory(b"x" * 80)
+for call, argument, wanted in (
+    (dixpi.dixpi_found_text, Found(7, 2, 0xF684, 0xBDB6), b"block 7: guard wanted f684, has bdb6"),
+    (dixpi.dixpi_found_text, Found(5, 8, 105, 9), b"block 5: reference tag wanted 00000069, has 00000009"),
+    (dixpi.dixpi_check_name, 4, b"application tag"),
+    (dixpi.dixpi_status_text, 1, b"a block differs"),
+):
+    holds("a text's length", call(argument, text, 80) == len(wanted))
+    holds("a text", bytes(text).split(b"\0")[0] == wanted)
+    holds("a text that is cut", call(argument, text, 6) == len(wanted) and bytes(text)[:6] == wanted[:5] + b"\0")
 
 print(f"test.py: {passed} passed, {failed} failed")
 sys.exit(failed != 0)

@@ -6,7 +6,8 @@ use pi_blocks::CdbFields;
 use std::alloc::{AllocError, Global};
 use test_table::{Words, bytes_of, hex_of};
 
-fn refusal(alloc: Global, why: CdbFault) -> Result<String, AllocError> {
+/// What is wrong with bytes or numbers.
+pub(crate) fn refusal(alloc: Global, why: CdbFault) -> Result<String, AllocError> {
     String::from_str(
         alloc,
         match why {

@@ -3,6 +3,7 @@
 
 mod apart;
 mod commands;
+mod device;
 mod guards;
 mod in_line;
 mod senses;
@@ -67,6 +68,10 @@ impl Judge for Table {
             "tuple" => single::read(alloc, words.rest()),
             "cdb_encode" => commands::encoded(alloc, &mut words),
             "cdb_decode" => commands::decoded(alloc, words.rest()),
+            "cdb_len" => device::counted(alloc, words.rest()),
+            "command_encode" => device::encoded(alloc, &mut words),
+            "command_decode" => device::decoded(alloc, words.rest()),
+            "protect_checks" => device::asked(alloc, &mut words),
             "sense_encode" => senses::encoded(alloc, &mut words),
             "sense_decode" => senses::decoded(alloc, words.rest()),
             "sense_check" => senses::told(alloc, &mut words),

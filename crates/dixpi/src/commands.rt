@@ -7,19 +7,8 @@ ghost use Rattle.pi_blocks.specs.Commands.{Reads, cleared, encoded};
 ghost use Rattle.pi_blocks.specs.declared.commands.CdbFields.{CdbFields as AnyFields};
 ghost use Rattle.dixpi.specs.Faults.{status_of};
 
-use crate::status::{BAD_FIELD, BAD_LENGTH, BAD_OPCODE, OK};
-use cdb_codec::CdbFault;
+use crate::status::{OK, status_of_fault};
 use pi_blocks::CdbFields;
-
-fn status_of(fault: CdbFault) -> u32
-    ensures { result ≡ status_of fault }
-{
-    match fault {
-        CdbFault::Opcode => BAD_OPCODE,
-        CdbFault::Field => BAD_FIELD,
-        CdbFault::Length => BAD_LENGTH,
-    }
-}
 
 /// Writes a command (SBC-3, 5.11 to 5.35) to the front of `out`, in 10, 16 or 32 bytes, and their number to `len`.
 /// Answers `OK`, `BAD_OPCODE`, or `BAD_FIELD` where a field doesn't fit its form.
@@ -35,7 +24,7 @@ pub extern "C" fn dixpi_cdb_encode(cdb: &CdbFields, out: &mut [u8; 32], len: &mu
             *len = count as u32;
             OK
         }
-        Err(fault) => status_of(fault),
+        Err(fault) => status_of_fault(fault),
     }
 }
 
@@ -54,6 +43,6 @@ pub extern "C" fn dixpi_cdb_decode(bytes: &[u8], cdb: &mut CdbFields) -> u32
             *cdb = fields;
             OK
         }
-        Err(fault) => status_of(fault),
+        Err(fault) => status_of_fault(fault),
     }
 }

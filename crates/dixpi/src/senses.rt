@@ -9,7 +9,7 @@ ghost use Rattle.sense_codes.specs.declared.Sense.{Sense as AnySense};
 ghost use Rattle.sense_codes.specs.declared.decode.SenseFault.TheVariants.{Short, Form};
 ghost use Rattle.sense_codes.specs.declared.layer.Layer.{Layer};
 ghost use Rattle.pi_blocks.specs.Blocks.{number_of};
-ghost use Rattle.pi_blocks.specs.Senses.{sense_fields, sense_of};
+ghost use Rattle.pi_blocks.specs.Senses.{described, sense_fields, sense_of};
 ghost use Rattle.dixpi.specs.Layers.{by_target_of};
 
 use crate::status::{BAD_FIELD, BAD_LENGTH, OK};
@@ -27,6 +27,26 @@ pub extern "C" fn dixpi_sense_encode(sense: &SenseFields, out: &mut [u8; 20], le
     ensures one_of { (result ≡ 0) ⊎ (result ≡ 5) }
 {
     let Some(count) = sense.encode(out) else {
+        return BAD_FIELD;
+    };
+    *len = count as u32;
+    OK
+}
+
+/// Writes the bytes of sense data in descriptor format (SPC-4, 4.5.2) to the front of `out`, and their number to `len`: 8,
+/// or 20 where there is an information. Answers as `dixpi_sense_encode` does.
+#[unsafe(no_mangle)]
+pub extern "C" fn dixpi_sense_describe(
+    sense: &SenseFields,
+    out: &mut [u8; 20],
+    len: &mut u32,
+) -> u32
+    ensures written { result ≡ 0 → (sense.now.key < 16) × (len.new ≡ length (described (sense_of sense.now)))
+        × (out.new ≡ described (sense_of sense.now) ++ drop len.new out.old) }
+    ensures bad_field { result ≡ 5 → (16 ≤ sense.now.key) × (out.new ≡ out.old) × (len.new ≡ len.old) }
+    ensures one_of { (result ≡ 0) ⊎ (result ≡ 5) }
+{
+    let Some(count) = sense.describe(out) else {
         return BAD_FIELD;
     };
     *len = count as u32;

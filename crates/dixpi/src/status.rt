@@ -1,8 +1,9 @@
 //! What a status says.
 
 ghost use Rattle.std.specs.Prelude.{◌≡◌};
-ghost use Rattle.dixpi.specs.Faults.{Told, none_status};
+ghost use Rattle.dixpi.specs.Faults.{Told, none_status, status_of};
 
+use cdb_codec::CdbFault;
 use pi_blocks::{Found, Refusal, Unchecked};
 
 /// Done; of a check, no block differs.
@@ -30,6 +31,17 @@ pub(crate) fn status_of_none(why: Refusal) -> u32
     match why {
         Refusal::BadLayout => BAD_LAYOUT,
         Refusal::BadLength => BAD_LENGTH,
+    }
+}
+
+/// The status of bytes or numbers that are no command.
+pub(crate) fn status_of_fault(fault: CdbFault) -> u32
+    ensures { result ≡ status_of fault }
+{
+    match fault {
+        CdbFault::Opcode => BAD_OPCODE,
+        CdbFault::Field => BAD_FIELD,
+        CdbFault::Length => BAD_LENGTH,
     }
 }
 

@@ -7,6 +7,7 @@ pub mod Makes
 pub mod MapLaws
 pub mod Maps
 pub mod Puts
-pub mod StayLaws
+pub mod Sameness
 pub mod Seeing
+pub mod StayLaws
 pub mod Tuples

@@ -5,6 +5,7 @@ use Rattle.std.proofs.lemmas.Bool.Decides.{nat_tests}
 use Rattle.std.proofs.lemmas.Nat.{from_be_bytes-to_be_bytes_4, from_be_bytes-to_be_bytes_8}
 use Rattle.sense_codes.specs.Written.{Fits, descriptor, fixed, written, written_with}
 use Rattle.sense_codes.specs.declared.Sense.{Sense}
+use Rattle.pi_blocks.specs.Senses.{described, described_with}
 use Rattle.pi_blocks.specs.Seen.{Information, Informs, Tells, end_of, place_of}
 
 place-up : (b : List ℕ) (k d : ℕ) → place_of b k ≤ place_of b (d + k)
@@ -70,3 +71,23 @@ by-info s (Some info) some key lt = by-width s info (ltb info (2 ^ 32)) refl key
 
 pub written-tells : (s : Sense) → Fits s → Tells (written s) s false
 written-tells s fits = by-info s s.info refl fits.key fits.info
+
+-- no descriptor is whole in 8 bytes
+in-bare : (s : Sense) → s.key < 16 → s.info ≡ None → Tells (described_with None s) s false
+in-bare s key none = record {
+  whole = refl;
+  says = record {
+    key = same-key s.key key;
+    asc = refl;
+    ascq = refl;
+    info = subst (Information (described_with None s)) (sym none) (none-informs (described_with None s) 8 0 refl (λ h. omega (arith, h)) (λ j below. absurd (omega (arith, below))));
+  };
+  deferred_is = refl;
+}
+
+described-by : (s : Sense) (i : Option ℕ) → s.info ≡ i → s.key < 16 → IfSome i (λ k. k < 2 ^ 64) → Tells (described_with i s) s false
+described-by s None none key lt = in-bare s key none
+described-by s (Some info) some key lt = in-descriptor s info key lt some
+
+pub described-tells : (s : Sense) → Fits s → Tells (described s) s false
+described-tells s fits = described-by s s.info refl fits.key fits.info

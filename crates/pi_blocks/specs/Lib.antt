@@ -9,6 +9,8 @@ pub mod Marks
 pub mod Parts
 pub mod Puts
 pub mod Runs
+pub mod Same
 pub mod Seen
 pub mod Senses
 pub mod Single
+pub mod Texts

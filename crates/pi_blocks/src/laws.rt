@@ -9,7 +9,9 @@ ghost use Rattle.pi_blocks.specs.declared.commands.CdbFields.{CdbFields as AnyCo
 ghost use Rattle.pi_blocks.specs.Laws.{AreBytes, AreFineWhenMade, AreFineWhenMadeApart, AreFree, HasOneAnswer};
 ghost use Rattle.pi_blocks.specs.Laws.{IsUndone, MakesTuplesAlone, MakesTuplesApart, MapsTagsAlone, StayFine};
 ghost use Rattle.pi_blocks.specs.Layouts.{AreBlocks, is_good};
-ghost use Rattle.pi_blocks.specs.Seen.{Tells as TellsSense};
+ghost use Rattle.pi_blocks.specs.Same.{SameDescribed, SameFixed, TellSame};
+ghost use Rattle.pi_blocks.specs.Seen.{Tells as TellsSense, code_in, is_described, is_fixed};
+ghost use Rattle.pi_blocks.specs.Senses.{described};
 ghost use Rattle.sense_codes.specs.Written.{Fits as FitsSense, written};
 ghost use Rattle.sense_codes.specs.declared.Sense.{Sense as AnySense};
 ghost use Rattle.pi_blocks.specs.declared.block.Want.{Want as AnyWant};
@@ -60,6 +62,18 @@ pub fn made_blocks_are_fine()
 /// the finder says the same.
 pub fn a_written_sense_is_found()
     ensures { (s : AnySense) → FitsSense s → TellsSense (written s) s false }
+{}
+
+/// The same of the bytes that it is described by.
+pub fn a_described_sense_is_found()
+    ensures { (s : AnySense) → FitsSense s → TellsSense (described s) s false }
+{}
+
+/// What sense data tell stays when bytes change that aren't read: any but those that the formats' fields stand in, and
+/// of descriptors any but types, additional lengths, and what valid information descriptors hold.
+pub fn unread_bytes_tell_nothing()
+    ensures fixed { (a b : List ℕ) → is_fixed (code_in a) ≡ true → SameFixed a b → TellSame a b }
+    ensures described { (a b : List ℕ) → is_described (code_in a) ≡ true → SameDescribed a b → TellSame a b }
 {}
 
 /// The codec's bytes of a command are those of its numbers with flags, group and control 0: with these, encoder and

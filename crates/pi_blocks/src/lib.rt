@@ -19,15 +19,17 @@ mod run;
 mod seen;
 mod sensing;
 mod single;
+mod texts;
 
 pub use apart::{dix_generate, dix_verify};
 pub use block::{Found, Want};
 pub use checking::verify;
 pub use commands::CdbFields;
 pub use laws::{
-    a_check_has_one_answer, a_written_sense_is_found, commands_that_are_read_are_written,
-    made_blocks_are_fine, making_writes_tuples_alone, mapped_blocks_stay_fine,
-    mapping_back_undoes_mapping, mapping_changes_tags_alone, plain_commands_are_the_codecs,
+    a_check_has_one_answer, a_described_sense_is_found, a_written_sense_is_found,
+    commands_that_are_read_are_written, made_blocks_are_fine, making_writes_tuples_alone,
+    mapped_blocks_stay_fine, mapping_back_undoes_mapping, mapping_changes_tags_alone,
+    plain_commands_are_the_codecs, unread_bytes_tell_nothing,
 };
 pub use layout::{Layout, Refusal, Unchecked};
 pub use making::generate;
@@ -37,3 +39,4 @@ pub use run::Run;
 pub use seen::Seen;
 pub use sensing::SenseFields;
 pub use single::{TupleFields, check};
+pub use texts::{check_name, found_text, write_ended};

@@ -3,11 +3,12 @@
 ghost use Rattle.std.specs.Prelude.{◌≡◌, ◌<◌, ◌≤◌, ◌++◌, drop, length, IfErr, IfNone, IfOk, IfSome};
 ghost use Rattle.pi_tuple.specs.declared.checks.Check.{Check};
 ghost use Rattle.sense_codes.specs.Checks.{Tells};
-ghost use Rattle.sense_codes.specs.Written.{Fits, fault_of, written};
+ghost use Rattle.sense_codes.specs.Written.{Fits, descriptor, fault_of, written};
 ghost use Rattle.sense_codes.specs.declared.Sense.{Sense as AnySense};
 ghost use Rattle.sense_codes.specs.declared.layer.Layer.{Layer};
-ghost use Rattle.pi_blocks.specs.Senses.{sense_fields, sense_of};
+ghost use Rattle.pi_blocks.specs.Senses.{described, sense_fields, sense_of};
 
+use arrayvec::ArrayVec;
 use pi_tuple::Check;
 use sense_codes::{Layer, Sense, SenseFault, layer_and_check};
 
@@ -25,6 +26,31 @@ pub struct SenseFields {
     pub ascq: u8,
     /// Whether there is an information: 0 where there is none.
     pub has_info: u8,
+}
+
+fn with_information(info: u64, s: &Sense) -> ArrayVec<u8, 20>
+    ensures { result.items ≡ descriptor info s.now }
+{
+    let mut out = ArrayVec::new();
+    out.try_extend_from_slice(&[0x72, s.key, s.asc, s.ascq, 0, 0, 0, 0x0C])
+        .unwrap();
+    out.try_extend_from_slice(&[0, 0x0A, 0x80, 0]).unwrap();
+    out.try_extend_from_slice(&info.to_be_bytes()).unwrap();
+    out
+}
+
+fn described(s: &Sense) -> ArrayVec<u8, 20>
+    ensures { result.items ≡ described s.now }
+{
+    match s.info {
+        Some(info) => with_information(info, s),
+        None => {
+            let mut out = ArrayVec::new();
+            out.try_extend_from_slice(&[0x72, s.key, s.asc, s.ascq, 0, 0, 0, 0])
+                .unwrap();
+            out
+        }
+    }
 }
 
 impl SenseFields {
@@ -74,6 +100,22 @@ impl SenseFields {
             return None;
         }
         let bytes = self.sense().encode();
+        let len = bytes.len();
+        out[..len].copy_from_slice(bytes.as_slice());
+        Some(len)
+    }
+
+    /// Writes the bytes of the sense in descriptor format, as a unit does whose D_SENSE bit is 1 (SPC-4, 4.5.2): 8, or 20
+    /// where there is an information. It answers as `encode` does.
+    pub fn describe(self, out: &mut [u8; 20]) -> Option<usize>
+        ensures written { IfSome result (λ n. (self.key < 16) × (n ≡ length (described (sense_of self)))
+            × (out.new ≡ described (sense_of self) ++ drop n out.old)) }
+        ensures refused { IfNone result ((16 ≤ self.key) × (out.new ≡ out.old)) }
+    {
+        if self.key >= 16 {
+            return None;
+        }
+        let bytes = described(&self.sense());
         let len = bytes.len();
         out[..len].copy_from_slice(bytes.as_slice());
         Some(len)
