@@ -49,14 +49,14 @@ differ_more p lba other (x ∷ xs) ys (u ∷ us) vs e =
     ∙ ap (λ n. count_differ p (lba + 1) (other + 1) xs us + count_differ p (lba + suc (length xs)) n ys vs) b in
     omega (arith, rest)
 
-one_at_most : (b : Bool) → one_if b ≤ 1
-one_at_most true = omega arith
-one_at_most false = omega arith
+pub one_if_few : (b : Bool) → one_if b ≤ 1
+one_if_few true = omega arith
+one_if_few false = omega arith
 
 pub few_differ : (p : Pair) (lba other : ℕ) (xs us : List (List ℕ)) → count_differ p lba other xs us ≤ length xs
 few_differ p lba other [] us = omega arith
 few_differ p lba other (x ∷ xs) [] = omega arith
-few_differ p lba other (x ∷ xs) (u ∷ us) = let a = one_at_most (differs (differences p lba other x u)) in let c = few_differ p (lba + 1) (other + 1) xs us in omega (arith, a, c)
+few_differ p lba other (x ∷ xs) (u ∷ us) = let a = one_if_few (differs (differences p lba other x u)) in let c = few_differ p (lba + 1) (other + 1) xs us in omega (arith, a, c)
 
 -- ---- a walk along one stretch
 

@@ -1,5 +1,5 @@
 -- How the text of a stretch's blocks grows, piece by piece.
-use Rattle.std.proofs.Common.{◌≡◌, ℕ, suc, ◌+◌, ◌≤◌, Bool, true, false, List, [], ◌∷◌, ◌++◌, length, Option, Some, None, refl, sym, ap, subst, ◌∙◌, arith, append_assoc, append-nil, length-append}
+use Rattle.std.proofs.Common.{◌≡◌, ℕ, suc, ◌+◌, ◌≤◌, Bool, List, [], ◌∷◌, ◌++◌, length, Option, Some, None, refl, sym, ap, subst, ◌∙◌, arith, append_assoc, append-nil, length-append}
 use Rattle.std.specs.Prelude.{min, Result, Ok, Err}
 use Rattle.dix_base.specs.Told.{Appended, AppendedSome, HasLength}
 use Rattle.dix_base.proofs.Appending.{appended_none, appended_both}
@@ -9,7 +9,7 @@ use Rattle.pi_scrub.specs.Faults.{faults_from, listed, stored_finding}
 use Rattle.report_text.proofs.Flow.{part_first, part_second, whole_is_part}
 use Rattle.rig_api.specs.Headers.{image_size}
 use Rattle.rig_api.specs.declared.units.UnitSpec.{UnitSpec}
-use Rattle.image_text.specs.ShowText.{count_bad, count_unchecked, first_line, image_text, last_line, one_if}
+use Rattle.image_text.specs.ShowText.{count_bad, count_unchecked, first_line, image_text, last_line}
 use Rattle.image_text.specs.Sights.{block_text, is_unchecked, verdict_of}
 use Rattle.image_text.specs.declared.show.Tally.{Tally}
 use Rattle.image_blocks.specs.declared.stretch.Stretch.{Stretch}
@@ -21,6 +21,7 @@ use Rattle.target_model.proofs.Bytes.{rise}
 use Rattle.image_blocks.specs.declared.fault.WalkFault.{WalkFault}
 use Rattle.image_blocks.specs.declared.fault.WalkFault.TheVariants.{Store, Sink}
 use Rattle.image_text.specs.Shown.{HasShown, HasShownSome, ShowEnds, bad_of, both, lines_of, text_of, unchecked_of}
+use Rattle.image_text.proofs.Comparing.{one_if_few}
 
 -- ---- lines and counts of blocks behind others
 
@@ -63,14 +64,10 @@ unchecked_more ty size lba (x ∷ xs) ys =
     unchecked_more ty size (lba + 1) xs ys ∙ ap (λ n. count_unchecked ty size (lba + 1) xs + count_unchecked ty size n ys) e in
     omega arith
 
-one_or_none : (b : Bool) → one_if b ≤ 1
-one_or_none true = omega arith
-one_or_none false = omega arith
-
 few_unchecked : (ty : PiType) (size lba : ℕ) (xs : List (List ℕ)) → count_unchecked ty size lba xs ≤ length xs
 few_unchecked ty size lba [] = omega arith
 few_unchecked ty size lba (x ∷ xs) =
-    let b = one_or_none (is_unchecked (verdict_of ty size lba x)) in
+    let b = one_if_few (is_unchecked (verdict_of ty size lba x)) in
     let c = few_unchecked ty size (lba + 1) xs in
     omega arith
 

@@ -1,7 +1,6 @@
 -- What `explain` without an image comes to.
-use Rattle.std.proofs.Common.{ℕ, ◌≡◌, ◌+◌, ◌<◌, ◌≤◌, ◌⊎◌, inl, inr, Bool, false, cond, List, [], ◌++◌, length, Option, Some, None, Ok, Err, refl, sym, ap, subst, ◌∙◌, arith, append-nil, length-append}
+use Rattle.std.proofs.Common.{ℕ, ◌≡◌, ◌+◌, ◌<◌, ◌≤◌, ◌⊎◌, inl, inr, Bool, false, List, [], ◌++◌, length, Option, Some, None, Ok, Err, refl, sym, ap, subst, ◌∙◌, arith, append-nil, length-append}
 use Rattle.std.specs.Prelude.{◌&&◌, nat_le}
-use Rattle.std.proofs.lemmas.Bool.{lt-ltb}
 use Rattle.std.proofs.lemmas.Bool.Decides.{nat_tests}
 use Rattle.call_refusal.specs.declared.refusal.Refusal.TheVariants as stop
 use Rattle.call_verdict.specs.Verdicts.{Cause, Done, Refused, Verdict, Written, verdict_status}
@@ -15,7 +14,7 @@ use Rattle.rig_api.specs.State.{RigState}
 use Rattle.run_command.proofs.Refusing.{within}
 use Rattle.run_words.proofs.Marking.{over, too_long}
 use Rattle.script_lines.specs.declared.kind.ScriptKind.TheVariants.{TooMany}
-use Rattle.script_text.specs.Language.{lines_read, nothing_read, script_in}
+use Rattle.script_text.specs.Language.{script_in}
 use Rattle.script_text.specs.declared.fault.ScriptFault.{ScriptFault}
 use Rattle.script_words.specs.Cuts.{lines_of}
 use Rattle.vector_lines.specs.Texts.{is_list}
@@ -28,6 +27,7 @@ use Rattle.lab_run.specs.Texts.{lab, no_memory}
 use Rattle.lab_run.specs.declared.judging.Said.{Said}
 use Rattle.lab_run.specs.declared.refusal.Refusal.{Refusal}
 use Rattle.lab_run.specs.declared.refusal.Refusal.TheVariants as refusal
+use Rattle.run_command.proofs.FirstFaults.{over_long}
 
 -- ---- a text is judged, or isn't
 
@@ -117,9 +117,6 @@ long_taken text all (Some held) (Some left) e t l =
     let n : length all ≡ length text + length left = ap length (sym same ∙ t) ∙ length-append text left in
     omega (arith, l, m, n)
 
-too_many : (text : List ℕ) → 4194304 < length text → script_in text ≡ Err (record { line = 0; kind = TooMany })
-too_many text l = ap (λ (b : Bool). cond b (Err (record { line = 0; kind = TooMany })) (lines_read 1 (lines_of text) nothing_read)) (lt-ltb 4194304 (length text) l)
-
 -- what was taken of a told text reads as all of it
 reads_alike : (f : Facts) (text all : List ℕ) → f.left ≡ Some all → Took text f.left f.left_after → IsAtEnd f.left_after ⊎ (length text ≡ most_bytes + 1) → reads_of text ≡ reads_of all
 reads_alike f text all l t (inl k) = ap reads_of (all_taken text all f.left f.left_after l t k)
@@ -127,7 +124,7 @@ reads_alike f text all l t (inr k) =
     let m = most_is in
     let one : 4194304 < length text = omega (arith, m, k) in
     let both = long_taken text all f.left f.left_after l t k in
-    long_reads text one (too_many text one) ∙ sym (long_reads all both (too_many all both))
+    long_reads text one (over_long text one) ∙ sym (long_reads all both (over_long all both))
 
 given_so : (f : Facts) (text : List ℕ) (reads : Reads) → IsGiven text reads f.left f.left_after → Took text f.left f.left_after × (IsAtEnd f.left_after ⊎ (length text ≡ most_bytes + 1))
 given_so f text (AsScript (Ok script)) g = (g.0, inl g.1)

@@ -34,11 +34,6 @@ use Rattle.mirror_laws.specs.Repair.{writing}
 abbrev pub IsOther : Why → Type 0
 IsOther why = why ≡ Medium → ⊥
 
-why_out : (r : Route) (w : WayOut) (back : List ℕ) (log : List (List ℕ)) → (written_by r w back log).answer.why ≡ why_of (stored_of w)
-why_out r (Fails why) back log = refl
-why_out r (Refuses why) back log = refl
-why_out r (Stores carried stored) back log = refl
-
 module _ (own : Setting) (falls : Block → Option (List ℕ)) where
   abbrev pub does : Step → Act ActAnswer
   does step = may_fall own falls step
@@ -91,9 +86,6 @@ module _ (own : Setting) (falls : Block → Option (List ℕ)) where
 
     abbrev logged : List (List ℕ)
     logged = get_or (gather [] ((act_of own (Writes b app body)).logs.reads) s.logs) 0 []
-
-    abbrev leaves : List (List ℕ) → State
-    leaves blocks = record s { blocks = blocks }
 
     -- Its blocks and its pages alone count.
     abbrev Is : (blocks : List (List ℕ)) (bytes : List ℕ) → Option Why → Type 0

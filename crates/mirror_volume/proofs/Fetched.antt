@@ -45,7 +45,7 @@ use Rattle.mirror_volume.proofs.Wrote.{Goes, standing}
 
 -- ---- lengths, and marks
 
-length-chosen : {X : Type 0} (f : ℕ → X) (at : ℕ) (wanted : List Bool) (xs : List X) → length xs ≡ length wanted → length (chosen f at wanted xs) ≡ length wanted
+pub length-chosen : {X : Type 0} (f : ℕ → X) (at : ℕ) (wanted : List Bool) (xs : List X) → length xs ≡ length wanted → length (chosen f at wanted xs) ≡ length wanted
 length-chosen f at [] xs e = refl
 length-chosen f at (w ∷ wanted) [] e = absurd (omega (arith, e))
 length-chosen f at (w ∷ wanted) (x ∷ xs) e = ap suc (length-chosen f (suc at) wanted xs (omega (arith, e)))

@@ -2,7 +2,6 @@
 use Rattle.std.proofs.Common.{◌≡◌, ◌<◌, ◌^◌, ℕ, ◌+◌, Bool, true, false, eqb, ◌||◌, Option, List, [], length, get_or, sym, ap, subst, ◌∙◌, arith, length-append}
 use Rattle.std.specs.Prelude.{pos, Ok}
 use Rattle.std.proofs.lemmas.Bool.{false≢true}
-use Rattle.std.proofs.lemmas.List.{length-take-le}
 use Rattle.pi_guard.specs.Guards.{guard_of}
 use Rattle.pi_guard.proofs.GuardSizes.{guard_below}
 use Rattle.pi_tuple.specs.Finds.{is_escaped}
@@ -17,7 +16,7 @@ use Rattle.integrity_payload.specs.declared.payload.Owner.TheVariants.{Block as 
 use Rattle.block_path.specs.Acts.{State}
 use Rattle.block_path.specs.Blocks.{own_frame, own_tuple}
 use Rattle.block_path.specs.WayIn.{delivered_of, way_in}
-use Rattle.block_path.specs.WayOut.{Fails, Refuses, Stores, WayOut, stored_of, way_out}
+use Rattle.block_path.specs.WayOut.{Stores, stored_of, way_out}
 use Rattle.walk_laws.specs.Detectable.{arrives}
 use Rattle.walk_laws.specs.FirstLayer.{AtOwner, Layer}
 use Rattle.walk_laws.specs.Past.{Brought, brought_by}
@@ -28,7 +27,7 @@ use Rattle.walk_laws.proofs.TupleFrames.{Small, data_is, tuple_is}
 use Rattle.mirror_laws.specs.OneGood.{IsUnnamed}
 use Rattle.mirror_laws.specs.Repair.{reading, writing}
 use Rattle.mirror_laws.proofs.Holds.{fetched_at, near, no_shift, on_medium, on_wire}
-use Rattle.mirror_laws.proofs.Ways.{Expects, accepted_expects, free_in, free_out, unnamed_stores}
+use Rattle.mirror_laws.proofs.Ways.{free_in, free_out, unnamed_stores}
 use Rattle.run_laws.proofs.Layers.{After, Hands, IsBare, Outcome, Reading, Sound, checked, first_of_three, goes_out, reads, same_brought}
 
 -- A stored block of a virtual block is clean, and has these data and this application tag.
@@ -51,16 +50,6 @@ module _ (m' : Setting) (opening : State) (half : ℕ) (still : (at : Crossing) 
 
   none : ℕ → ℕ
   none op = 0
-
-  pub whole_of : (v : ℕ) (e : Brought) (x : List ℕ) → SoundAs m' v e x → e.app < 2 ^ 16 → IsWhole n e
-  whole_of v e x h below =
-      let app = ap (λ (b : Brought). b.app) h.brought in
-      let long = h.sound.bare.size in
-      record {
-        size = ap (λ (b : Brought). length b.body) (sym h.brought) ∙ length-take-le n x (omega (arith, long));
-        below = below;
-        bare = subst (λ a. eqb a 0xFFFF ≡ false) app h.sound.bare.escape;
-      }
 
   own_small : (b : Block) (e : Brought) (h : IsWhole n e) → Small (own_tuple (route m b) e.app e.body)
   own_small b e h = record { guard = guard_below m'.mode.kind e.body; app = h.below; rtag = tag_below b.virt }
@@ -105,17 +94,6 @@ module _ (m' : Setting) (opening : State) (half : ℕ) (still : (at : Crossing) 
           let o : Outcome m' b (own_frame (route m b) e.app e.body) (Stores s.carried s.stored) = subst (Outcome m' b f) s.is goes in
           let after : Sound m' (route m b).lba s.stored × (brought_by n s.stored ≡ brought_by n f) = subst (λ (c : Bool). After m' b f c s.stored) (free TargetToMedium) o.1 in
           record { stored = s.stored; is = ap stored_of s.is; holds = record { sound = after.0; brought = after.1 ∙ own_brought b e h } }
-
-      by_way : (w : WayOut) (stored : List ℕ) → Expects m' b f w → stored_of w ≡ Ok stored → as_expected m (tuple_of n f).app ≡ true
-      by_way (Fails why) stored x q = absurd cc
-      by_way (Refuses why) stored x q = absurd cc
-      by_way (Stores carried frame) stored x q = x
-
-      -- what is stored has the expected tag
-      pub expects : (stored : List ℕ) → writing m b e ≡ Ok stored → as_expected m e.app ≡ true
-      expects stored q =
-          subst (λ a. as_expected m a ≡ true) app_there
-          (by_way (way_out m'.site.faults m.site.device (route m b) f) stored (accepted_expects m' b f bare_frame (free_out m' b f free)) q)
 
     -- a read of a block that is stored right
     pub record IsReadRight (e : Brought) (blocks : List (List ℕ)) : Type 0 where

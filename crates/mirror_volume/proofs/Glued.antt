@@ -10,10 +10,6 @@ abbrev pub Ascends : (from : ℕ) → List (ℕ × ℕ) → Type 0
 Ascends from [] = Unit {0}
 Ascends from (q ∷ ss) = (from ≤ q.0) × Ascends (q.0 + q.1) ss
 
-ascends-less : (a b : ℕ) (ss : List (ℕ × ℕ)) → a ≤ b → Ascends b ss → Ascends a ss
-ascends-less a b [] l h = tt
-ascends-less a b (q ∷ ss) l h = (let x = h.0 in omega (arith, l, x), h.1)
-
 ascends-from : (low at many : ℕ) (wanted : List Bool) → low + many ≤ at → Ascends low (stretches_from at many wanted)
 ascends-from low at zero [] l = tt
 ascends-from low at (suc many) [] l = (omega (arith, l), tt)

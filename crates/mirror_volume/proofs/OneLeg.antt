@@ -109,6 +109,14 @@ blocks-are half p block named a c =
     each_same 0 c (λ j. record { op = p.op; k = first_label (part_of p (a, c)) + j; virt = first_virt half (part_of p (a, c)) + j }) (λ j. block (a + j)) (named a c)
     ∙ sym (each_shift 0 a c block) ∙ ap (λ k. each_from k c block) z
 
+-- such a part is a piece as well
+pub part-fits : (size half : ℕ) (p : Piece) → IsPiece size half p → (a c : ℕ) → 1 ≤ c → a + c ≤ p.n → IsPiece size half (part_of p (a, c))
+part-fits size half p fit a c some within =
+    let room = fit.room in
+    let inside = fit.inside in
+    let more : c * size ≤ p.n * size = mul-le-mul_right size (omega (arith, within)) in
+    record { some = some; room = omega (arith, room, more); inside = omega (arith, inside, within) }
+
 module _ (law : ReadLaw) (s : Script) (t : Table) (half : ℕ) (is : IsMirrorScript s t half) (us : List Stored) (made : MadeFor t (map info_of (shapes_of us)) s.block) (stored : AreStored us)
     (p : Piece) (fit : IsPiece s.block half p) (block : ℕ → Block)
     (named : (a c j : ℕ) → record { op = p.op; k = first_label (part_of p (a, c)) + j; virt = first_virt half (part_of p (a, c)) + j } ≡ block (a + j)) where
@@ -124,13 +132,6 @@ module _ (law : ReadLaw) (s : Script) (t : Table) (half : ℕ) (is : IsMirrorScr
   abbrev pub lands : ℕ → List ℕ
   lands j = landed_by s.block (came j)
 
-  part-fits : (a c : ℕ) → 1 ≤ c → a + c ≤ p.n → IsPiece s.block half (part_of p (a, c))
-  part-fits a c some within =
-      let room = fit.room in
-      let inside = fit.inside in
-      let more : c * s.block ≤ p.n * s.block = mul-le-mul_right s.block (omega (arith, within)) in
-      record { some = some; room = omega (arith, room, more); inside = omega (arith, inside, within) }
-
   -- the request of a stretch
   pub record PartRead (a c : ℕ) (left : List Stored) (run : LegRun) : Type 0 where
     pub left_is : left ≡ us
@@ -140,7 +141,7 @@ module _ (law : ReadLaw) (s : Script) (t : Table) (half : ℕ) (is : IsMirrorScr
   part-read : (a c : ℕ) (left : List Stored) (run : LegRun) → 1 ≤ c → a + c ≤ p.n → run.own ≡ read_script s half (part_of p (a, c)) → HasWalked run.own t us left (pool_of run) run.records (replies_of run) → PartRead a c left run
   part-read a c left run some within own w =
       let mine = subst (λ (x : Script). HasWalked x t us left (pool_of run) run.records (replies_of run)) own w in
-      let r = law s t half (part_of p (a, c)) us left (pool_of run) run.records (replies_of run) is (part-fits a c some within) made stored mine in
+      let r = law s t half (part_of p (a, c)) us left (pool_of run) run.records (replies_of run) is (part-fits s.block half p fit a c some within) made stored mine in
       let bs = blocks-are half p block named a c in
       let whys : whys_read leg (blocks_of half (part_of p (a, c))) (blocks_told us) ≡ each_from a c finds =
       ap (λ (xs : List Block). whys_read leg xs (blocks_told us)) bs ∙ map-each (λ b. why_of (reading leg b (blocks_told us))) a c block in

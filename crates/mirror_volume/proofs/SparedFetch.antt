@@ -51,11 +51,6 @@ first-at (k ∷ marks) [] j e l = absurd (omega (arith, e))
 first-at (k ∷ marks) (w ∷ found) zero e l = refl
 first-at (k ∷ marks) (w ∷ found) (suc j) e l = first-at marks found j (omega (arith, e)) (omega (arith, l))
 
-pub first-long : (marks : List Marks) (found : List (Option Why)) → length found ≡ length marks → length (first_listed marks found) ≡ length marks
-first-long [] found e = refl
-first-long (k ∷ marks) [] e = absurd (omega (arith, e))
-first-long (k ∷ marks) (w ∷ found) e = ap suc (first-long marks found (omega (arith, e)))
-
 pub last-at : (marks : List Marks) (wanted : List Bool) (listed found : List (Option Why)) (j : ℕ) → length wanted ≡ length marks → length listed ≡ length marks → length found ≡ length marks → j < length marks
     → get_or (last_listed marks wanted listed found) j None
     ≡ (if get_or wanted j false && (not (get_or marks j fresh).leg0 || is_none (get_or found j None)) then get_or found j None else get_or listed j None)

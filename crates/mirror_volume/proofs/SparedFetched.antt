@@ -1,5 +1,5 @@
 -- A block of which nothing alters a leg, over a read of a mirror where store calls may fail.
-use Rattle.std.proofs.Common.{◌≡◌, ◌<◌, inl, inr, ℕ, suc, ◌+◌, ◌-◌, ◌*◌, Bool, true, false, ◌&&◌, ◌||◌, not, is_none, if◌then◌else◌, List, [], ◌∷◌, ◌++◌, length, get_or, replicate, take, drop, Option, None, refl, sym, ap, subst, ◌∙◌, arith}
+use Rattle.std.proofs.Common.{◌≡◌, ◌<◌, inl, inr, ℕ, ◌+◌, ◌-◌, ◌*◌, Bool, true, false, ◌&&◌, ◌||◌, not, is_none, if◌then◌else◌, List, [], ◌∷◌, ◌++◌, length, get_or, replicate, take, drop, Option, None, refl, sym, ap, subst, ◌∙◌, arith}
 use Rattle.std.specs.Prelude.{Result, Ok, Err, is_some}
 use Rattle.std.proofs.lemmas.Bool.{false≢true}
 use Rattle.std.proofs.lemmas.List.{get_or-drop, get_or-replicate, get_or-take, length-drop, length-map, length-replicate, length-take-le, take_all}
@@ -31,14 +31,15 @@ use Rattle.mirror_volume.specs.MirrorScript.{IsPiece}
 use Rattle.mirror_volume.specs.OnOps.{FetchedBy, Sides, whole_request}
 use Rattle.mirror_volume.specs.Spared.{IsUnaltered, LandsRight, fails_on_leg, has_block, named_on, place_on}
 use Rattle.mirror_volume.specs.Standing.{IsMirrorOver, half_of, mirror_setting}
-use Rattle.mirror_volume.proofs.Fetched.{rest-long}
+use Rattle.mirror_volume.proofs.Fetched.{length-chosen, rest-long}
 use Rattle.mirror_volume.proofs.Flat.{AllLong, flat-zeros, long-zeros}
 use Rattle.mirror_volume.proofs.Free.{SoundAs}
 use Rattle.mirror_volume.proofs.Glued.{Glued, all-ascend, glue}
 use Rattle.mirror_volume.proofs.OneLeg.{AllInside, all-inside}
 use Rattle.mirror_volume.proofs.Painting.{all-stretches, chosen, painted}
 use Rattle.mirror_volume.proofs.Requests.{IsRequest, whole-piece}
-use Rattle.mirror_volume.proofs.SparedFetch.{IsRight, chosen-at, first-at, first-long, fresh0-at, last-at, listed_of, lands_of, read-right, rest-at, slice-flat}
+use Rattle.mirror_volume.proofs.Readings.{first-long}
+use Rattle.mirror_volume.proofs.SparedFetch.{IsRight, chosen-at, first-at, fresh0-at, last-at, listed_of, lands_of, read-right, rest-at, slice-flat}
 use Rattle.mirror_volume.proofs.SparedGround.{Altered, HasLeg, is-mirror}
 use Rattle.mirror_volume.proofs.SparedLegs.{LegFell, leg-fell}
 use Rattle.mirror_volume.proofs.SparedNames.{fails-first, fails-last}
@@ -51,11 +52,6 @@ fallen-both t us left [] later h = (us, (refl, h))
 fallen-both t us left (r ∷ runs) later h =
     let rest = fallen-both t h.0 left runs later h.1.1 in
     (rest.0, ((h.0, (h.1.0, rest.1.0)), rest.1.1))
-
-long-chosen : {X : Type 0} (f : ℕ → X) (at : ℕ) (wanted : List Bool) (xs : List X) → length xs ≡ length wanted → length (chosen f at wanted xs) ≡ length wanted
-long-chosen f at [] xs e = refl
-long-chosen f at (w ∷ wanted) [] e = absurd (omega (arith, e))
-long-chosen f at (w ∷ wanted) (x ∷ xs) e = ap suc (long-chosen f (suc at) wanted xs (omega (arith, e)))
 
 -- What isn't a finding is a frame.
 from-none : (came : Result (List ℕ) Why) → why_of came ≡ None → (frame : List ℕ) × (came ≡ Ok frame)
@@ -215,7 +211,7 @@ module _ (s : Script) (devices : List DeviceInfo) (us : List Stored) (over : IsM
     found0-is = w.read.found0_is ∙ came0.found_is ∙ all-stretches (λ j. why_of (all0.f j)) wanted0 nones (nones-long ∙ sym wanted0-long)
 
     found0-long : length found0 ≡ length marks
-    found0-long = ap length found0-is ∙ long-chosen (λ j. why_of (all0.f j)) 0 wanted0 nones (nones-long ∙ sym wanted0-long) ∙ wanted0-long ∙ sym marks-long
+    found0-long = ap length found0-is ∙ length-chosen (λ j. why_of (all0.f j)) 0 wanted0 nones (nones-long ∙ sym wanted0-long) ∙ wanted0-long ∙ sym marks-long
 
     abbrev wanted1 : List Bool
     wanted1 = rest_wanted marks found0
@@ -241,13 +237,13 @@ module _ (s : Script) (devices : List DeviceInfo) (us : List Stored) (over : IsM
     found1-is = w.read.found1_is ∙ came1.found_is ∙ all-stretches (λ j. why_of (all1.f j)) wanted1 found0 (found0-long ∙ marks-long ∙ sym wanted1-long)
 
     found1-long : length w.read.found1 ≡ length marks
-    found1-long = ap length found1-is ∙ long-chosen (λ j. why_of (all1.f j)) 0 wanted1 found0 (found0-long ∙ marks-long ∙ sym wanted1-long) ∙ wanted1-long ∙ sym marks-long
+    found1-long = ap length found1-is ∙ length-chosen (λ j. why_of (all1.f j)) 0 wanted1 found0 (found0-long ∙ marks-long ∙ sym wanted1-long) ∙ wanted1-long ∙ sym marks-long
 
     landed0-is : landed0 ≡ chosen (λ j. landed_by size (all0.f j)) 0 wanted0 zeros
     landed0-is = all-stretches (λ j. landed_by size (all0.f j)) wanted0 zeros (zeros-long ∙ sym wanted0-long)
 
     landed0-long : length landed0 ≡ n
-    landed0-long = ap length landed0-is ∙ long-chosen (λ j. landed_by size (all0.f j)) 0 wanted0 zeros (zeros-long ∙ sym wanted0-long) ∙ wanted0-long
+    landed0-long = ap length landed0-is ∙ length-chosen (λ j. landed_by size (all0.f j)) 0 wanted0 zeros (zeros-long ∙ sym wanted0-long) ∙ wanted0-long
 
     abbrev landed1 : List (List ℕ)
     landed1 = painted (λ j. landed_by size (all1.f j)) (stretches wanted1) landed0
@@ -256,7 +252,7 @@ module _ (s : Script) (devices : List DeviceInfo) (us : List Stored) (over : IsM
     landed1-is = all-stretches (λ j. landed_by size (all1.f j)) wanted1 landed0 (landed0-long ∙ sym wanted1-long)
 
     landed1-long : length landed1 ≡ n
-    landed1-long = ap length landed1-is ∙ long-chosen (λ j. landed_by size (all1.f j)) 0 wanted1 landed0 (landed0-long ∙ sym wanted1-long) ∙ wanted1-long
+    landed1-long = ap length landed1-is ∙ length-chosen (λ j. landed_by size (all1.f j)) 0 wanted1 landed0 (landed0-long ∙ sym wanted1-long) ∙ wanted1-long
 
     bytes-are : w.bytes ≡ flat landed1
     bytes-are =

@@ -1,6 +1,5 @@
 -- The requests of a read on one leg where store calls may fail: what comes of each block, and that nothing stored is changed.
 use Rattle.std.proofs.Common.{◌≡◌, ◌<◌, ◌≤◌, ℕ, ◌+◌, ◌*◌, true, List, [], ◌∷◌, get_or, Some, None, ap, subst, ◌∙◌, arith}
-use Rattle.std.proofs.Math.Nat.{mul-le-mul_right}
 use Rattle.page_pool.specs.Cells.{flat}
 use Rattle.bio_core.specs.declared.fate.Why.TheVariants.{Medium}
 use Rattle.rig_api.specs.Target.{Stored}
@@ -19,7 +18,7 @@ use Rattle.mirror_volume.specs.Spared.{fails_on_leg, names_medium}
 use Rattle.mirror_volume.proofs.FellLegs.{ReadEach}
 use Rattle.mirror_volume.proofs.FellRead.{FellRead, fell-read}
 use Rattle.mirror_volume.proofs.Glued.{EachPart}
-use Rattle.mirror_volume.proofs.OneLeg.{AllInside}
+use Rattle.mirror_volume.proofs.OneLeg.{AllInside, part-fits}
 use Rattle.mirror_volume.proofs.SparedNames.{lists-it, names-one, one-fails, rest-fails}
 use Rattle.mirror_volume.proofs.SparedReads.{Comes, Fit, PartCame, base, base-comes, one-came, part-local}
 
@@ -34,13 +33,6 @@ module _ (s : Script) (t : Table) (half : ℕ) (is : IsMirrorScript s t half) (s
   abbrev pub IsBad : ℕ → Type 0
   IsBad j = Bad (block j).virt
 
-  part-fits : (a c : ℕ) → 1 ≤ c → a + c ≤ p.n → IsPiece s.block half (part_of p (a, c))
-  part-fits a c some within =
-      let room = fits.room in
-      let inside = fits.inside in
-      let more : c * s.block ≤ p.n * s.block = mul-le-mul_right s.block (omega (arith, within)) in
-      record { some = some; room = omega (arith, room, more); inside = omega (arith, inside, within) }
-
   pub record LegFell (ss : List (ℕ × ℕ)) (runs : List LegRun) (left : List Stored) : Type 0 where
     pub shapes : shapes_of left ≡ sh
     pub same : blocks_told left ≡ blocks
@@ -52,8 +44,8 @@ module _ (s : Script) (t : Table) (half : ℕ) (is : IsMirrorScript s t half) (s
     mine : HasFallen (read_script s half (part_of p (a, c))) t now next (pool_of r) r.records (replies_of r)
     mine = subst (λ (x : Script). HasFallen x t now next (pool_of r) r.records (replies_of r)) own fell
 
-    read : FellRead s t half (part_of p (a, c)) is (part-fits a c some within) now next (pool_of r) (replies_of r)
-    read = fell-read s t half (part_of p (a, c)) is (part-fits a c some within) now next (pool_of r) r.records (replies_of r) mine
+    read : FellRead s t half (part_of p (a, c)) is (part-fits s.block half p fits a c some within) now next (pool_of r) (replies_of r)
+    read = fell-read s t half (part_of p (a, c)) is (part-fits s.block half p fits a c some within) now next (pool_of r) r.records (replies_of r) mine
 
     reads : ReadEach m size c (λ k. block (a + k)) blocks (flat (pool_of r)) (found_by c (replies_of r))
     reads =

@@ -60,10 +60,6 @@ delivered-at (w ∷ wanted) [] j l h n = absurd (omega (arith, l))
 delivered-at (w ∷ wanted) (why ∷ found) zero l h n = (λ i. h i && is_none (n i))
 delivered-at (w ∷ wanted) (why ∷ found) (suc j) l h n = delivered-at wanted found j (omega (arith, l)) h n
 
-pub goods-few : (size : ℕ) (good : List Bool) (bytes tuples : List ℕ) → length (goods size good bytes tuples) ≡ length good
-goods-few size [] bytes tuples = refl
-goods-few size (d ∷ good) bytes tuples = ap suc (goods-few size good (drop size bytes) (drop 8 tuples))
-
 pub goods-at : (size : ℕ) (good : List Bool) (bytes tuples : List ℕ) (j : ℕ) → get_or good j false ≡ true → is_some (get_or (goods size good bytes tuples) j None) ≡ true
 goods-at size [] bytes tuples j h = absurd (false≢true h)
 goods-at size (true ∷ good) bytes tuples zero h = refl

@@ -45,7 +45,8 @@ use Rattle.mirror_volume.proofs.Repairs.{marks-long}
 use Rattle.mirror_volume.proofs.Suits.{block_sizes}
 use Rattle.mirror_volume.proofs.SparedFetched.{fallen-both}
 use Rattle.mirror_volume.proofs.SparedGround.{free, homes-apart, is-mirror, leg-inside, same-setting}
-use Rattle.mirror_volume.proofs.SparedLists.{SparesLeg, bit_on, bits-spared, delivered-at, delivered-few, goods-at, goods-few, needs-few, needs-first, needs-second, part-long, part-none}
+use Rattle.mirror_volume.proofs.Helds.{goods-long}
+use Rattle.mirror_volume.proofs.SparedLists.{SparesLeg, bit_on, bits-spared, delivered-at, delivered-few, goods-at, needs-few, needs-first, needs-second, part-long, part-none}
 use Rattle.mirror_volume.proofs.SparedNames.{fails-first, fails-last, lists-it, names-one}
 
 -- no line flips a block of no op
@@ -74,9 +75,6 @@ module _ (s : Script) (devices : List DeviceInfo) (us : List Stored) (over : IsM
 
   abbrev size : ℕ
   size = s.block
-
-  abbrev its-home : ℕ
-  its-home = home m (place_on s devices leg u)
 
   small : s.block ≤ 4096
   small = (block_sizes s.block (is-mirror s devices us over).block_is).1
@@ -207,7 +205,7 @@ module _ (s : Script) (devices : List DeviceInfo) (us : List Stored) (over : IsM
   looked-few : (n : ℕ) (wanted : List Bool) (runs : List LegRun) → length (looked s.block n wanted runs) ≤ length wanted
   looked-few n wanted runs =
       let found = found_after (stretches wanted) runs (replicate n None) in
-      let a = goods-few size (delivered wanted found) (bytes_after size (stretches wanted) runs (replicate (n * size) 0)) (tuples_after size (stretches wanted) runs (replicate (n * 8) 0)) in
+      let a = goods-long size (delivered wanted found) (bytes_after size (stretches wanted) runs (replicate (n * size) 0)) (tuples_after size (stretches wanted) runs (replicate (n * 8) 0)) in
       let b = delivered-few wanted found in
       omega (arith, a, b)
 

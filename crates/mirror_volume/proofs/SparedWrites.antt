@@ -5,7 +5,7 @@ use Rattle.std.proofs.lemmas.Bool.{eq-eqb, false≢true, ne_eqb}
 use Rattle.std.proofs.lemmas.List.{get_or-set_other, get_or-set_same, length-set}
 use Rattle.bio_core.specs.declared.fate.Why.{Why}
 use Rattle.bio_core.specs.declared.fate.Why.TheVariants.{Medium}
-use Rattle.stack_ops.specs.declared.reply.BadBlock.{BadBlock}
+use Rattle.walk_laws.proofs.InSteps.{listed_blocks}
 use Rattle.walk_laws.specs.Past.{Brought, brought_by}
 use Rattle.walk_laws.specs.PlainMap.{as_expected}
 use Rattle.walk_laws.specs.ReadsAs.{listed_among, listed_in}
@@ -41,12 +41,8 @@ among j (Some why ∷ whys) k l = by (k - j) refl (λ h. among (suc j) whys k h)
       ap (λ (c : Bool). if c then Some why else listed_among (bad_from (suc j) whys) k) (ne_eqb j k (λ z. omega (arith, e, z)))
       ∙ rest (omega (arith, e)) ∙ (let z : k - suc j ≡ d = omega (arith, e) in ap (λ i. get_or whys i None) z)
 
-whole-lists : (bad : List BadBlock) (k : ℕ) → listed_in (whole_or_bad bad) k ≡ listed_among bad k
-whole-lists [] k = refl
-whole-lists (b ∷ bad) k = refl
-
 pub listed-at : (whys : List (Option Why)) (k : ℕ) → listed_in (whole_or_bad (bad_from 0 whys)) k ≡ get_or whys k None
-listed-at whys k = let z : k - 0 ≡ k = omega arith in whole-lists (bad_from 0 whys) k ∙ among 0 whys k (omega arith) ∙ ap (λ i. get_or whys i None) z
+listed-at whys k = let z : k - 0 ≡ k = omega arith in listed_blocks (bad_from 0 whys) k ∙ among 0 whys k (omega arith) ∙ ap (λ i. get_or whys i None) z
 
 -- ---- lists of findings, at one place
 

@@ -29,7 +29,7 @@ use Rattle.run_command.specs.Verdict.{HasBadVolume, HasRead, HasTable, HoldsFaul
 -- ---- the text
 
 -- one that is too long has this fault
-over_long : (text : List ℕ) → 4194304 < length text → script_in text ≡ Err (record { line = 0; kind = TooMany })
+pub over_long : (text : List ℕ) → 4194304 < length text → script_in text ≡ Err (record { line = 0; kind = TooMany })
 over_long text l = let t : nat_lt 4194304 (length text) ≡ true = lt-ltb 4194304 (length text) l in rw t refl
 
 is_long : (text : List ℕ) (old new : Option (List ℕ)) → old ≡ Some text → IsOver old new → 4194304 < length text

@@ -52,7 +52,7 @@ why_listed j (suc k) i (a ∷ answers) e = by a.why ∙ why_listed (suc j) k i a
   by None = refl
   by (Some why) = beyond_head j i why (bad_from (suc j) (map (λ a. a.why) answers)) (omega (arith, e))
 
-listed_blocks : (bad : List BadBlock) (k : ℕ) → listed_in (whole_or_bad bad) k ≡ listed_among bad k
+pub listed_blocks : (bad : List BadBlock) (k : ℕ) → listed_in (whole_or_bad bad) k ≡ listed_among bad k
 listed_blocks [] k = refl
 listed_blocks (x ∷ bad) k = refl
 
