@@ -100,12 +100,9 @@ len_at ReadCapacity16 c rest h = fixed_len 0x9E (form ReadCapacity16 c ++ rest) 
 len_said : (o : Op) (c : DeviceCommand) (b : List ℕ) → take (count_of (size_of o)) b ≡ form o c → len_of b ≡ count_of (size_of o)
 len_said o c b e = subst (λ x. len_of x ≡ count_of (size_of o)) (joined o c b e) (len_at o c (drop (count_of (size_of o)) b) (enough o c (drop (count_of (size_of o)) b)))
 
-longer : (b rest : List ℕ) → length b ≤ length (b ++ rest)
-longer b rest = let e = length-append b rest in omega (arith, e)
-
 fixed_front : (b rest : List ℕ) → eqb (slice_index b 0) 0x7F ≡ false → 1 ≤ length b → len_of (b ++ rest) ≡ len_of b
 fixed_front b rest is some =
-    let more = longer b rest in
+    let more = length-append b rest in
     fixed_len (slice_index b 0) (b ++ rest) (omega (arith, some, more)) (same_at b rest 0 some) is ∙ sym (fixed_len (slice_index b 0) b some refl is)
 
 by_none : (b : List ℕ) (t : Bool) → eqb (length b) 0 ≡ t → eqb (slice_index b 0) 0x7F ≡ true → leb 8 (length b) ≡ false → len_of b ≡ 0
@@ -117,7 +114,7 @@ none_short b is short = by_none b (eqb (length b) 0) refl is short
 
 variable_front : (b rest : List ℕ) → eqb (slice_index b 0) 0x7F ≡ true → 8 ≤ length b → len_of (b ++ rest) ≡ len_of b
 variable_front b rest is long =
-    let more = longer b rest in
+    let more = length-append b rest in
     let at : slice_index b 0 ≡ 0x7F = grind (arith, nat_tests) in
     let front : 0 < length b = omega (arith, long) in
     variable_len (slice_index b 7) (b ++ rest) (omega (arith, long, more)) (same_at b rest 0 front ∙ at) (same_at b rest 7 long) ∙ sym (variable_len (slice_index b 7) b long at refl)

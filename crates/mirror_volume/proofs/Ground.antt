@@ -1,5 +1,5 @@
 -- What the walk of a mirror asks of its setting, over units that tell their blocks.
-use Rattle.std.proofs.Common.{List, map, refl, subst, arith}
+use Rattle.std.proofs.Common.{◌≤◌, List, map, refl, subst, arith}
 use Rattle.rig_api.specs.Target.{Stored}
 use Rattle.rig_discovery.specs.Discovery.{info_of}
 use Rattle.volume_table.specs.declared.device.DeviceInfo.{DeviceInfo}
@@ -15,6 +15,7 @@ use Rattle.mirror_laws.specs.Sizes.{HasSizes}
 use Rattle.mirror_laws.proofs.Sizes.{delivers_whole}
 use Rattle.mirror_volume.specs.MirrorScript.{IsMirrorScript}
 use Rattle.mirror_volume.proofs.Asked.{asked}
+use Rattle.mirror_volume.proofs.Suits.{block_sizes}
 use Rattle.mirror_volume.proofs.Renumbered.{still}
 use Rattle.mirror_volume.specs.Standing.{IsMirrorOver, half_of, mirror_setting}
 
@@ -24,6 +25,9 @@ module _ (s : Script) (devices : List DeviceInfo) (us : List Stored) (is : IsMir
 
   pub fits : IsMirrorScript s (table_of s devices) (half_of s devices)
   fits = asked s (table_of s devices) devices is.bound.keeps is.bound.lines is.bound.bound
+
+  pub small : s.block ≤ 4096
+  small = (block_sizes s.block fits.block_is).1
 
   pub made-over : MadeFor (table_of s devices) (map info_of (shapes_of us)) s.block
   made-over = subst (λ (ds : List DeviceInfo). MadeFor (table_of s devices) ds s.block) is.units is.bound.made

@@ -30,7 +30,6 @@ use Rattle.mirror_volume.specs.declared.piece.Piece.{Piece}
 use Rattle.mirror_volume.specs.Inner.{first_label, first_virt, read_pi_script}
 use Rattle.mirror_volume.specs.MirrorScript.{IsMirrorScript, without_faults}
 use Rattle.mirror_volume.proofs.Asked.{still_asked}
-use Rattle.mirror_volume.proofs.Suits.{block_sizes}
 use Rattle.mirror_volume.specs.Asked.{AreOf, fresh_on0, part_of, stretches}
 use Rattle.mirror_volume.specs.LegRuns.{AllWalked, LegRun}
 use Rattle.mirror_volume.specs.Mending.{AreMends, Mended, RepairBy, StretchBy, fresh_on1, needs_by, stretches_in, whole_stretch, whys_by}
@@ -182,9 +181,6 @@ module _ (law : LookLaw) (s : Script) (devices : List DeviceInfo) (bound : IsBou
     is-quiet : IsMirrorScript s' t half
     is-quiet = still_asked s t half is-mirror
 
-    small : s.block ≤ 4096
-    small = (block_sizes s.block is-mirror.block_is).1
-
     -- what is read there is as long as a frame
     exact : (b : Block) → b.virt < half + half → IfOk (reading q b (blocks_told now)) (λ f. length f ≡ s.block + 8)
     exact b l =
@@ -273,10 +269,10 @@ module _ (law : LookLaw) (s : Script) (devices : List DeviceInfo) (bound : IsBou
         needs-long s.block (good0 q half u n r) (good1 q half u n r) (a ∙ sym b) ∙ a
 
     fit0 : IsLooked s'.block half p0
-    fit0 = record { few = few; small = small; inside = inside }
+    fit0 = record { few = few; small = small s devices now at.over; inside = inside }
 
     fit1 : IsLooked s'.block half p1
-    fit1 = record { few = few; small = small; inside = inside }
+    fit1 = record { few = few; small = small s devices now at.over; inside = inside }
 
     stretch-goes : (new : Mended) (runs : List LegRun) (left : List Stored) → StretchBy s half u n old new runs → AllWalked t now runs left → Stretched u n now left old new
     stretch-goes new runs left by walk =
@@ -290,7 +286,7 @@ module _ (law : LookLaw) (s : Script) (devices : List DeviceInfo) (bound : IsBou
         let need : by.needs ≡ all =
         by.needs_are ∙ (λ i. needs_by ((l0.good_are ∙ goods0) i) ((l1.good_are ∙ goods1) i)) ∙ needs-same s.block (good0 q half u n r) (good1 q half u n r) in
         let c = all-count in
-        let mends = mends-go s t half quiet is-quiet small (shapes_of now) n u all now left by.mends (omega (arith, c, inside)) all-fit refl (subst (λ (ns : List Need). AreMends s half n u ns by.mends) need by.mends_are) last in
+        let mends = mends-go s t half quiet is-quiet (small s devices now at.over) (shapes_of now) n u all now left by.mends (omega (arith, c, inside)) all-fit refl (subst (λ (ns : List Need). AreMends s half n u ns by.mends) need by.mends_are) last in
         let done : stand left new ≡ after_due q half u all r =
         ap (λ (d : Mended). stand left d) by.new_is
         ∙ (λ i. record {

@@ -40,7 +40,8 @@ use Rattle.mirror_volume.proofs.Painting.{all-stretches, chosen, painted}
 use Rattle.mirror_volume.proofs.Requests.{IsRequest, whole-piece}
 use Rattle.mirror_volume.proofs.Readings.{first-long}
 use Rattle.mirror_volume.proofs.SparedFetch.{IsRight, chosen-at, first-at, fresh0-at, last-at, listed_of, lands_of, read-right, rest-at, slice-flat}
-use Rattle.mirror_volume.proofs.SparedGround.{Altered, HasLeg, is-mirror}
+use Rattle.mirror_volume.proofs.Ground.{fits}
+use Rattle.mirror_volume.proofs.SparedGround.{Altered, HasLeg}
 use Rattle.mirror_volume.proofs.SparedLegs.{LegFell, leg-fell}
 use Rattle.mirror_volume.proofs.SparedNames.{fails-first, fails-last}
 use Rattle.mirror_volume.proofs.SparedReads.{Comes, LegCame, PartCame, base, base-comes, leg-came, part-local, slice}
@@ -148,7 +149,7 @@ module _ (s : Script) (devices : List DeviceInfo) (us : List Stored) (over : IsM
     ss = stretches wanted
 
     abbrev Fell : List Stored → Type 0
-    Fell left = LegFell s t half (is-mirror s devices us over) (shapes_of us) cells q fit block named Bad ss runs left
+    Fell left = LegFell s t half (fits s devices us over) (shapes_of us) cells q fit block named Bad ss runs left
 
     abbrev All : Type 0
     All = Glued (PartCame m size block cells IsBadAt) (part-local m size block cells IsBadAt) (Comes m size block cells IsBadAt) (base m size block cells IsBadAt) (base-comes m size block cells IsBadAt) ss runs
@@ -195,7 +196,7 @@ module _ (s : Script) (devices : List DeviceInfo) (us : List Stored) (over : IsM
 
     fell0 : Fell p0 fit0 block0 refl named0 wanted0 wanted0-long w.runs0 both.0
     fell0 =
-        leg-fell s t half (is-mirror s devices us over) (shapes_of us) cells p0 fit0 block0 named0 (λ w'. fails_on_leg w' w.runs0 ≡ true) (stretches wanted0) w.runs0 now both.0 same refl
+        leg-fell s t half (fits s devices us over) (shapes_of us) cells p0 fit0 block0 named0 (λ w'. fails_on_leg w' w.runs0 ≡ true) (stretches wanted0) w.runs0 now both.0 same refl
         (subst (λ (k : ℕ). AllInside k (stretches wanted0)) wanted0-long (all-inside wanted0)) w.read.on0 both.1.0 (λ x bad. bad)
 
     all0 : All p0 fit0 block0 refl named0 wanted0 wanted0-long w.runs0
@@ -221,7 +222,7 @@ module _ (s : Script) (devices : List DeviceInfo) (us : List Stored) (over : IsM
 
     fell1 : Fell p1 fit1 block1 refl named1 wanted1 wanted1-long w.runs1 left
     fell1 =
-        leg-fell s t half (is-mirror s devices us over) (shapes_of us) cells p1 fit1 block1 named1 (λ w'. fails_on_leg w' w.runs1 ≡ true) (stretches wanted1) w.runs1 both.0 left fell0.shapes fell0.same
+        leg-fell s t half (fits s devices us over) (shapes_of us) cells p1 fit1 block1 named1 (λ w'. fails_on_leg w' w.runs1 ≡ true) (stretches wanted1) w.runs1 both.0 left fell0.shapes fell0.same
         (subst (λ (k : ℕ). AllInside k (stretches wanted1)) wanted1-long (all-inside wanted1)) w.read.on1 both.1.1 (λ x bad. bad)
 
     all1 : All p1 fit1 block1 refl named1 wanted1 wanted1-long w.runs1

@@ -26,7 +26,6 @@ use Rattle.mirror_laws.specs.Mirror.{blocks_in, fresh}
 use Rattle.mirror_laws.specs.declared.marks.Marks.{Marks}
 use Rattle.mirror_laws.specs.OneGood.{IsUnnamed, on_leg}
 use Rattle.mirror_volume.specs.LegsPassed.{none_fails, setting_of, table_of}
-use Rattle.mirror_volume.specs.MirrorScript.{IsMirrorScript}
 use Rattle.mirror_volume.specs.Spared.{IsAltered, IsUnaltered, has_block, named_on, place_on, stored_on}
 use Rattle.mirror_volume.specs.Enough.{opening_over}
 use Rattle.mirror_volume.specs.Premises.{HoldsBytes}
@@ -74,9 +73,6 @@ module _ (s : Script) (devices : List DeviceInfo) (us : List Stored) (over : IsM
   abbrev t : Table
   t = table_of s devices
 
-  pub is-mirror : IsMirrorScript s (table_of s devices) (half_of s devices)
-  is-mirror = fits s devices us over
-
   -- ---- over units of the same shapes
 
   module _ (now : List Stored) (same : shapes_of now ≡ shapes_of us) where
@@ -85,13 +81,13 @@ module _ (s : Script) (devices : List DeviceInfo) (us : List Stored) (over : IsM
 
     pub homes-apart : (v w : ℕ) → v < half + half → w < half + half → home (mirror_setting s devices now) v ≡ home (mirror_setting s devices now) w → v ≡ w
     homes-apart v w l k e =
-        let long = is-mirror.long in
+        let long = (fits s devices us over).long in
         (legs s devices us over).one_cell_each v w (omega (arith, l, long)) (omega (arith, k, long))
         (subst (λ (x : Setting). home x v ≡ home x w) same-setting e)
 
     pub home-inside : (v : ℕ) → v < half + half → home (mirror_setting s devices now) v < length (blocks_told now)
     home-inside v l =
-        let long = is-mirror.long in
+        let long = (fits s devices us over).long in
         subst (λ (n : ℕ). home (mirror_setting s devices now) v < n) (sym (as-many us now same))
         (subst (λ (x : Setting). home x v < length (blocks_told us)) (sym same-setting)
         ((has-cells s devices us over).within (place_in t.entries v).0 (place_in t.entries v).1 ((lies-on s devices us over).inside v (omega (arith, l, long)))))
@@ -121,7 +117,7 @@ module _ (s : Script) (devices : List DeviceInfo) (us : List Stored) (over : IsM
 
     sound-at : (c : Bool) → SoundAs m (place_on s devices c u) (brought_by s.block (stored_on s devices us us c u)) (stored_on s devices us us c u)
     sound-at c =
-        let long = is-mirror.long in
+        let long = (fits s devices us over).long in
         let v = place_on s devices c u in
         let l = leg-inside c u half p.inside in
         let is = p.clean c in

@@ -36,7 +36,8 @@ use Rattle.mirror_volume.proofs.Others.{IsSpot, put-here, spot}
 use Rattle.mirror_volume.proofs.Premises.{has-cells, lies-on}
 use Rattle.mirror_volume.proofs.Requests.{op-fits, overwrite-fits, request-fits}
 use Rattle.mirror_volume.proofs.SparedFetched.{kept-fetch}
-use Rattle.mirror_volume.proofs.SparedGround.{Altered, HasLeg, free-at, is-mirror, leg-inside, shown-at}
+use Rattle.mirror_volume.proofs.Ground.{fits}
+use Rattle.mirror_volume.proofs.SparedGround.{Altered, HasLeg, free-at, leg-inside, shown-at}
 use Rattle.mirror_volume.proofs.SparedWrites.{IsFree, IsShown, has-still}
 use Rattle.mirror_volume.proofs.SparedWrote.{Kept, kept-write}
 use Rattle.mirror_volume.proofs.LegsPassed.{op-keeps}
@@ -93,7 +94,7 @@ module _ (s : Script) (devices : List DeviceInfo) (us : List Stored) (over : IsM
 
     leg-off : (c : Bool) → home m (place_on s devices c u) ≡ cell_in (shapes_of now) dev lba → ⊥
     leg-off c q =
-        let long = (is-mirror s devices us over).long in
+        let long = (fits s devices us over).long in
         let v = place_on s devices c u in
         let inside = leg-inside c u half p.inside in
         let x = (has-cells s devices us over).apart dev lba (place_in t.entries v).0 (place_in t.entries v).1 on ((lies-on s devices us over).inside v (omega (arith, inside, long)))

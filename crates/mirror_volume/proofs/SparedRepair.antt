@@ -42,9 +42,9 @@ use Rattle.mirror_volume.proofs.Looked.{IsLooked, looked-part}
 use Rattle.mirror_volume.proofs.OneLeg.{AllInside, all-inside}
 use Rattle.mirror_volume.proofs.Quiet.{NoneOfZero, none-of-zero}
 use Rattle.mirror_volume.proofs.Repairs.{marks-long}
-use Rattle.mirror_volume.proofs.Suits.{block_sizes}
 use Rattle.mirror_volume.proofs.SparedFetched.{fallen-both}
-use Rattle.mirror_volume.proofs.SparedGround.{free, homes-apart, is-mirror, leg-inside, same-setting}
+use Rattle.mirror_volume.proofs.Ground.{fits, small}
+use Rattle.mirror_volume.proofs.SparedGround.{free, homes-apart, leg-inside, same-setting}
 use Rattle.mirror_volume.proofs.Helds.{goods-long}
 use Rattle.mirror_volume.proofs.SparedLists.{SparesLeg, bit_on, bits-spared, delivered-at, delivered-few, goods-at, needs-few, needs-first, needs-second, part-long, part-none}
 use Rattle.mirror_volume.proofs.SparedNames.{fails-first, fails-last, lists-it, names-one}
@@ -76,9 +76,6 @@ module _ (s : Script) (devices : List DeviceInfo) (us : List Stored) (over : IsM
   abbrev size : ℕ
   size = s.block
 
-  small : s.block ≤ 4096
-  small = (block_sizes s.block (is-mirror s devices us over).block_is).1
-
   unnamed-zero : (b : Block) → b.op ≡ 0 → IsUnnamed m b
   unnamed-zero b z at = none-flips s.faults at (record { op = b.op; k = b.k }) z (none-of-zero s t devices over.bound.lines over.bound.bound)
 
@@ -106,9 +103,9 @@ module _ (s : Script) (devices : List DeviceInfo) (us : List Stored) (over : IsM
 
     module _ (a c : ℕ) (some : 1 ≤ c) (within : a + c ≤ q.n) (r : LegRun) (own : r.own ≡ read_pi_script s half (part_of q (a, c))) (now next : List Stored) (shapes : shapes_of now ≡ shapes_of us) (same : blocks_told now ≡ cells)
         (fell : HasFallen r.own t now next (pool_of r) r.records (replies_of r)) where
-      look : FellLook s t half (part_of q (a, c)) (is-mirror s devices us over) (looked-part s.block half q fit a c some within) now next (replies_of r)
+      look : FellLook s t half (part_of q (a, c)) (fits s devices us over) (looked-part s.block half q fit a c some within) now next (replies_of r)
       look =
-          fell-look s t half (part_of q (a, c)) (is-mirror s devices us over) (looked-part s.block half q fit a c some within) now next (pool_of r) r.records (replies_of r)
+          fell-look s t half (part_of q (a, c)) (fits s devices us over) (looked-part s.block half q fit a c some within) now next (pool_of r) r.records (replies_of r)
           (subst (λ (x : Script). HasFallen x t now next (pool_of r) r.records (replies_of r)) own fell)
 
       found-none : (k : ℕ) → k < c → a + k ≡ j → (frame : List ℕ) → reading m (block j) cells ≡ Ok frame → names_medium (block j).virt r.own.ops (replies_of r) ≡ false → get_or (found_by c (replies_of r)) k None ≡ None
@@ -155,10 +152,10 @@ module _ (s : Script) (devices : List DeviceInfo) (us : List Stored) (over : IsM
         → (shapes_of next ≡ shapes_of us) × (get_or (blocks_told next) (home m (place_on s devices leg u)) [] ≡ get_or (blocks_told now) (home m (place_on s devices leg u)) [])
     mend-stays on1 c x r now next l shapes own fell off =
         let q : Piece = record (whole_stretch c n) { n = 1; on1 = on1 } in
-        let fit : IsPiece s.block half q = record { some = omega arith; room = omega (arith, small); inside = omega (arith, l) } in
+        let fit : IsPiece s.block half q = record { some = omega arith; room = omega (arith, small s devices us over); inside = omega (arith, l) } in
         let mine = subst (λ (z : Script). HasFallen z t now next (pool_of r) r.records (replies_of r)) own fell in (
           mine.shapes ∙ shapes,
-          fell-elsewhere s t half q (is-mirror s devices us over) fit now x.app x.body next (pool_of r) r.records (replies_of r) mine (home m (place_on s devices leg u))
+          fell-elsewhere s t half q (fits s devices us over) fit now x.app x.body next (pool_of r) r.records (replies_of r) mine (home m (place_on s devices leg u))
               (λ k h z. off (at-leg on1 k h (homes-apart s devices us over now shapes (first_virt half q + k) (place_on s devices leg u) (below on1 k h) (leg-inside leg u half p.inside)
               (z ∙ ap (λ (y : Setting). home y (place_on s devices leg u)) (sym (same-setting s devices us over now shapes)))))),
         )
@@ -231,10 +228,10 @@ module _ (s : Script) (devices : List DeviceInfo) (us : List Stored) (over : IsM
     p1 = record (whole_stretch v n) { on1 = true }
 
     fit0 : IsLooked s.block half p0
-    fit0 = record { few = few; small = small; inside = inside }
+    fit0 = record { few = few; small = small s devices us over; inside = inside }
 
     fit1 : IsLooked s.block half p1
-    fit1 = record { few = few; small = small; inside = inside }
+    fit1 = record { few = few; small = small s devices us over; inside = inside }
 
     named0 : (a c j : ℕ) → record { op = 0; k = first_label (part_of p0 (a, c)) + j; virt = first_virt half (part_of p0 (a, c)) + j } ≡ block0 (a + j)
     named0 a c j =

@@ -44,7 +44,8 @@ use Rattle.mirror_volume.proofs.FellLegs.{Says, WroteEach}
 use Rattle.mirror_volume.proofs.FellWrite.{FellWrite, fell-write}
 use Rattle.mirror_volume.proofs.Free.{IsWhole}
 use Rattle.mirror_volume.proofs.Requests.{IsRequest, whole-piece}
-use Rattle.mirror_volume.proofs.SparedGround.{Altered, HasLeg, home-inside, homes-apart, is-mirror}
+use Rattle.mirror_volume.proofs.Ground.{fits}
+use Rattle.mirror_volume.proofs.SparedGround.{Altered, HasLeg, home-inside, homes-apart}
 use Rattle.mirror_volume.proofs.SparedNames.{lists-it, names-it, one-fails, rest-fails}
 use Rattle.mirror_volume.proofs.SparedReads.{slice-long}
 use Rattle.mirror_volume.proofs.SparedWrites.{IsFree, IsShown, IsWrittenOn, LegWrote, has-still, listed-at, marks-in, marks-out, written-at, written-on}
@@ -135,8 +136,8 @@ module _ (s : Script) (devices : List DeviceInfo) (us : List Stored) (over : IsM
   leg0 r left own w =
       let mine = subst (λ (x : Script). HasFallen x t now left (pool_of r) r.records (replies_of r)) own w in
       let inside = req.inside in
-      let f : FellWrite s t half p0 (is-mirror s devices us over) fit0 now app bytes long left (replies_of r) =
-      fell-write s t half p0 (is-mirror s devices us over) fit0 now app bytes long
+      let f : FellWrite s t half p0 (fits s devices us over) fit0 now app bytes long left (replies_of r) =
+      fell-write s t half p0 (fits s devices us over) fit0 now app bytes long
       (λ a b l k q. (let z = homes-apart s devices us over now same (v + a) (v + b) (omega (arith, l, inside)) (omega (arith, k, inside)) q in omega (arith, z)))
       (λ a l. home-inside s devices us over now same (v + a) (omega (arith, l, inside)))
       left (pool_of r) r.records (replies_of r) mine in
@@ -153,8 +154,8 @@ module _ (s : Script) (devices : List DeviceInfo) (us : List Stored) (over : IsM
   leg1 mid alike r left own w =
       let mine = subst (λ (x : Script). HasFallen x t mid left (pool_of r) r.records (replies_of r)) own w in
       let inside = req.inside in
-      let f : FellWrite s t half p1 (is-mirror s devices us over) fit1 mid app bytes long left (replies_of r) =
-      fell-write s t half p1 (is-mirror s devices us over) fit1 mid app bytes long
+      let f : FellWrite s t half p1 (fits s devices us over) fit1 mid app bytes long left (replies_of r) =
+      fell-write s t half p1 (fits s devices us over) fit1 mid app bytes long
       (λ a b l k q. (let z = homes-apart s devices us over mid alike ((half + v) + a) ((half + v) + b) (omega (arith, l, inside)) (omega (arith, k, inside)) q in omega (arith, z)))
       (λ a l. home-inside s devices us over mid alike ((half + v) + a) (omega (arith, l, inside)))
       left (pool_of r) r.records (replies_of r) mine in
