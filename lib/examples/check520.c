@@ -4,20 +4,11 @@
    gcc -std=c11 check520.c $(pkg-config --cflags --libs dixpi) -o check520 */
 #define _DEFAULT_SOURCE
 #include <fcntl.h>
-#include <inttypes.h>
 #include <stdio.h>
 #include <stdlib.h>
 #include <sys/mman.h>
 #include <sys/stat.h>
 #include <dixpi.h>
-
-/* Prints the difference of a block. */
-static void print(const struct dixpi_found *found) {
-    const char *name = found->check == DIXPI_CHECK_GUARD ? "guard" : "reference tag";
-    int digits = found->check == DIXPI_CHECK_GUARD ? 4 : 8;
-    printf("block %" PRIu64 ": %s wanted %0*" PRIx32 ", has %0*" PRIx32 "\n", found->block, name, digits,
-           found->expected, digits, found->actual);
-}
 
 int main(int count, char **words) {
     struct stat file;
@@ -33,10 +24,12 @@ int main(int count, char **words) {
     struct dixpi_layout layout = {512, 8, 0, (uint32_t)strtoul(words[2], NULL, 0), DIXPI_CRC};
     struct dixpi_want want = {(uint32_t)strtoul(words[3], NULL, 0), 0, 0, DIXPI_CHECK_GUARD | DIXPI_CHECK_REF};
     struct dixpi_found found;
+    char text[80];
     uint64_t start = 0;
     uint32_t status;
     while ((status = dixpi_verify_from(blocks, len, &layout, &want, start, &found)) == DIXPI_DIFFERS) {
-        print(&found);
+        dixpi_found_text(&found, text, sizeof text);
+        puts(text);
         start = found.block + 1; /* goes on behind it */
     }
     if (status != DIXPI_OK)

@@ -22,7 +22,7 @@ dixpi = ctypes.CDLL(os.environ.get("LIBDIXPI", "libdixpi.so.0"))
 dixpi.dixpi_verify_from.restype = c_uint32
 dixpi.dixpi_verify_from.argtypes = [c_void_p, c_size_t, *map(ctypes.POINTER, (Layout, Want)), c_uint64, ctypes.POINTER(Found)]
 GUARD, REF = 2, 8
-NAMES = {GUARD: ("guard", 4), REF: ("reference tag", 8)}
+dixpi.dixpi_found_text.argtypes = [ctypes.POINTER(Found), c_void_p, c_size_t]
 
 if len(sys.argv) != 4:
     sys.exit("usage: check520.py FILE TYPE FIRST")
@@ -31,10 +31,10 @@ with open(sys.argv[1], "rb") as file:
 blocks = (c_char * len(dump)).from_buffer(dump)
 layout = Layout(512, 8, 0, int(sys.argv[2], 0), 0)
 want, found = Want(int(sys.argv[3], 0), 0, 0, GUARD | REF), Found()
-start = 0
+text, start = ctypes.create_string_buffer(80), 0
 while (status := dixpi.dixpi_verify_from(blocks, len(dump), layout, want, start, found)) == 1:
-    name, digits = NAMES[found.check]
-    print(f"block {found.block}: {name} wanted {found.expected:0{digits}x}, has {found.actual:0{digits}x}")
+    dixpi.dixpi_found_text(found, text, len(text))
+    print(text.value.decode())
     start = found.block + 1  # goes on behind it
 if status != 0:
     print("no whole blocks of 520 bytes, or no type 1 to 3", file=sys.stderr)

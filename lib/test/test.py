@@ -236,15 +236,20 @@ asked = [dixpi.dixpi_protect_checks(protect) for protect in range(8)]
 holds("protect_checks", asked == [1, 14, 12, 1, 2, 14, 0, 0])
 
 text = memory(b"x" * 80)
-for call, argument, wanted in (
-    (dixpi.dixpi_found_text, Found(7, 2, 0xF684, 0xBDB6), b"block 7: guard wanted f684, has bdb6"),
-    (dixpi.dixpi_found_text, Found(5, 8, 105, 9), b"block 5: reference tag wanted 00000069, has 00000009"),
-    (dixpi.dixpi_check_name, 4, b"application tag"),
-    (dixpi.dixpi_status_text, 1, b"a block differs"),
-):
-    holds("a text's length", call(argument, text, 80) == len(wanted))
-    holds("a text", bytes(text).split(b"\0")[0] == wanted)
-    holds("a text that is cut", call(argument, text, 6) == len(wanted) and bytes(text)[:6] == wanted[:5] + b"\0")
+
+
+def texts(what, wanted, answer_of):
+    holds(f"{what}, its length", answer_of(80) == len(wanted))
+    holds(f"{what}, the text", bytes(text).split(b"\0")[0] == wanted)
+    holds(f"{what}, cut", answer_of(6) == len(wanted) and bytes(text)[:6] == wanted[:5] + b"\0")
+
+
+guard, tag = Found(7, 2, 0xF684, 0xBDB6), Found(5, 8, 105, 9)
+texts("found_text", b"block 7: guard wanted f684, has bdb6", lambda size: dixpi.dixpi_found_text(guard, text, size))
+tags = b"block 5: reference tag wanted 00000069, has 00000009"
+texts("found_text of a tag", tags, lambda size: dixpi.dixpi_found_text(tag, text, size))
+texts("check_name", b"application tag", lambda size: dixpi.dixpi_check_name(4, text, size))
+texts("status_text", b"a block differs", lambda size: dixpi.dixpi_status_text(1, text, size))
 
 print(f"test.py: {passed} passed, {failed} failed")
 sys.exit(failed != 0)

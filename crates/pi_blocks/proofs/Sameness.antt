@@ -1,11 +1,11 @@
 -- What sense data tell stays when bytes change that no reader looks at.
-use Rattle.std.proofs.Common.{◌≡◌, ℕ, zero, suc, ◌+◌, ◌%◌, ◌<◌, ◌≤◌, Bool, true, false, if◌then◌else◌, leb, List, [], ◌∷◌, take, drop, length, slice_index, Option, Some, None, refl, sym, subst, ap, ◌∙◌, arith, rules}
+use Rattle.std.proofs.Common.{◌≡◌, ℕ, zero, suc, ◌+◌, ◌%◌, ◌≤◌, Bool, true, false, if◌then◌else◌, leb, List, [], ◌∷◌, take, drop, length, slice_index, Option, Some, None, refl, sym, subst, ap, ◌∙◌, arith, rules}
 use Rattle.std.proofs.lemmas.Bool.Decides.{nat_tests}
 use Rattle.std.specs.Int.{w32, w64, from_be_bytes}
 use Rattle.sense_codes.specs.declared.Sense.{Sense}
 use Rattle.sense_codes.specs.declared.decode.SenseFault.{SenseFault}
 use Rattle.sense_codes.specs.declared.decode.SenseFault.TheVariants.{Short, Form}
-use Rattle.pi_blocks.specs.Seen.{Information, Informs, SaysBy, SaysDescribed, SaysFixed, Tells, TellsNone, code_in, end_of, is_cut_by, is_cut_off, is_deferred, is_described, is_fixed, place_of}
+use Rattle.pi_blocks.specs.Seen.{Information, Informs, SaysBy, SaysDescribed, SaysFixed, TellsNone, code_in, end_of, is_cut_by, is_cut_off, is_deferred, is_described, is_fixed, place_of}
 use Rattle.pi_blocks.specs.Same.{SameDescribed, SameFixed, TellSame}
 
 same-code : (a b : List ℕ) → slice_index a 0 ≡ slice_index b 0 → code_in a ≡ code_in b

@@ -1,5 +1,5 @@
 -- What is found, in words.
-use Rattle.std.specs.Prelude.{ℕ, ◌+◌, ◌-◌, Bool, ◌||◌, eqb, leb, if◌then◌else◌, List, [], ◌∷◌, ◌++◌, take, drop, length, codes, decimal}
+use Rattle.std.specs.Prelude.{ℕ, ◌+◌, ◌-◌, ◌||◌, eqb, leb, if◌then◌else◌, List, ◌∷◌, ◌++◌, take, drop, length, codes, decimal}
 use Rattle.std.specs.Int.{w16, w32, to_be_bytes}
 use Rattle.hex.specs.Hex.{encode_lower}
 use Rattle.pi_blocks.specs.declared.block.Found.{Found}

@@ -1,4 +1,4 @@
-use Rattle.std.proofs.Common.{◌∙◌, rules, sym, arith}
+use Rattle.std.proofs.Common.{◌∙◌, sym, arith}
 use Rattle.pi_blocks.specs.Blocks.{apart}
 use Rattle.pi_blocks.specs.Parts.{all_parts, left_of}
 use Rattle.pi_blocks.proofs.Aparts.{next_data}

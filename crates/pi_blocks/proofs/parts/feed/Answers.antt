@@ -1,4 +1,4 @@
-use Rattle.std.proofs.Common.{◌≡◌, ◌++◌, ◌∙◌, List, ℕ, length, subst, take, arith}
+use Rattle.std.proofs.Common.{◌++◌, ◌∙◌, List, ℕ, length, subst, take, arith}
 use Rattle.pi_guard.specs.Stands.{Stands}
 use Rattle.pi_blocks.specs.Parts.{left_of}
 use Rattle.pi_blocks.proofs.Feeds.{enough_on, left_on, read_on}

@@ -1,5 +1,5 @@
-use Rattle.std.proofs.Common.{◌≡◌, ◌+◌, ◌≤◌, slice_index, refl, sym, subst, ap, ◌∙◌, arith}
-use Rattle.pi_blocks.specs.Seen.{Informs, end_of, place_of}
+use Rattle.std.proofs.Common.{◌≡◌, ◌+◌, ◌≤◌, slice_index, refl, sym, subst, arith}
+use Rattle.pi_blocks.specs.Seen.{Informs}
 use Rattle.pi_blocks.proofs.Seeing.{next-place, none-informs, one-less}
 use Rattle.pi_blocks.proofs.seen.information.Goals as goal
 use Rattle.pi_blocks.proofs.seen.information.Goals.{else-bytes-at-eq0-via-then-bytes-at-eq0+then-bytes-at-eq10+else-bytes-at-ge128, else-bytes-at-eq0-via-then-bytes-at-eq0+else-bytes-at-eq10, else-bytes-at-eq0-via-else-bytes-at-eq0}
