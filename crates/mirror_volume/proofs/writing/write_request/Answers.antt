@@ -1,4 +1,5 @@
-use Rattle.std.proofs.Common.{ℕ, ◌≡◌, ◌++◌, List, Option, true, false, ap, length, rules, sym, ◌∙◌}
+use Rattle.std.proofs.Common.{ℕ, ◌≡◌, ◌<◌, ◌++◌, List, Option, true, false, ap, length, rules, sym, ◌∙◌}
+use Rattle.std.proofs.lemmas.List.Elements.{All-from_get_or}
 use Rattle.std.proofs.lemmas.Result.{IfOk-weaker}
 use Rattle.bio_core.specs.declared.fate.Why.{Why}
 use Rattle.stack_ops.specs.declared.reply.Reply.{Reply}
@@ -69,7 +70,7 @@ returns-clause-ran g c =
     let listed : c.deref-4.result.now ≡ listed_written (found_by on0.n (replies_of first.run)) (found_by on0.n (replies_of last.run)) =
     c.deref-4.ensures.value ∙ written-back c.in_ok-found0.found0.len c.list_by_both.new.found0 _ long ∙ c.list_by_both.ensures ∙ (λ i. listed_written ((both0 ∙ first.so) i) (both1 i)) in
     run-both _ of0 of1 (IfOk-weaker c.request_reply.result _ _ (λ (reply : Reply) e. record {
-      octets = c.fits-bytes.1;
+      octets = All-from_get_or (λ (x : ℕ). x < 256) c.args.bytes.now 0 (λ i l. (c.type_inv.bytes i).fits);
       on0 = first.run;
       on1 = last.run;
       runs_are = λ i. first.only i ++ last.only i;
