@@ -15,8 +15,8 @@ use Rattle.stack_laws.specs.Rests.{rests}
 use Rattle.merge_queue.specs.Index.{Queued, bios_in}
 use Rattle.stack_laws.specs.View.{View, OpView, Command, no_command, is_admitted, no_op, op_at, queue_at, group_at, command_at}
 use Rattle.range_gate.specs.declared.phase.Phase.{Phase}
-use Rattle.range_gate.specs.declared.phase.Phase.TheVariants.{Admitted, Ended}
-use Rattle.range_gate.specs.Gates.{Gated, conflict_at, is_waiting, has_ended, may_admit}
+use Rattle.range_gate.specs.declared.phase.Phase.TheVariants.{Waiting, Admitted, Ended}
+use Rattle.range_gate.specs.Gates.{Gated, conflict_at, phase_at, is_waiting, has_ended, may_admit}
 use Rattle.stack_laws.specs.Open.{in_order}
 use Rattle.stack_laws.specs.Steps.{Step, End, Complete, Admit, Cut, Join, Send, can, unended, enabled_below, settle, step}
 use Rattle.stack_laws.specs.Runs.{blocks_of_requests}
@@ -41,7 +41,7 @@ use Rattle.stack_steps.specs.Moves.{more_cut, no_queue, room_of, KeepRoom}
 use Rattle.stack_steps.proofs.Settle.{settles}
 use Rattle.stack_steps.proofs.Back.{bios-put}
 use Rattle.stack_steps.proofs.Sums.{sends-fit, all-divide, all-in, queue-ends, queue-small, one-put, all-put}
-use Rattle.stack_steps.proofs.Chosen.{state-there, gate-same, lives}
+use Rattle.stack_steps.proofs.Chosen.{state-there, phase-there, gate-same, lives}
 
 -- ---- the window
 
@@ -201,6 +201,9 @@ keeps-all p gate gate' ops ops' live live' qs qs' flight flight' steps steps' he
 pub state-is : (p : Plan) (gate : Gated) (ops : List OpState) (live : List ℕ) (qs : List Queued) (flight : Flights) (steps : ℕ) (v : View) (i : ℕ) → Shows p gate ops live qs flight steps v.queues v → get_or ops i no_state ≡ state_of (op_at v i)
 state-is p gate ops live qs flight steps v i s = ap (λ z. get_or z i no_state) s.states ∙ state-there v i
 
+pub phase-is : (p : Plan) (gate : Gated) (ops : List OpState) (live : List ℕ) (qs : List Queued) (flight : Flights) (steps : ℕ) (v : View) (i : ℕ) → Shows p gate ops live qs flight steps v.queues v → phase_at gate.phases i ≡ (op_at v i).phase
+phase-is p gate ops live qs flight steps v i s = ap (λ z. phase_at z i) s.phases ∙ phase-there v i
+
 -- an op of the list
 pub count-few : (rs : List PlannedOp) (i : ℕ) → (get_or rs i no_request).count ≤ blocks_of_requests rs
 count-few [] i = omega arith
@@ -226,7 +229,20 @@ listed-there p gate ops live qs flight steps v q f s h =
     let n = f.few_ops in
     record { place = omega arith; number = omega arith; gated = omega arith; op = omega arith; request = omega arith }
 
--- an op that may be admitted
+-- an op that may end, and one that may be admitted
+pub may-end : (p : Plan) (gate : Gated) (ops : List OpState) (live : List ℕ) (qs : List Queued) (flight : Flights) (steps : ℕ) (v : View) (q : ℕ) (t : Step) → Shows p gate ops live qs flight steps v.queues v → can p v t ≡ true →
+    (q < length (live_ops v)) × (t ≡ End (get_or (live_ops v) q 0)) → phase_at gate.phases (get_or live q 0) ≡ Admitted
+may-end p gate ops live qs flight steps v q t s h m =
+    let hh : can p v (End (get_or (live_ops v) q 0)) ≡ true = ap (can p v) (sym m.1) ∙ h in
+    let g : get_or live q 0 ≡ get_or (live_ops v) q 0 = ap (λ z. get_or z q 0) s.listed in
+    ap (phase_at gate.phases) g ∙ phase-is p gate ops live qs flight steps v (get_or (live_ops v) q 0) s
+    ∙ is-admitted (op_at v (get_or (live_ops v) q 0)).phase (and_parts (is_admitted (op_at v (get_or (live_ops v) q 0)).phase) _ hh).0
+  where
+    is-admitted : (x : Phase) → is_admitted x ≡ true → x ≡ Admitted
+    is-admitted Waiting e = cc
+    is-admitted Admitted e = refl
+    is-admitted Ended e = cc
+
 pub may-enter : (p : Plan) (gate : Gated) (ops : List OpState) (live : List ℕ) (qs : List Queued) (flight : Flights) (steps : ℕ) (v : View) (q : ℕ) (t : Step) → Shows p gate ops live qs flight steps v.queues v → can p v t ≡ true →
     (q < length (live_ops v)) × (t ≡ Admit (get_or (live_ops v) q 0)) → may_admit gate (get_or live q 0) ≡ true
 may-enter p gate ops live qs flight steps v q t s h m =
