@@ -36,7 +36,7 @@ use Rattle.mirror_volume.specs.Mending.{AreMends, Mended, RepairBy, StretchBy, f
 use Rattle.mirror_volume.specs.OnOps.{Sides}
 use Rattle.mirror_volume.specs.Standing.{IsBoundMirror, IsMirrorOver, IsRepairedAs, StandsAt, half_of, mirror_setting, walked}
 use Rattle.mirror_volume.proofs.Fetched.{walked-both}
-use Rattle.mirror_volume.proofs.Ground.{fits, legs, made-over, sizes}
+use Rattle.mirror_volume.proofs.Ground.{fits, legs, made-over, sizes, small}
 use Rattle.mirror_volume.proofs.Looked.{IsLooked, LookLaw, each_good, looks, taken}
 use Rattle.mirror_volume.proofs.Mends.{NeedsWhole, mends-go}
 use Rattle.mirror_volume.proofs.Quiet.{NoneOfZero, none-of-zero, read-quiet, reads-under}
