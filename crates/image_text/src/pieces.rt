@@ -38,18 +38,18 @@ pub(crate) fn fill<S: Source>(source: &mut S, into: &mut [u8]) -> Result<usize, 
     Ok(got)
 }
 
-/// Puts data under a tuple of their own, where the unit has tuples.
-fn put_plain(unit: UnitSpec, lba: u64, data: &[u8], block: &mut [u8])
-    requires data { length data.now ≡ unit.size }
+/// Puts plain data under a tuple of their own, where the unit has tuples.
+fn put_plain(unit: UnitSpec, lba: u64, plain: &[u8], block: &mut [u8])
+    requires plain { length plain.now ≡ unit.size }
     requires block { length block.old ≡ stored_size unit.ty unit.size }
-    ensures { block.new ≡ with_own_tuple unit.ty lba data.now }
+    ensures { block.new ≡ with_own_tuple unit.ty lba plain.now }
 {
     let size = unit.size as usize;
-    block[..size].copy_from_slice(data);
+    block[..size].copy_from_slice(plain);
     if unit.ty == PiType::Zero {
         return;
     }
-    put_tuple(block, size, make(crc16(data), 0, own_tag(unit.ty, lba)));
+    put_tuple(block, size, make(crc16(plain), 0, own_tag(unit.ty, lba)));
 }
 
 /// Makes a block what is stored of a piece in its place.
