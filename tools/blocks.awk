@@ -4,8 +4,8 @@
 # FOLDER/N.sh, N counting them from 001. Where the next block follows at once, or behind a text that ends in a colon or
 # says `prints`, it is the block's output and goes to FOLDER/N.out. A paragraph that ends in a command between backquotes,
 # with a word or two behind it, is a command block too, and the block below is its output. What isn't run: a block with a
-# word in capitals outside of a here-document, such as IMAGE, and one with a line `# not run`. Lines that begin with
-# `run-dix: ` are what the wrapper says on standard error, and no output.
+# word in capitals outside of a here-document, such as IMAGE, one with a line `# not run`, and one that calls what stands in
+# lib/, which lib/run-tests runs. Lines that begin with `run-dix: ` are what the wrapper says on standard error, and no output.
 
 function is_command(line) {
     return line ~ /^(\.\/run-dix|\.\/run-dixlab|printf|sed|grep|tr|expand|dd|for|cp|cat|echo|cmp|od|head|tail|rm|LC_ALL=C) / ||
@@ -31,7 +31,7 @@ function outside(text, lines, n, i, end, out) {
 }
 
 function is_form(text, words, n, i) {
-    if (text ~ /(^|\n)# not run/) return 1
+    if (text ~ /(^|\n)(# not run|lib\/)/) return 1
     n = split(outside(text), words, /[ \n<>&|;]+/)
     for (i = 1; i <= n; i++) if (words[i] ~ /^[A-Z][A-Z_:.]+$|^[A-Z]$/) return 1
     return 0
