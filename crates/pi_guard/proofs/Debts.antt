@@ -9,9 +9,9 @@ use Rattle.pi_guard.specs.Trails.{owed_by, wide_owed_by, owed_next, wide_owed_ne
 use Rattle.pi_guard.proofs.Sparse.{sparse_64, sparse_128}
 use Rattle.pi_guard.proofs.Trailing.{nexts, followed, paid, settled, none_owed, chunk_past, chunk_within}
 
-paid-next : (i j k : ℕ) (m x rest : List ℕ) (ms : List (List ℕ)) → length x ≡ 16 →
-    paid i j k (m ∷ ms) (x ++ rest) ≡ zip2 bit_xor m (nexts i j k 16 (x ++ rest)) ++ paid i j k ms rest
-paid-next i j k m x rest ms l = ap (λ v. zip2 bit_xor m (nexts i j k 16 (x ++ rest)) ++ paid i j k ms v) (drop_at x rest 16 l)
+pub paid-next : (width i j k : ℕ) (m x rest : List ℕ) (ms : List (List ℕ)) → length x ≡ width →
+    paid width i j k (m ∷ ms) (x ++ rest) ≡ zip2 bit_xor m (nexts i j k width (x ++ rest)) ++ paid width i j k ms rest
+paid-next width i j k m x rest ms l = ap (λ v. zip2 bit_xor m (nexts i j k width (x ++ rest)) ++ paid width i j k ms v) (drop_at x rest width l)
 
 -- ---- 64 bytes
 
@@ -25,9 +25,9 @@ next_is x y z rest lx ly lz =
     rw (e1, e2, e3) refl
 
 pays : (m x y z rest : List ℕ) (ms : List (List ℕ)) → length x ≡ 16 → length y ≡ 16 → length z ≡ 16 →
-    paid 28 8 1 (m ∷ ms) (x ++ (y ++ (z ++ rest))) ≡ zip2 bit_xor m (owed_next x y z) ++ paid 28 8 1 ms (y ++ (z ++ rest))
+    paid 16 28 8 1 (m ∷ ms) (x ++ (y ++ (z ++ rest))) ≡ zip2 bit_xor m (owed_next x y z) ++ paid 16 28 8 1 ms (y ++ (z ++ rest))
 pays m x y z rest ms lx ly lz =
-    paid-next 28 8 1 m x (y ++ (z ++ rest)) ms lx ∙ ap (λ v. zip2 bit_xor m v ++ paid 28 8 1 ms (y ++ (z ++ rest))) (next_is x y z rest lx ly lz)
+    paid-next 16 28 8 1 m x (y ++ (z ++ rest)) ms lx ∙ ap (λ v. zip2 bit_xor m v ++ paid 16 28 8 1 ms (y ++ (z ++ rest))) (next_is x y z rest lx ly lz)
 
 pub none_owed_64 : owed_by (replicate 64 0) ≡ later 64 0
 none_owed_64 = none_owed 64 28 8 1 refl refl refl
@@ -40,7 +40,7 @@ followed_64 r a b c d m la lb lc ld lm h =
     let e = zip2 bit_xor m (nexts 28 8 1 16 w) in
     let f : b ++ (c ++ (d ++ e)) ≡ drop 16 w ++ e = sym (append_assoc b (c ++ d) e ∙ ap (λ l. b ++ l) (append_assoc c d e)) ∙ ap (λ v. v ++ e) (sym (drop_at a (b ++ (c ++ d)) 16 la)) in
     ap (λ v. owed_by (b ++ (c ++ (d ++ zip2 bit_xor m v)))) (sym (next_is a b c d la lb lc))
-    ∙ ap owed_by f ∙ followed 64 28 8 1 r w m sparse_64 (lit≤ tt) (lit≤ tt) (lit≤ tt) lw lm h
+    ∙ ap owed_by f ∙ followed 16 64 28 8 1 r w m sparse_64 (lit≤ tt) (lit≤ tt) (lit≤ tt) lw lm h
 
 pub settled_64 : (r : ℕ) (a b c d m n o p : List ℕ) → length a ≡ 16 → length b ≡ 16 → length c ≡ 16 → length d ≡ 16 → length m ≡ 16 → length n ≡ 16 → length o ≡ 16 → length p ≡ 16 → owed_by (a ++ (b ++ (c ++ d))) ≡ later 64 r →
     register 0 (zip2 bit_xor m (owed_next a b c) ++ (zip2 bit_xor n (owed_next b c d) ++ (zip2 bit_xor o (owed_next c d (replicate 16 0)) ++ zip2 bit_xor p (owed_next d (replicate 16 0) (replicate 16 0))))) ≡ register r (m ++ (n ++ (o ++ p)))
@@ -53,13 +53,13 @@ settled_64 r a b c d m n o p la lb lc ld lm ln lo lp h =
     let q3 = zip2 bit_xor o (owed_next c d z) in
     let q4 = zip2 bit_xor p (owed_next d z z) in
     let v : w ++ replicate 32 0 ≡ a ++ (b ++ (c ++ (d ++ (z ++ z)))) = append_assoc a (b ++ (c ++ d)) (z ++ z) ∙ ap (λ l. a ++ l) (append_assoc b (c ++ d) (z ++ z) ∙ ap (λ l. b ++ l) (append_assoc c d (z ++ z))) in
-    let all : paid 28 8 1 (m ∷ n ∷ o ∷ p ∷ []) (a ++ (b ++ (c ++ (d ++ (z ++ z))))) ≡ q1 ++ (q2 ++ (q3 ++ q4)) =
+    let all : paid 16 28 8 1 (m ∷ n ∷ o ∷ p ∷ []) (a ++ (b ++ (c ++ (d ++ (z ++ z))))) ≡ q1 ++ (q2 ++ (q3 ++ q4)) =
     pays m a b c (d ++ (z ++ z)) (n ∷ o ∷ p ∷ []) la lb lc
     ∙ ap (λ l. q1 ++ l) (pays n b c d (z ++ z) (o ∷ p ∷ []) lb lc ld
     ∙ ap (λ l. q2 ++ l) (pays o c d z z (p ∷ []) lc ld refl
     ∙ ap (λ l. q3 ++ l) (pays p d z z [] [] ld refl refl ∙ append-nil q4))) in
-    ap (register 0) (sym (ap (paid 28 8 1 (m ∷ n ∷ o ∷ p ∷ [])) v ∙ all))
-    ∙ settled 64 32 28 8 1 r w (m ∷ n ∷ o ∷ p ∷ []) (lit≤ tt) (lit≤ tt) (lit≤ tt) (lit≤ tt) lw (lm, (ln, (lo, (lp, tt)))) refl h
+    ap (register 0) (sym (ap (paid 16 28 8 1 (m ∷ n ∷ o ∷ p ∷ [])) v ∙ all))
+    ∙ settled 16 64 32 28 8 1 r w (m ∷ n ∷ o ∷ p ∷ []) (lit≤ tt) (lit≤ tt) (lit≤ tt) (lit≤ tt) lw (lm, (ln, (lo, (lp, tt)))) refl h
     ∙ ap (λ l. register r (m ++ (n ++ (o ++ l)))) (append-nil p)
 
 sixteen_more : (n m : ℕ) (xs : List ℕ) → m ≡ n + 16 → take m xs ≡ take n xs ++ chunk n 16 xs
@@ -94,9 +94,9 @@ wide_next_is a b c d e rest la lb lc ld le =
     rw (near, middle, far) refl
 
 pays_wide : (m a b c d e rest : List ℕ) (ms : List (List ℕ)) → length a ≡ 16 → length b ≡ 16 → length c ≡ 16 → length d ≡ 16 → length e ≡ 16 →
-    paid 56 16 2 (m ∷ ms) (a ++ (b ++ (c ++ (d ++ (e ++ rest))))) ≡ zip2 bit_xor m (wide_owed_next a b d e) ++ paid 56 16 2 ms (b ++ (c ++ (d ++ (e ++ rest))))
+    paid 16 56 16 2 (m ∷ ms) (a ++ (b ++ (c ++ (d ++ (e ++ rest))))) ≡ zip2 bit_xor m (wide_owed_next a b d e) ++ paid 16 56 16 2 ms (b ++ (c ++ (d ++ (e ++ rest))))
 pays_wide m a b c d e rest ms la lb lc ld le =
-    paid-next 56 16 2 m a (b ++ (c ++ (d ++ (e ++ rest)))) ms la ∙ ap (λ v. zip2 bit_xor m v ++ paid 56 16 2 ms (b ++ (c ++ (d ++ (e ++ rest))))) (wide_next_is a b c d e rest la lb lc ld le)
+    paid-next 16 56 16 2 m a (b ++ (c ++ (d ++ (e ++ rest)))) ms la ∙ ap (λ v. zip2 bit_xor m v ++ paid 16 56 16 2 ms (b ++ (c ++ (d ++ (e ++ rest))))) (wide_next_is a b c d e rest la lb lc ld le)
 
 pub none_owed_128 : wide_owed_by (replicate 128 0) ≡ later 128 0
 none_owed_128 = none_owed 128 56 16 2 refl refl refl
@@ -109,7 +109,7 @@ followed_128 r a b c d e f g h m la lb lc ld le lf lg lh lm o =
     let x = zip2 bit_xor m (nexts 56 16 2 16 w) in
     let s : b ++ (c ++ (d ++ (e ++ (f ++ (g ++ (h ++ x)))))) ≡ drop 16 w ++ x = sym (append_assoc b (c ++ (d ++ (e ++ (f ++ (g ++ h))))) x ∙ ap (λ l. b ++ l) (append_assoc c (d ++ (e ++ (f ++ (g ++ h)))) x ∙ ap (λ l. c ++ l) (append_assoc d (e ++ (f ++ (g ++ h))) x ∙ ap (λ l. d ++ l) (append_assoc e (f ++ (g ++ h)) x ∙ ap (λ l. e ++ l) (append_assoc f (g ++ h) x ∙ ap (λ l. f ++ l) (append_assoc g h x)))))) ∙ ap (λ v. v ++ x) (sym (drop_at a (b ++ (c ++ (d ++ (e ++ (f ++ (g ++ h)))))) 16 la)) in
     ap (λ v. wide_owed_by (b ++ (c ++ (d ++ (e ++ (f ++ (g ++ (h ++ (zip2 bit_xor m v))))))))) (sym (wide_next_is a b c d e (f ++ (g ++ h)) la lb lc ld le))
-    ∙ ap wide_owed_by s ∙ followed 128 56 16 2 r w m sparse_128 (lit≤ tt) (lit≤ tt) (lit≤ tt) lw lm o
+    ∙ ap wide_owed_by s ∙ followed 16 128 56 16 2 r w m sparse_128 (lit≤ tt) (lit≤ tt) (lit≤ tt) lw lm o
 
 pub settled_128 : (r : ℕ) (a b c d e f g h m1 m2 m3 m4 m5 m6 m7 m8 : List ℕ) → length a ≡ 16 → length b ≡ 16 → length c ≡ 16 → length d ≡ 16 → length e ≡ 16 → length f ≡ 16 → length g ≡ 16 → length h ≡ 16 → length m1 ≡ 16 → length m2 ≡ 16 → length m3 ≡ 16 → length m4 ≡ 16 → length m5 ≡ 16 → length m6 ≡ 16 → length m7 ≡ 16 → length m8 ≡ 16 → wide_owed_by (a ++ (b ++ (c ++ (d ++ (e ++ (f ++ (g ++ h))))))) ≡ later 128 r →
     register 0 (zip2 bit_xor m1 (wide_owed_next a b d e) ++ (zip2 bit_xor m2 (wide_owed_next b c e f) ++ (zip2 bit_xor m3 (wide_owed_next c d f g) ++ (zip2 bit_xor m4 (wide_owed_next d e g h) ++ (zip2 bit_xor m5 (wide_owed_next e f h (replicate 16 0)) ++ (zip2 bit_xor m6 (wide_owed_next f g (replicate 16 0) (replicate 16 0)) ++ (zip2 bit_xor m7 (wide_owed_next g h (replicate 16 0) (replicate 16 0)) ++ (zip2 bit_xor m8 (wide_owed_next h (replicate 16 0) (replicate 16 0) (replicate 16 0)))))))))) ≡ register r (m1 ++ (m2 ++ (m3 ++ (m4 ++ (m5 ++ (m6 ++ (m7 ++ m8)))))))
@@ -127,7 +127,7 @@ settled_128 r a b c d e f g h m1 m2 m3 m4 m5 m6 m7 m8 la lb lc ld le lf lg lh lm
     let q8 = zip2 bit_xor m8 (wide_owed_next h z z z) in
     let four = z ++ (z ++ (z ++ z)) in
     let v : w ++ replicate 64 0 ≡ a ++ (b ++ (c ++ (d ++ (e ++ (f ++ (g ++ (h ++ four))))))) = append_assoc a (b ++ (c ++ (d ++ (e ++ (f ++ (g ++ h)))))) four ∙ ap (λ l. a ++ l) (append_assoc b (c ++ (d ++ (e ++ (f ++ (g ++ h))))) four ∙ ap (λ l. b ++ l) (append_assoc c (d ++ (e ++ (f ++ (g ++ h)))) four ∙ ap (λ l. c ++ l) (append_assoc d (e ++ (f ++ (g ++ h))) four ∙ ap (λ l. d ++ l) (append_assoc e (f ++ (g ++ h)) four ∙ ap (λ l. e ++ l) (append_assoc f (g ++ h) four ∙ ap (λ l. f ++ l) (append_assoc g h four)))))) in
-    let all : paid 56 16 2 (m1 ∷ m2 ∷ m3 ∷ m4 ∷ m5 ∷ m6 ∷ m7 ∷ m8 ∷ []) (a ++ (b ++ (c ++ (d ++ (e ++ (f ++ (g ++ (h ++ four)))))))) ≡ q1 ++ (q2 ++ (q3 ++ (q4 ++ (q5 ++ (q6 ++ (q7 ++ q8)))))) =
+    let all : paid 16 56 16 2 (m1 ∷ m2 ∷ m3 ∷ m4 ∷ m5 ∷ m6 ∷ m7 ∷ m8 ∷ []) (a ++ (b ++ (c ++ (d ++ (e ++ (f ++ (g ++ (h ++ four)))))))) ≡ q1 ++ (q2 ++ (q3 ++ (q4 ++ (q5 ++ (q6 ++ (q7 ++ q8)))))) =
     pays_wide m1 a b c d e (f ++ (g ++ (h ++ (z ++ (z ++ (z ++ z)))))) (m2 ∷ m3 ∷ m4 ∷ m5 ∷ m6 ∷ m7 ∷ m8 ∷ []) la lb lc ld le
     ∙ ap (λ l. q1 ++ l) (pays_wide m2 b c d e f (g ++ (h ++ (z ++ (z ++ (z ++ z))))) (m3 ∷ m4 ∷ m5 ∷ m6 ∷ m7 ∷ m8 ∷ []) lb lc ld le lf
     ∙ ap (λ l. q2 ++ l) (pays_wide m3 c d e f g (h ++ (z ++ (z ++ (z ++ z)))) (m4 ∷ m5 ∷ m6 ∷ m7 ∷ m8 ∷ []) lc ld le lf lg
@@ -136,8 +136,8 @@ settled_128 r a b c d e f g h m1 m2 m3 m4 m5 m6 m7 m8 la lb lc ld le lf lg lh lm
     ∙ ap (λ l. q5 ++ l) (pays_wide m6 f g h z z (z ++ z) (m7 ∷ m8 ∷ []) lf lg lh refl refl
     ∙ ap (λ l. q6 ++ l) (pays_wide m7 g h z z z z (m8 ∷ []) lg lh refl refl refl
     ∙ ap (λ l. q7 ++ l) (pays_wide m8 h z z z z [] [] lh refl refl refl refl ∙ append-nil q8))))))) in
-    ap (register 0) (sym (ap (paid 56 16 2 (m1 ∷ m2 ∷ m3 ∷ m4 ∷ m5 ∷ m6 ∷ m7 ∷ m8 ∷ [])) v ∙ all))
-    ∙ settled 128 64 56 16 2 r w (m1 ∷ m2 ∷ m3 ∷ m4 ∷ m5 ∷ m6 ∷ m7 ∷ m8 ∷ []) (lit≤ tt) (lit≤ tt) (lit≤ tt) (lit≤ tt) lw (lm1, (lm2, (lm3, (lm4, (lm5, (lm6, (lm7, (lm8, tt)))))))) refl o
+    ap (register 0) (sym (ap (paid 16 56 16 2 (m1 ∷ m2 ∷ m3 ∷ m4 ∷ m5 ∷ m6 ∷ m7 ∷ m8 ∷ [])) v ∙ all))
+    ∙ settled 16 128 64 56 16 2 r w (m1 ∷ m2 ∷ m3 ∷ m4 ∷ m5 ∷ m6 ∷ m7 ∷ m8 ∷ []) (lit≤ tt) (lit≤ tt) (lit≤ tt) (lit≤ tt) lw (lm1, (lm2, (lm3, (lm4, (lm5, (lm6, (lm7, (lm8, tt)))))))) refl o
     ∙ ap (λ l. register r (m1 ++ (m2 ++ (m3 ++ (m4 ++ (m5 ++ (m6 ++ (m7 ++ l)))))))) (append-nil m8)
 
 -- the 128 bytes from a place on
