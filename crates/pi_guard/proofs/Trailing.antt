@@ -1,5 +1,5 @@
 -- The steps of a trail, and how it is paid, for any sparse multiple of the polynomial.
-use Rattle.std.proofs.Common.{◌≡◌, ℕ, zero, suc, ◌+◌, ◌-◌, ◌*◌, ◌^◌, ◌<◌, ◌≤◌, List, [], ◌∷◌, ◌++◌, length, take, drop, replicate, refl, sym, ap, ◌∙◌, arith, lit<, length-append, take-add}
+use Rattle.std.proofs.Common.{◌≡◌, ℕ, zero, suc, ◌+◌, ◌-◌, ◌^◌, ◌<◌, ◌≤◌, List, [], ◌∷◌, ◌++◌, length, take, drop, replicate, refl, sym, ap, ◌∙◌, arith, lit<, length-append, take-add}
 use Rattle.std.specs.Prelude.{bit_xor}
 use Rattle.std.specs.Int.Bits.{xor_comm, xor_zero_r}
 use Rattle.std.proofs.lemmas.List.{length-drop, drop-drop, drop_at, drop-append-le, take_at, take-append-le, take-replicate, length-replicate}
@@ -32,14 +32,14 @@ pub chunk_within : (k n : ℕ) (xs ys : List ℕ) → k + n ≤ length xs → ch
 chunk_within k n xs ys h =
     ap (take n) (drop-append-le k xs ys (omega arith)) ∙ take-append-le n (drop k xs) ys (omega (arith, length-drop k xs))
 
-chunk-cat : (k m n : ℕ) (xs : List ℕ) → chunk k (m + n) xs ≡ chunk k m xs ++ chunk (k + m) n xs
+pub chunk-cat : (k m n : ℕ) (xs : List ℕ) → chunk k (m + n) xs ≡ chunk k m xs ++ chunk (k + m) n xs
 chunk-cat k m n xs = take-add m n (drop k xs) ∙ ap (λ v. chunk k m xs ++ take n v) (drop-drop m k xs)
 
 -- a piece that begins so many bytes on
-chunk-later : (j k n : ℕ) (xs : List ℕ) → chunk k n (drop j xs) ≡ chunk (k + j) n xs
+pub chunk-later : (j k n : ℕ) (xs : List ℕ) → chunk k n (drop j xs) ≡ chunk (k + j) n xs
 chunk-later j k n xs = let o : j + k ≡ k + j = omega arith in ap (take n) (drop-drop k j xs ∙ ap (λ m. drop m xs) o)
 
-zip-cat : (xs ys us vs : List ℕ) → length xs ≡ length us → zip2 bit_xor (xs ++ ys) (us ++ vs) ≡ zip2 bit_xor xs us ++ zip2 bit_xor ys vs
+pub zip-cat : (xs ys us vs : List ℕ) → length xs ≡ length us → zip2 bit_xor (xs ++ ys) (us ++ vs) ≡ zip2 bit_xor xs us ++ zip2 bit_xor ys vs
 zip-cat [] ys [] vs l = refl
 zip-cat [] ys (u ∷ us) vs l = absurd (omega arith)
 zip-cat (x ∷ xs) ys [] vs l = absurd (omega arith)
