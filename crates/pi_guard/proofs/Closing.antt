@@ -8,7 +8,7 @@ use lib.Lanes.{zip2, chunk}
 use Rattle.pi_guard.specs.Register.{register}
 use Rattle.pi_guard.specs.AfterZeros.{later, entry}
 use Rattle.pi_guard.proofs.Linear.{swap_middle, later-xor, by_tables}
-use Rattle.pi_guard.proofs.Folds.{Splits, split_list, of_zero, later_zero}
+use Rattle.pi_guard.proofs.Folds.{Splits, split_register, of_zero, later_zero}
 use Rattle.pi_guard.proofs.Lookup.{IsBlock}
 use Rattle.pi_guard.proofs.Trailing.{zero-append, zero-xor, byte_zero, zeros_leave}
 
@@ -25,8 +25,7 @@ taken_in k f g s a x y h lx ly =
     let Y = register 0 y in
     let lf : length (map f a) ≡ 16 = length-map a f ∙ h.0 in
     let lg : length (map g a) ≡ 16 = length-map a g ∙ h.0 in
-    let e : later k (register 0 a) ≡ bit_xor (later 1 F) G =
-    ap (later k) (of_zero a) ∙ split_list k 1 f g s a h.1 ∙ ap (λ v. bit_xor (later 1 v) (by_tables (map g a))) (sym (of_zero (map f a))) ∙ ap (bit_xor (later 1 F)) (sym (of_zero (map g a))) in
+    let e : later k (register 0 a) ≡ bit_xor (later 1 F) G = split_register k 1 f g s a h.1 in
     ap (λ v. bit_xor (later 1 v) (register 0 (zip2 bit_xor y (map g a)))) (zero-xor x (map f a) (lx ∙ sym lf))
     ∙ ap (bit_xor (later 1 (bit_xor X F))) (zero-xor y (map g a) (ly ∙ sym lg))
     ∙ ap (λ v. bit_xor v (bit_xor Y G)) (later-xor 1 X F)

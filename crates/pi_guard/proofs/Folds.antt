@@ -1,9 +1,9 @@
 -- What a list of bytes leaves in the register, and how bytes in front are folded into later ones.
-use Rattle.std.proofs.Common.{◌≡◌, ℕ, zero, suc, ◌+◌, ◌*◌, ◌/◌, ◌%◌, ◌^◌, ◌<◌, Bool, true, false, ◌&&◌, eqb, List, [], ◌∷◌, length, map, get_or, refl, sym, ap, ◌∙◌, arith, w8, Fits}
-use Rattle.std.specs.Prelude.{bit_xor, bit_and}
+use Rattle.std.proofs.Common.{◌≡◌, ℕ, zero, suc, ◌+◌, ◌*◌, ◌/◌, ◌%◌, ◌^◌, ◌<◌, Bool, true, false, ◌&&◌, eqb, List, [], ◌∷◌, length, map, take, get_or, refl, sym, ap, ◌∙◌, arith, w8, Fits}
+use Rattle.std.specs.Prelude.{bit_xor, bit_and, slice_index}
 use Rattle.std.specs.Int.Bits.{xor_assoc, xor_zero_l, xor_shifted}
 use Rattle.std.proofs.lemmas.Bool.{eqb-true, and_parts}
-use Rattle.std.proofs.lemmas.List.{length-map}
+use Rattle.std.proofs.lemmas.List.{length-map, get_or-take}
 use Rattle.std.proofs.lemmas.Nat.{and_mask}
 use Rattle.std.proofs.lemmas.Simd.{length-zip2}
 use lib.Lanes.{zip2, Each1}
@@ -82,6 +82,13 @@ split_list k j f g s (x ∷ xs) h =
     ∙ ap (λ v. bit_xor (later j (bit_xor v p)) (bit_xor b q)) (sym mf)
     ∙ ap (λ v. bit_xor (later j (by_tables (map f (x ∷ xs)))) (bit_xor v q)) (sym mg)
 
+pub split_register : (k j : ℕ) (f g : ℕ → ℕ) → Splits k j f g → (xs : List ℕ) → Each1 (Fits w8) xs →
+    later k (register 0 xs) ≡ bit_xor (later j (register 0 (map f xs))) (register 0 (map g xs))
+split_register k j f g s xs h =
+    ap (later k) (of_zero xs) ∙ split_list k j f g s xs h
+    ∙ ap (λ v. bit_xor (later j v) (by_tables (map g xs))) (sym (of_zero (map f xs)))
+    ∙ ap (bit_xor (later j (register 0 (map f xs)))) (sym (of_zero (map g xs)))
+
 -- the register in front of two bytes is added to them
 pub joined : (r x y : ℕ) (xs : List ℕ) → r < 2 ^ 16 → register r (x ∷ y ∷ xs) ≡ register 0 (bit_xor (r / 256) x ∷ bit_xor (r % 256) y ∷ xs)
 joined r x y xs h =
@@ -156,3 +163,15 @@ splits_by k j fh fl gh gl lh ll h l x b =
     ∙ ap (λ v. bit_xor v (bit_xor (entry 0 (get_or gh H 0)) (entry 0 (get_or gl L 0)))) (sym (entry-xor j (get_or fh H 0) (get_or fl L 0)))
     ∙ ap (bit_xor (entry j (bit_xor (get_or fh H 0) (get_or fl L 0)))) (sym (entry-xor 0 (get_or gh H 0) (get_or gl L 0)))
     ∙ ap (λ v. bit_xor (entry j (bit_xor (get_or fh H 0) (get_or fl v 0))) (entry 0 (bit_xor (get_or gh H 0) (get_or gl v 0)))) (sym m)
+
+in_first : (high low : List ℕ) (x : ℕ) → x < 256 → by_halves (take 16 high) (take 16 low) x ≡ by_halves high low x
+in_first high low x b =
+    let m : bit_and x 15 ≡ x % 16 = and_mask x 4 in
+    ap (λ v. bit_xor v (slice_index (take 16 low) (bit_and x 15))) (get_or-take 16 high (x / 16) 0 (omega arith))
+    ∙ ap (bit_xor (slice_index high (x / 16))) (get_or-take 16 low (bit_and x 15) 0 (omega arith))
+
+-- of tables that go on, by their first sixteen entries
+pub splits_by_first : (k j : ℕ) (fh fl gh gl : List ℕ) → Splits k j (by_halves (take 16 fh) (take 16 fl)) (by_halves (take 16 gh) (take 16 gl)) → Splits k j (by_halves fh fl) (by_halves gh gl)
+splits_by_first k j fh fl gh gl s x b =
+    s x b ∙ ap (λ v. bit_xor (entry j v) (entry 0 (by_halves (take 16 gh) (take 16 gl) x))) (in_first fh fl x b)
+    ∙ ap (λ v. bit_xor (entry j (by_halves fh fl x)) (entry 0 v)) (in_first gh gl x b)

@@ -7,8 +7,7 @@ use Rattle.std.proofs.lemmas.Simd.{length-zip2}
 use lib.Lanes.{zip2, chunk, Each1}
 use Rattle.pi_guard.specs.Register.{register}
 use Rattle.pi_guard.specs.AfterZeros.{later, entry}
-use Rattle.pi_guard.proofs.Linear.{by_tables}
-use Rattle.pi_guard.proofs.Folds.{Splits, split_list, of_zero}
+use Rattle.pi_guard.proofs.Folds.{Splits, split_register}
 use Rattle.pi_guard.proofs.Lookup.{IsBlock, zeros_xor}
 use Rattle.pi_guard.proofs.Trailing.{zero-append, zero-xor}
 use Rattle.pi_guard.proofs.Closing.{front_moved}
@@ -33,8 +32,7 @@ eight_split f g s b bs q lb lq h =
     let lz : length (zip2 bit_xor q (map g p)) ≡ 8 = length-zip2 bit_xor q (map g p) (lq ∙ sym lg) ∙ lq in
     let n : 8 ≡ suc (length (map f bs)) = omega arith in
     let front : bit_xor (entry 8 (f b)) W ≡ later 1 F = ap (λ k. bit_xor (entry k (f b)) W) n ∙ sym (front_moved (f b) (map f bs)) in
-    let first : later 8 (register 0 p) ≡ bit_xor (later 1 F) G =
-    ap (later 8) (of_zero p) ∙ split_list 8 1 f g s p h ∙ ap (λ v. bit_xor (later 1 v) (by_tables (map g p))) (sym (of_zero (map f p))) ∙ ap (bit_xor (later 1 F)) (sym (of_zero (map g p))) in
+    let first : later 8 (register 0 p) ≡ bit_xor (later 1 F) G = split_register 8 1 f g s p h in
     ap (bit_xor (entry 8 (f b))) (zero-xor ws (zip2 bit_xor q (map g p)) (lw ∙ sym lz) ∙ ap (bit_xor W) (zero-xor q (map g p) (lq ∙ sym lg)))
     ∙ sym (xor_assoc (entry 8 (f b)) W (bit_xor Q G))
     ∙ ap (λ v. bit_xor v (bit_xor Q G)) front

@@ -8,7 +8,11 @@ mod Windows
 mod Sparse
 pub mod Trailing
 mod Debts
+mod Alignments
+mod BroadDebts
 mod Closing
+mod QuarterEnds
+mod Sixteens
 mod Halving
 mod Sums
 mod Numbers

@@ -1,4 +1,4 @@
--- Sparse multiples of the polynomial: 64 bytes on is 28, 8 and 1 bytes on, and 128 bytes on is 56, 16 and 2 bytes on.
+-- Sparse multiples of the polynomial: 64 bytes on is 28, 8 and 1 bytes on, 128 bytes on is 56, 16 and 2 bytes on, and 256 bytes on is 112, 32 and 4 bytes on.
 use Rattle.std.proofs.Common.{◌≡◌, ℕ, zero, suc, ◌+◌, ◌*◌, ◌/◌, ◌%◌, ◌^◌, ◌<◌, refl, sym, ap, ◌∙◌, subst, arith}
 use Rattle.std.specs.Prelude.{bit_xor}
 use Rattle.std.specs.Int.Bits.{xor_assoc, xor_comm, xor_zero_r, xor_self, xor_shifted}
@@ -70,11 +70,18 @@ one_128 : Sparse 128 56 16 2 1
 unfolding pass
 one_128 = refl
 
+one_256 : Sparse 256 112 32 4 1
+unfolding pass
+one_256 = refl
+
 pub sparse_64 : (r : ℕ) → r < 2 ^ 16 → Sparse 64 28 8 1 r
 sparse_64 r h = sparse_below 64 28 8 1 one_64 16 r h h
 
 pub sparse_128 : (r : ℕ) → r < 2 ^ 16 → Sparse 128 56 16 2 r
 sparse_128 r h = sparse_below 128 56 16 2 one_128 16 r h h
+
+pub sparse_256 : (r : ℕ) → r < 2 ^ 16 → Sparse 256 112 32 4 r
+sparse_256 r h = sparse_below 256 112 32 4 one_256 16 r h h
 
 pub later-add : (j k r : ℕ) → later j (later k r) ≡ later (j + k) r
 later-add j zero r = let e : j ≡ j + 0 = omega arith in ap (λ v. later v r) e

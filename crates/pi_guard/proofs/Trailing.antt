@@ -1,5 +1,5 @@
 -- The steps of a trail, and how it is paid, for any sparse multiple of the polynomial.
-use Rattle.std.proofs.Common.{◌≡◌, ℕ, zero, suc, ◌+◌, ◌-◌, ◌*◌, ◌^◌, ◌<◌, ◌≤◌, List, [], ◌∷◌, ◌++◌, length, take, drop, replicate, refl, sym, ap, ◌∙◌, arith, lit<, length-append, take-add}
+use Rattle.std.proofs.Common.{◌≡◌, ℕ, zero, suc, ◌+◌, ◌-◌, ◌^◌, ◌<◌, ◌≤◌, List, [], ◌∷◌, ◌++◌, length, take, drop, replicate, refl, sym, ap, ◌∙◌, arith, lit<, length-append, take-add}
 use Rattle.std.specs.Prelude.{bit_xor}
 use Rattle.std.specs.Int.Bits.{xor_comm, xor_zero_r}
 use Rattle.std.proofs.lemmas.List.{length-drop, drop-drop, drop_at, drop-append-le, take_at, take-append-le, take-replicate, length-replicate}
@@ -32,14 +32,14 @@ pub chunk_within : (k n : ℕ) (xs ys : List ℕ) → k + n ≤ length xs → ch
 chunk_within k n xs ys h =
     ap (take n) (drop-append-le k xs ys (omega arith)) ∙ take-append-le n (drop k xs) ys (omega (arith, length-drop k xs))
 
-chunk-cat : (k m n : ℕ) (xs : List ℕ) → chunk k (m + n) xs ≡ chunk k m xs ++ chunk (k + m) n xs
+pub chunk-cat : (k m n : ℕ) (xs : List ℕ) → chunk k (m + n) xs ≡ chunk k m xs ++ chunk (k + m) n xs
 chunk-cat k m n xs = take-add m n (drop k xs) ∙ ap (λ v. chunk k m xs ++ take n v) (drop-drop m k xs)
 
 -- a piece that begins so many bytes on
-chunk-later : (j k n : ℕ) (xs : List ℕ) → chunk k n (drop j xs) ≡ chunk (k + j) n xs
+pub chunk-later : (j k n : ℕ) (xs : List ℕ) → chunk k n (drop j xs) ≡ chunk (k + j) n xs
 chunk-later j k n xs = let o : j + k ≡ k + j = omega arith in ap (take n) (drop-drop k j xs ∙ ap (λ m. drop m xs) o)
 
-zip-cat : (xs ys us vs : List ℕ) → length xs ≡ length us → zip2 bit_xor (xs ++ ys) (us ++ vs) ≡ zip2 bit_xor xs us ++ zip2 bit_xor ys vs
+pub zip-cat : (xs ys us vs : List ℕ) → length xs ≡ length us → zip2 bit_xor (xs ++ ys) (us ++ vs) ≡ zip2 bit_xor xs us ++ zip2 bit_xor ys vs
 zip-cat [] ys [] vs l = refl
 zip-cat [] ys (u ∷ us) vs l = absurd (omega arith)
 zip-cat (x ∷ xs) ys [] vs l = absurd (omega arith)
@@ -84,72 +84,72 @@ nexts-cat i j k m n w hj hk h =
 
 -- ---- one step
 
-shifted : (n k : ℕ) (w e : List ℕ) → length w ≡ n → length e ≡ 16 → k + 16 ≤ n →
-    later k (register 0 (drop k (drop 16 w ++ e))) ≡ bit_xor (bit_xor (later 16 (later k (register 0 (drop k w)))) (later n (register 0 (chunk k 16 w)))) (later k (register 0 e))
-shifted n k w e lw le h =
-    let u = chunk k 16 w in
-    let v = drop (k + 16) w in
+shifted : (width n k : ℕ) (w e : List ℕ) → length w ≡ n → length e ≡ width → k + width ≤ n →
+    later k (register 0 (drop k (drop width w ++ e))) ≡ bit_xor (bit_xor (later width (later k (register 0 (drop k w)))) (later n (register 0 (chunk k width w)))) (later k (register 0 e))
+shifted width n k w e lw le h =
+    let u = chunk k width w in
+    let v = drop (k + width) w in
     let X = register 0 u in
     let Y = register 0 v in
     let E = register 0 e in
-    let m = n - (k + 16) in
-    let lv : length v ≡ m = length-drop (k + 16) w ∙ ap (λ l. l - (k + 16)) lw in
-    let o : 16 + k ≡ k + 16 = omega arith in
-    let s : 16 + (k + m) ≡ n = omega arith in
-    let d1 : drop k w ≡ u ++ v = chunk-drop k 16 w in
-    let d2 : drop k (drop 16 w ++ e) ≡ v ++ e =
-    drop-append-le k (drop 16 w) e (omega (arith, length-drop 16 w)) ∙ ap (λ l. l ++ e) (drop-drop k 16 w ∙ ap (λ l. drop l w) o) in
-    let left : later k (register 0 (drop k (drop 16 w ++ e))) ≡ bit_xor (later k (later 16 Y)) (later k E) =
-    ap (λ l. later k (register 0 l)) d2 ∙ ap (later k) (zero-append v e) ∙ ap (λ l. later k (bit_xor (later l Y) E)) le ∙ later-xor k (later 16 Y) E in
-    let right : later 16 (later k (register 0 (drop k w))) ≡ bit_xor (later n X) (later 16 (later k Y)) =
-    ap (λ l. later 16 (later k (register 0 l))) d1
-    ∙ ap (λ x. later 16 (later k x)) (zero-append u v ∙ ap (λ l. bit_xor (later l X) Y) lv)
-    ∙ ap (later 16) (later-xor k (later m X) Y) ∙ later-xor 16 (later k (later m X)) (later k Y)
-    ∙ ap (λ x. bit_xor x (later 16 (later k Y))) (ap (later 16) (later-add k m X) ∙ later-add 16 (k + m) X ∙ ap (λ l. later l X) s) in
-    left ∙ ap (λ x. bit_xor x (later k E)) (later_swap k 16 Y ∙ sym (cancel (later n X) (later 16 (later k Y))) ∙ ap (λ x. bit_xor x (later n X)) (sym right))
+    let m = n - (k + width) in
+    let lv : length v ≡ m = length-drop (k + width) w ∙ ap (λ l. l - (k + width)) lw in
+    let o : width + k ≡ k + width = omega arith in
+    let s : width + (k + m) ≡ n = omega arith in
+    let d1 : drop k w ≡ u ++ v = chunk-drop k width w in
+    let d2 : drop k (drop width w ++ e) ≡ v ++ e =
+    drop-append-le k (drop width w) e (omega (arith, length-drop width w)) ∙ ap (λ l. l ++ e) (drop-drop k width w ∙ ap (λ l. drop l w) o) in
+    let left : later k (register 0 (drop k (drop width w ++ e))) ≡ bit_xor (later k (later width Y)) (later k E) =
+    ap (λ l. later k (register 0 l)) d2 ∙ ap (later k) (zero-append v e) ∙ ap (λ l. later k (bit_xor (later l Y) E)) le ∙ later-xor k (later width Y) E in
+    let right : later width (later k (register 0 (drop k w))) ≡ bit_xor (later n X) (later width (later k Y)) =
+    ap (λ l. later width (later k (register 0 l))) d1
+    ∙ ap (λ x. later width (later k x)) (zero-append u v ∙ ap (λ l. bit_xor (later l X) Y) lv)
+    ∙ ap (later width) (later-xor k (later m X) Y) ∙ later-xor width (later k (later m X)) (later k Y)
+    ∙ ap (λ x. bit_xor x (later width (later k Y))) (ap (later width) (later-add k m X) ∙ later-add width (k + m) X ∙ ap (λ l. later l X) s) in
+    left ∙ ap (λ x. bit_xor x (later k E)) (later_swap k width Y ∙ sym (cancel (later n X) (later width (later k Y))) ∙ ap (λ x. bit_xor x (later n X)) (sym right))
 
 later-three : (k a b c : ℕ) → later k (bit_xor a (bit_xor b c)) ≡ bit_xor (later k a) (bit_xor (later k b) (later k c))
 later-three k a b c = later-xor k a (bit_xor b c) ∙ ap (bit_xor (later k a)) (later-xor k b c)
 
-owed_step : (n i j k : ℕ) (w e : List ℕ) → ((r : ℕ) → r < 2 ^ 16 → Sparse n i j k r) → j ≤ i → k ≤ i → i + 16 ≤ n → length w ≡ n → length e ≡ 16 →
-    owed_at i j k (drop 16 w ++ e) ≡ bit_xor (bit_xor (later 16 (owed_at i j k w)) (later n (register 0 (nexts i j k 16 w)))) (later n (register 0 e))
-owed_step n i j k w e sparse hj hk h lw le =
+owed_step : (width n i j k : ℕ) (w e : List ℕ) → ((r : ℕ) → r < 2 ^ 16 → Sparse n i j k r) → j ≤ i → k ≤ i → i + width ≤ n → length w ≡ n → length e ≡ width →
+    owed_at i j k (drop width w ++ e) ≡ bit_xor (bit_xor (later width (owed_at i j k w)) (later n (register 0 (nexts i j k width w)))) (later n (register 0 e))
+owed_step width n i j k w e sparse hj hk h lw le =
     let E = register 0 e in
-    let A = λ (m : ℕ). later 16 (later m (register 0 (drop m w))) in
-    let U = λ (m : ℕ). later n (register 0 (chunk m 16 w)) in
-    let s1 = shifted n i w e lw le h in
-    let s2 = shifted n j w e lw le (omega arith) in
-    let s3 = shifted n k w e lw le (omega arith) in
-    let l : later 16 (owed_at i j k w) ≡ bit_xor (A i) (bit_xor (A j) (A k)) = later-three 16 (later i (register 0 (drop i w))) (later j (register 0 (drop j w))) (later k (register 0 (drop k w))) in
-    let u : later n (register 0 (nexts i j k 16 w)) ≡ bit_xor (U i) (bit_xor (U j) (U k)) =
-    ap (later n) (zero-nexts i j k 16 w hj hk (omega arith)) ∙ later-three n (register 0 (chunk i 16 w)) (register 0 (chunk j 16 w)) (register 0 (chunk k 16 w)) in
+    let A = λ (m : ℕ). later width (later m (register 0 (drop m w))) in
+    let U = λ (m : ℕ). later n (register 0 (chunk m width w)) in
+    let s1 = shifted width n i w e lw le h in
+    let s2 = shifted width n j w e lw le (omega arith) in
+    let s3 = shifted width n k w e lw le (omega arith) in
+    let l : later width (owed_at i j k w) ≡ bit_xor (A i) (bit_xor (A j) (A k)) = later-three width (later i (register 0 (drop i w))) (later j (register 0 (drop j w))) (later k (register 0 (drop k w))) in
+    let u : later n (register 0 (nexts i j k width w)) ≡ bit_xor (U i) (bit_xor (U j) (U k)) =
+    ap (later n) (zero-nexts i j k width w hj hk (omega arith)) ∙ later-three n (register 0 (chunk i width w)) (register 0 (chunk j width w)) (register 0 (chunk k width w)) in
     let t : later n E ≡ bit_xor (later i E) (bit_xor (later j E) (later k E)) = sparse E (register-lt 0 e (lit< tt)) in
-    ap (λ v. bit_xor v (bit_xor (later j (register 0 (drop j (drop 16 w ++ e)))) (later k (register 0 (drop k (drop 16 w ++ e)))))) s1
-    ∙ ap (λ v. bit_xor (bit_xor (bit_xor (A i) (U i)) (later i E)) (bit_xor v (later k (register 0 (drop k (drop 16 w ++ e)))))) s2
+    ap (λ v. bit_xor v (bit_xor (later j (register 0 (drop j (drop width w ++ e)))) (later k (register 0 (drop k (drop width w ++ e)))))) s1
+    ∙ ap (λ v. bit_xor (bit_xor (bit_xor (A i) (U i)) (later i E)) (bit_xor v (later k (register 0 (drop k (drop width w ++ e)))))) s2
     ∙ ap (λ v. bit_xor (bit_xor (bit_xor (A i) (U i)) (later i E)) (bit_xor (bit_xor (bit_xor (A j) (U j)) (later j E)) v)) s3
     ∙ ap (bit_xor (bit_xor (bit_xor (A i) (U i)) (later i E))) (by_columns (A j) (U j) (later j E) (A k) (U k) (later k E))
     ∙ by_columns (A i) (U i) (later i E) (bit_xor (A j) (A k)) (bit_xor (U j) (U k)) (bit_xor (later j E) (later k E))
     ∙ ap (λ v. bit_xor (bit_xor v (bit_xor (U i) (bit_xor (U j) (U k)))) (bit_xor (later i E) (bit_xor (later j E) (later k E)))) (sym l)
-    ∙ ap (λ v. bit_xor (bit_xor (later 16 (owed_at i j k w)) v) (bit_xor (later i E) (bit_xor (later j E) (later k E)))) (sym u)
-    ∙ ap (bit_xor (bit_xor (later 16 (owed_at i j k w)) (later n (register 0 (nexts i j k 16 w))))) (sym t)
+    ∙ ap (λ v. bit_xor (bit_xor (later width (owed_at i j k w)) v) (bit_xor (later i E) (bit_xor (later j E) (later k E)))) (sym u)
+    ∙ ap (bit_xor (bit_xor (later width (owed_at i j k w)) (later n (register 0 (nexts i j k width w))))) (sym t)
 
-pub followed : (n i j k r : ℕ) (w m : List ℕ) → ((r : ℕ) → r < 2 ^ 16 → Sparse n i j k r) → j ≤ i → k ≤ i → i + 16 ≤ n → length w ≡ n → length m ≡ 16 →
-    owed_at i j k w ≡ later n r → owed_at i j k (drop 16 w ++ zip2 bit_xor m (nexts i j k 16 w)) ≡ later n (register r m)
-followed n i j k r w m sparse hj hk h lw lm o =
-    let p = nexts i j k 16 w in
+pub followed : (width n i j k r : ℕ) (w m : List ℕ) → ((r : ℕ) → r < 2 ^ 16 → Sparse n i j k r) → j ≤ i → k ≤ i → i + width ≤ n → length w ≡ n → length m ≡ width →
+    owed_at i j k w ≡ later n r → owed_at i j k (drop width w ++ zip2 bit_xor m (nexts i j k width w)) ≡ later n (register r m)
+followed width n i j k r w m sparse hj hk h lw lm o =
+    let p = nexts i j k width w in
     let e = zip2 bit_xor m p in
     let M = register 0 m in
     let U = later n (register 0 p) in
-    let lp : length p ≡ 16 = length-nexts i j k 16 w hj hk (omega arith) in
-    let le : length e ≡ 16 = length-zip2 bit_xor m p (lm ∙ sym lp) ∙ lm in
+    let lp : length p ≡ width = length-nexts i j k width w hj hk (omega arith) in
+    let le : length e ≡ width = length-zip2 bit_xor m p (lm ∙ sym lp) ∙ lm in
     let x : later n (register 0 e) ≡ bit_xor (later n M) U = ap (later n) (zero-xor m p (lm ∙ sym lp)) ∙ later-xor n M (register 0 p) in
-    let g : register r m ≡ bit_xor (later 16 r) M = after r m ∙ ap (λ v. bit_xor (later v r) M) lm in
-    owed_step n i j k w e sparse hj hk h lw le
-    ∙ ap (λ v. bit_xor (bit_xor (later 16 v) U) (later n (register 0 e))) o
-    ∙ ap (bit_xor (bit_xor (later 16 (later n r)) U)) x
-    ∙ cancel_both (later 16 (later n r)) U (later n M)
-    ∙ ap (λ v. bit_xor v (later n M)) (later_swap 16 n r)
-    ∙ sym (later-xor n (later 16 r) M)
+    let g : register r m ≡ bit_xor (later width r) M = after r m ∙ ap (λ v. bit_xor (later v r) M) lm in
+    owed_step width n i j k w e sparse hj hk h lw le
+    ∙ ap (λ v. bit_xor (bit_xor (later width v) U) (later n (register 0 e))) o
+    ∙ ap (bit_xor (bit_xor (later width (later n r)) U)) x
+    ∙ cancel_both (later width (later n r)) U (later n M)
+    ∙ ap (λ v. bit_xor v (later n M)) (later_swap width n r)
+    ∙ sym (later-xor n (later width r) M)
     ∙ ap (later n) (sym g)
 
 -- ---- the end
@@ -179,46 +179,48 @@ cut n z k w lw hn hz =
     ∙ ap (λ l. bit_xor (later l (register 0 v)) (register 0 (replicate k 0))) (length-replicate {A = ℕ} k 0)
     ∙ ap (bit_xor (later k (register 0 v))) (zeros_leave k) ∙ xor_zero_r (later k (register 0 v))
 
--- words one after another, and words of sixteen bytes
+-- words one after another, words of so many bytes, and how many bytes they are
 abbrev pub joined : List (List ℕ) → List ℕ
 joined [] = []
 joined (m ∷ ms) = m ++ joined ms
 
-abbrev pub AreWords : List (List ℕ) → Type 0
-AreWords [] = Unit {0}
-AreWords (m ∷ ms) = (length m ≡ 16) × AreWords ms
+abbrev pub AreWords : ℕ → List (List ℕ) → Type 0
+AreWords width [] = Unit {0}
+AreWords width (m ∷ ms) = (length m ≡ width) × AreWords width ms
 
-pub length-joined : (ms : List (List ℕ)) → AreWords ms → length (joined ms) ≡ 16 * length ms
-length-joined [] h = refl
-length-joined (m ∷ ms) h = let a = h.0 in let b = length-joined ms h.1 in omega (arith, length-append m (joined ms))
+abbrev pub in_all : ℕ → List (List ℕ) → ℕ
+in_all width [] = 0
+in_all width (m ∷ ms) = width + in_all width ms
+
+length-joined : (width : ℕ) (ms : List (List ℕ)) → AreWords width ms → length (joined ms) ≡ in_all width ms
+length-joined width [] h = refl
+length-joined width (m ∷ ms) h = let a = h.0 in let b = length-joined width ms h.1 in omega (arith, length-append m (joined ms))
 
 -- words with all that is paid to them by what stands in front
-abbrev pub paid : ℕ → ℕ → ℕ → List (List ℕ) → List ℕ → List ℕ
-paid i j k [] v = []
-paid i j k (m ∷ ms) v = zip2 bit_xor m (nexts i j k 16 v) ++ paid i j k ms (drop 16 v)
+abbrev pub paid : ℕ → ℕ → ℕ → ℕ → List (List ℕ) → List ℕ → List ℕ
+paid width i j k [] v = []
+paid width i j k (m ∷ ms) v = zip2 bit_xor m (nexts i j k width v) ++ paid width i j k ms (drop width v)
 
-paid_is : (i j k : ℕ) (ms : List (List ℕ)) (v : List ℕ) → AreWords ms → j ≤ i → k ≤ i → i + 16 * length ms ≤ length v →
-    paid i j k ms v ≡ zip2 bit_xor (joined ms) (nexts i j k (16 * length ms) v)
-paid_is i j k [] v h hj hk l = refl
-paid_is i j k (m ∷ ms) v h hj hk l =
-    let n = 16 * length ms in
-    let e : 16 * suc (length ms) ≡ 16 + n = omega arith in
-    let lm : length m ≡ 16 = h.0 in
-    let ln = length-nexts i j k 16 v hj hk (omega arith) in
-    let rest = paid_is i j k ms (drop 16 v) h.1 hj hk (omega (arith, length-drop 16 v)) in
-    ap (λ l. zip2 bit_xor m (nexts i j k 16 v) ++ l) rest
-    ∙ sym (zip-cat m (joined ms) (nexts i j k 16 v) (nexts i j k n (drop 16 v)) (lm ∙ sym ln))
-    ∙ ap (zip2 bit_xor (m ++ joined ms)) (sym (nexts-cat i j k 16 n v hj hk (omega arith)))
-    ∙ ap (λ l. zip2 bit_xor (m ++ joined ms) (nexts i j k l v)) (sym e)
+paid_is : (width i j k : ℕ) (ms : List (List ℕ)) (v : List ℕ) → AreWords width ms → j ≤ i → k ≤ i → i + in_all width ms ≤ length v →
+    paid width i j k ms v ≡ zip2 bit_xor (joined ms) (nexts i j k (in_all width ms) v)
+paid_is width i j k [] v h hj hk l = refl
+paid_is width i j k (m ∷ ms) v h hj hk l =
+    let n = in_all width ms in
+    let lm : length m ≡ width = h.0 in
+    let ln = length-nexts i j k width v hj hk (omega arith) in
+    let rest = paid_is width i j k ms (drop width v) h.1 hj hk (omega (arith, length-drop width v)) in
+    ap (λ l. zip2 bit_xor m (nexts i j k width v) ++ l) rest
+    ∙ sym (zip-cat m (joined ms) (nexts i j k width v) (nexts i j k n (drop width v)) (lm ∙ sym ln))
+    ∙ ap (zip2 bit_xor (m ++ joined ms)) (sym (nexts-cat i j k width n v hj hk (omega arith)))
 
 -- A trail that is paid in full leaves what all bytes leave.
-pub settled : (n z i j k r : ℕ) (w : List ℕ) (ms : List (List ℕ)) → j ≤ i → k ≤ i → i ≤ z → i ≤ n → length w ≡ n → AreWords ms → 16 * length ms ≡ n →
-    owed_at i j k w ≡ later n r → register 0 (paid i j k ms (w ++ replicate z 0)) ≡ register r (joined ms)
-settled n z i j k r w ms hj hk hz hn lw words lm o =
+pub settled : (width n z i j k r : ℕ) (w : List ℕ) (ms : List (List ℕ)) → j ≤ i → k ≤ i → i ≤ z → i ≤ n → length w ≡ n → AreWords width ms → in_all width ms ≡ n →
+    owed_at i j k w ≡ later n r → register 0 (paid width i j k ms (w ++ replicate z 0)) ≡ register r (joined ms)
+settled width n z i j k r w ms hj hk hz hn lw words lm o =
     let v = w ++ replicate z 0 in
     let t = joined ms in
     let lv : length v ≡ n + z = length-append w (replicate z 0) ∙ (ap (λ l. l + length (replicate {A = ℕ} z 0)) lw ∙ ap (λ l. n + l) (length-replicate {A = ℕ} z 0)) in
-    let lt : length t ≡ n = length-joined ms words ∙ lm in
+    let lt : length t ≡ n = length-joined width ms words ∙ lm in
     let P = nexts i j k n v in
     let lP : length P ≡ n = length-nexts i j k n v hj hk (omega arith) in
     let sum : register 0 P ≡ later n r =
@@ -227,7 +229,7 @@ settled n z i j k r w ms hj hk hz hn lw words lm o =
     ∙ ap (λ x. bit_xor (later i (register 0 (drop i w))) (bit_xor x (register 0 (chunk k n v)))) (cut n z j w lw (omega arith) (omega arith))
     ∙ ap (λ x. bit_xor (later i (register 0 (drop i w))) (bit_xor (later j (register 0 (drop j w))) x)) (cut n z k w lw (omega arith) (omega arith))
     ∙ o in
-    ap (register 0) (paid_is i j k ms v words hj hk (omega arith) ∙ ap (λ l. zip2 bit_xor t (nexts i j k l v)) lm)
+    ap (register 0) (paid_is width i j k ms v words hj hk (omega arith) ∙ ap (λ l. zip2 bit_xor t (nexts i j k l v)) lm)
     ∙ zero-xor t P (lt ∙ sym lP) ∙ ap (bit_xor (register 0 t)) sum ∙ xor_comm (register 0 t) (later n r)
     ∙ ap (λ l. bit_xor (later l r) (register 0 t)) (sym lt) ∙ sym (after r t)
 

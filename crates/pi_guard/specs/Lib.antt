@@ -1,4 +1,5 @@
 pub mod AfterZeros
+pub mod Broad
 pub mod Guards
 pub mod Register
 pub mod Stands

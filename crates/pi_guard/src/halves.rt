@@ -128,7 +128,7 @@ pub fn after_thirty_two(start: u16, bytes: &[u8; 32]) -> u16
 
 /// The register after these bytes, of which the upper ones stand one place further to the front.
 #[inline(always)]
-fn register_of_pair(upper: u8x16, lower: u8x16) -> u16
+pub fn register_of_pair(upper: u8x16, lower: u8x16) -> u16
     ensures { result ≡ bit_xor (later 1 (register 0 upper)) (register 0 lower) }
 {
     let zero = u8x16::from_array([0; 16]);

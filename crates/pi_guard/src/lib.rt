@@ -2,9 +2,11 @@
 //! carries. It is a CRC (SBC-3, 4.22.4), or between host and adapter the Internet checksum (RFC 1071).
 #![tactic(auto)]
 
+mod broad;
 mod byte_tables;
 mod halves;
 mod narrow;
+mod quarters;
 mod slicing;
 mod vectors;
 mod wide;

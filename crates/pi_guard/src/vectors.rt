@@ -5,11 +5,27 @@ ghost use Rattle.pi_guard.specs.Windows.{window_register};
 ghost use Rattle.pi_guard.specs.Register.{register};
 
 use crate::narrow::Bytes64;
-use crate::{halves, narrow, slicing, wide};
+use crate::{broad, halves, narrow, quarters, slicing, wide};
+
+// From how many bytes on a part goes by vectors of thirty-two. Built for x86-64-v2, which has them as two of
+// sixteen, they gain from about this many on.
+const BROAD_FROM: usize = 2_048;
 
 /// The register after these bytes.
 #[inline(always)]
 pub fn register_after(start: u16, part: &[u8]) -> u16
+    ensures { result ≡ register start part.now }
+{
+    if part.len() < BROAD_FROM {
+        after_short(start, part)
+    } else {
+        after_long(start, part)
+    }
+}
+
+/// The register after these bytes, by vectors of sixteen at most.
+#[inline(always)]
+fn after_short(start: u16, part: &[u8]) -> u16
     ensures { result ≡ register start part.now }
 {
     if part.len() < 16 {
@@ -47,6 +63,17 @@ fn after_many(start: u16, part: &[u8]) -> u16
         return register;
     }
     slicing::after_sixteens(register, &part[at..])
+}
+
+/// The register after these bytes, by vectors of thirty-two but for the last ones, of which there are fewer than 256.
+#[inline(never)]
+fn after_long(start: u16, part: &[u8]) -> u16
+    requires { 512 ≤ length part.now }
+    ensures { result ≡ register start part.now }
+{
+    let (w, at) = broad::whole_window(start, part);
+    let register = quarters::register_of_window(w.a, w.b, w.c, w.d, w.e, w.f, w.g, w.h);
+    after_short(register, &part[at..])
 }
 
 /// The window of all but the last bytes, of which there are fewer than 128, and how many it stands for.

@@ -8,4 +8,4 @@ pub returns : goal.returns
 unfolding owed
 returns c r h =
     let xs = c.args.part.now in
-    c.next_trail.ensures (register r (take c.args.at xs)) h ∙ ap after_64 (more r c.args.at xs)
+    c.next_trail.ensures (register r (take c.args.at xs)) h ∙ ap after_64 (more 16 r c.args.at xs)
