@@ -1,0 +1,5 @@
+mod Rows
+mod Linear
+pub mod Bridge
+mod Division
+mod Bursts

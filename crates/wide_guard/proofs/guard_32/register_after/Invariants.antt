@@ -1,0 +1,9 @@
+use Rattle.std.proofs.Common.{◌≡◌, length}
+use Rattle.wide_guard.specs.Registers.{castagnoli, register}
+use Rattle.wide_guard.proofs.guard_32.register_after.Given as goal
+
+abbrev pub invariant-loop-b : goal.invariant-loop-b
+invariant-loop-b l = register castagnoli l.state l.rest ≡ register castagnoli l.start l.part
+
+abbrev pub decreases-loop-b : goal.decreases-loop-b
+decreases-loop-b l = length l.rest

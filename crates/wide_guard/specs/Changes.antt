@@ -1,0 +1,17 @@
+use Rattle.std.specs.Prelude.{ℕ, ◌≡◌, ◌≢◌, ◌+◌, ◌<◌, ◌≤◌, Bool, false, ◌⊎◌, List, All, length, slice_index_or}
+use Rattle.wide_guard.specs.Reflected.{low_first}
+
+-- Two messages of equally many bytes that are not the same.
+pub record IsChange (a b : List ℕ) : Type 0 where
+  pub bytes : All (λ x. x < 256) a
+  pub other_bytes : All (λ x. x < 256) b
+  pub as_long : length a ≡ length b
+  pub differ : a ≢ b
+
+-- the bit at this place of the bytes' bits: byte by byte, the lowest bit of a byte first
+abbrev pub bit_in : List ℕ → ℕ → Bool
+bit_in bytes place = slice_index_or (low_first bytes) place false
+
+-- The messages agree in each bit but so many neighbouring ones.
+abbrev pub IsBurst : ℕ → ℕ → List ℕ → List ℕ → Type 0
+IsBurst width first a b = (k : ℕ) → (k < first) ⊎ (first + width ≤ k) → bit_in a k ≡ bit_in b k
