@@ -1,5 +1,6 @@
 pub mod RegisterLemmas
-mod Rows
+pub mod Division
+pub mod Rows
 pub mod Linear
 pub mod Folds
 mod Nibbles

@@ -24,7 +24,7 @@ plus_digits (suc zero) (suc (suc v)) w p q e = absurd (omega arith)
 pub plus_bits : (a b n : ℕ) → plus (eqb (bit_at a n) 1) (eqb (bit_at b n) 1) ≡ eqb (bit_at (bit_xor a b) n) 1
 plus_bits a b n = plus_digits (bit_at a n) (bit_at b n) (bit_at (bit_xor a b) n) (bit_at-lt a n) (bit_at-lt b n) (bit_at_xor a b n)
 
-plus_assoc : (p q x : Bool) → plus p (plus q x) ≡ plus (plus p q) x
+pub plus_assoc : (p q x : Bool) → plus p (plus q x) ≡ plus (plus p q) x
 plus_assoc true true true = refl
 plus_assoc true true false = refl
 plus_assoc true false x = refl
@@ -41,7 +41,7 @@ add_twice (suc n) a b (x ∷ l) =
     cc
 
 -- a zero behind what is added changes nothing
-add_longer : (ps l : List Bool) → add_front (ps ++ false ∷ []) l ≡ add_front ps l
+pub add_longer : (ps l : List Bool) → add_front (ps ++ false ∷ []) l ≡ add_front ps l
 add_longer [] [] = refl
 add_longer [] (x ∷ l) = refl
 add_longer (p ∷ ps) [] = refl
@@ -105,7 +105,7 @@ raised (suc k) n x l =
     ∙ add_longer (bits_of (more k n) (x * 2 ^ k)) l
     ∙ raised k n x l
 
-plus_zero : (p : Bool) → plus p false ≡ p
+pub plus_zero : (p : Bool) → plus p false ≡ p
 plus_zero true = refl
 plus_zero false = refl
 

@@ -9,12 +9,12 @@ abbrev first_row : (ℕ → ℕ) → ℕ → List ℕ → Bool
 first_row f i [] = true
 first_row f i (x ∷ xs) = eqb (f (i * 2 ^ 8)) x && first_row f (suc i) xs
 
-abbrev follows : (ℕ → ℕ) → List ℕ → List ℕ → Bool
+abbrev pub follows : (ℕ → ℕ) → List ℕ → List ℕ → Bool
 follows f [] ys = true
 follows f (x ∷ xs) [] = false
 follows f (x ∷ xs) (y ∷ ys) = eqb (f x) y && follows f xs ys
 
-abbrev rows_follow : (ℕ → ℕ) → List ℕ → List (List ℕ) → Bool
+abbrev pub rows_follow : (ℕ → ℕ) → List ℕ → List (List ℕ) → Bool
 rows_follow f r [] = true
 rows_follow f r (s ∷ ss) = follows f r s && rows_follow f s ss
 
@@ -37,7 +37,7 @@ in_next f (x ∷ xs) (y ∷ ys) (suc k) h l =
     let r = in_next f xs ys k (and_parts (eqb (f x) y) (follows f xs ys) h).1 (omega arith) in
     (omega arith, r.1)
 
-again : (ℕ → ℕ) → ℕ → ℕ → ℕ
+unfoldable pub again : (ℕ → ℕ) → ℕ → ℕ → ℕ
 again f zero r = r
 again f (suc k) r = again f k (f r)
 
@@ -46,7 +46,7 @@ unfolding again
 again_pass zero r = refl
 again_pass (suc k) r = again_pass k (pass r)
 
-in_row : (f : ℕ → ℕ) (ss : List (List ℕ)) (r : List ℕ) (k i : ℕ) → rows_follow f r ss ≡ true → k < length ss → i < length r →
+pub in_row : (f : ℕ → ℕ) (ss : List (List ℕ)) (r : List ℕ) (k i : ℕ) → rows_follow f r ss ≡ true → k < length ss → i < length r →
     get_or (get_or ss k []) i 0 ≡ again f (suc k) (get_or r i 0)
 unfolding again
 in_row f [] r k i h l m = absurd (omega arith)

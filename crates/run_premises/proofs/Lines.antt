@@ -14,7 +14,7 @@ use Rattle.fault_schedule.specs.declared.fault.FaultKind.TheVariants.{Flip, Shif
 use Rattle.fault_schedule.specs.declared.fault.FaultLine.{FaultLine}
 use Rattle.stack_ops.specs.declared.op.Op.{Op}
 use Rattle.run_laws.specs.Passed.{is_flip}
-use Rattle.guard_laws.proofs.Bursts.{are_bytes}
+use Rattle.pi_guard.proofs.Division.{are_bytes}
 use Rattle.guard_laws.proofs.Flips.{below_if}
 use Rattle.run_premises.specs.Forms.{is_good_line, is_shown_line, label_of, may_mend, may_undo}
 use Rattle.run_premises.specs.FormedRun.{IsOfBytes}

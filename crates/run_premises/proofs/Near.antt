@@ -12,7 +12,7 @@ use Rattle.pi_guard.specs.declared.GuardKind.TheVariants.{Crc, Ip}
 use Rattle.fault_schedule.specs.Altered.{xored_from}
 use Rattle.fault_schedule.proofs.Xored.{length-xored, get-xored}
 use Rattle.guard_laws.proofs.Additive.{crc-xored}
-use Rattle.guard_laws.proofs.Bursts.{are_bytes}
+use Rattle.pi_guard.proofs.Division.{are_bytes}
 use Rattle.guard_laws.proofs.Flips.{xor_kept, xored_shown}
 use Rattle.run_premises.specs.Forms.{is_near, is_none, is_seen}
 

@@ -4,15 +4,10 @@ use Rattle.std.specs.Prelude.{bit_xor, replicate}
 use Rattle.std.specs.Int.Bits.{xor_comm, xor_lt}
 use Rattle.std.proofs.Math.Nat.{pow-suc}
 use Rattle.pi_guard.specs.Guards.{add_front, bits_of, divide, plus}
+use Rattle.pi_guard.proofs.RegisterLemmas.{add_longer, plus_assoc, plus_zero}
 use Rattle.wide_guard.specs.Reflected.{crc32c, crc64, low_bits, low_first, low_number, reflected}
 use Rattle.wide_guard.specs.Registers.{castagnoli, rocksoft, step, steps, pass, byte_step, register}
 use Rattle.wide_guard.proofs.Linear.{half-xor, odd-xor, register-append}
-
-plus_assoc : (p q x : Bool) → plus p (plus q x) ≡ plus (plus p q) x
-plus_assoc true true true = refl
-plus_assoc true true false = refl
-plus_assoc true false x = refl
-plus_assoc false q x = refl
 
 -- two registers in front of a list are their xor
 add_twice : (n a b : ℕ) (l : List Bool) → add_front (low_bits n a) (add_front (low_bits n b) l) ≡ add_front (low_bits n (bit_xor a b)) l
@@ -24,13 +19,6 @@ add_twice (suc n) a b (x ∷ l) =
     let e3 = add_twice n (a / 2) (b / 2) l in
     let e4 = half-xor a b in
     cc
-
--- a zero behind what is added changes nothing
-add_longer : (ps l : List Bool) → add_front (ps ++ false ∷ []) l ≡ add_front ps l
-add_longer [] [] = refl
-add_longer [] (x ∷ l) = refl
-add_longer (p ∷ ps) [] = refl
-add_longer (p ∷ ps) (x ∷ l) = ap (λ v. plus p x ∷ v) (add_longer ps l)
 
 longer_bits : (n x : ℕ) → x < 2 ^ n → low_bits (suc n) x ≡ low_bits n x ++ false ∷ []
 longer_bits zero x h = let e : x ≡ 0 = omega arith in rw e refl
@@ -77,10 +65,6 @@ zeros_pass : (p n k m r : ℕ) (l : List Bool) → p < 2 ^ suc n → r < 2 ^ suc
 unfolding more
 zeros_pass p n zero m r l hp h = refl
 zeros_pass p n (suc k) m r l hp h = one_step p n (more k m) r (replicate k false ++ l) h ∙ zeros_pass p n k m (step p r) l hp (step-lt p n r hp h)
-
-plus_zero : (p : Bool) → plus p false ≡ p
-plus_zero true = refl
-plus_zero false = refl
 
 add_to_zeros : (n x : ℕ) (l : List Bool) → add_front (low_bits n x) (replicate n false ++ l) ≡ low_bits n x ++ l
 add_to_zeros zero x l = refl

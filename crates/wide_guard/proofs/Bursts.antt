@@ -1,13 +1,13 @@
 -- The CRC of two messages is one only where the sum of the two leaves no remainder.
-use Rattle.std.proofs.Common.{◌≡◌, ◌≢◌, ℕ, zero, suc, ◌+◌, ◌*◌, ◌/◌, ◌%◌, ◌<◌, ◌^◌, Bool, true, false, not, eqb, inl, inr, List, [], ◌∷◌, ◌++◌, length, map, get_or, refl, sym, ap, ◌∙◌, arith, length-append, subst, lit<}
-use Rattle.std.specs.Prelude.{All, replicate}
+use Rattle.std.proofs.Common.{◌≡◌, ◌≢◌, ℕ, zero, suc, ◌+◌, ◌*◌, ◌/◌, ◌%◌, ◌<◌, ◌^◌, Bool, true, false, not, eqb, inl, inr, List, [], ◌∷◌, ◌++◌, length, map, get_or, refl, sym, ap, ◌∙◌, arith, length-append, subst}
+use Rattle.std.specs.Prelude.{replicate}
 use Rattle.std.proofs.lemmas.List.{get_or_past, get_or-replicate, same_lists, get_or_default, length-map, length-replicate}
 use Rattle.std.proofs.lemmas.Bool.{cases_lt}
 use Rattle.std.proofs.Math.Nat.{pow-suc}
 use Rattle.pi_guard.specs.Guards.{add_front, bits_of, divide, plus}
+use Rattle.pi_guard.proofs.Division.{EndsInOne, IsNone, add_both, added, added_at, are_bytes, divide-added, length-add_front, length-added, length-divide, places_anywhere, plus_same, same_plus}
 use Rattle.wide_guard.specs.Changes.{IsBurst, IsChange, bit_in}
 use Rattle.wide_guard.specs.Reflected.{crc32c, crc64, low_bits, low_first, low_number, reflected}
-use Rattle.wide_guard.proofs.Division.{EndsInOne, IsNone, add_both, added, added_at, divide-added, length-add_front, length-added, length-divide, places_anywhere}
 
 -- bits are told by their number
 same_number : (xs ys : List Bool) → length xs ≡ length ys → low_number xs ≡ low_number ys → xs ≡ ys
@@ -69,9 +69,6 @@ same_bytes (x ∷ a) (y ∷ b) ha hb l e =
     let t = same_bytes a b (λ k. ha (suc k)) (λ k. hb (suc k)) (omega arith) rest in
     cc
 
-are_bytes : (a : List ℕ) → All (λ x. x < 256) a → (k : ℕ) → get_or a k 0 < 256
-are_bytes a h k = elim (cases_lt k (length a)) [ inl l ↦ h k 0 l | inr l ↦ rw (get_or_past a k 0 l) (lit< tt) ]
-
 -- a message with the zeros behind it, and the sum of two
 abbrev raised : ℕ → List ℕ → List Bool
 raised w a = low_first a ++ replicate w false
@@ -79,21 +76,8 @@ raised w a = low_first a ++ replicate w false
 abbrev sum_of : ℕ → List ℕ → List ℕ → List Bool
 sum_of w a b = added (raised w a) (raised w b)
 
-plus_same : (x y : Bool) → x ≡ y → plus x y ≡ false
-plus_same true true h = refl
-plus_same true false h = absurd cc
-plus_same false y h = sym h
-
-same_plus : (x y : Bool) → plus x y ≡ false → x ≡ y
-same_plus true true h = refl
-same_plus true false h = absurd cc
-same_plus false y h = sym h
-
-no_bits_behind : (w k : ℕ) → get_or (replicate w false) k false ≡ false
-no_bits_behind w k = elim (cases_lt k w) [ inl h ↦ get_or-replicate w k false false h | inr h ↦ get_or_past (replicate w false) k false (let l = length-replicate w false in omega arith) ]
-
 none_behind : (w : ℕ) (l : List Bool) (k : ℕ) → get_or (l ++ replicate w false) k false ≡ get_or l k false
-none_behind w [] k = no_bits_behind w k
+none_behind w [] k = elim (cases_lt k w) [ inl h ↦ get_or-replicate w k false false h | inr h ↦ get_or_past (replicate w false) k false (let l = length-replicate w false in omega arith) ]
 none_behind w (x ∷ l) zero = refl
 none_behind w (x ∷ l) (suc k) = none_behind w l k
 

@@ -1,5 +1,4 @@
 mod Rows
 mod Linear
 pub mod Bridge
-mod Division
 mod Bursts

@@ -8,14 +8,8 @@ use Rattle.std.proofs.lemmas.Nat.{le_bytes_8}
 use Rattle.std.proofs.lemmas.Bool.{cases_lt}
 use Rattle.std.proofs.lemmas.List.{get_or_past, get_or-drop, get_or-take, length-drop, length-take-le, take-append-drop}
 use Rattle.pi_guard.specs.Guards.{plus}
+use Rattle.pi_guard.proofs.Linear.{swap_middle}
 use Rattle.wide_guard.specs.Registers.{step, steps, pass, later, after_8, after_16, entry, byte_step, register}
-
--- a change of order
-pub swap_middle : (a b c d : ℕ) → bit_xor (bit_xor a b) (bit_xor c d) ≡ bit_xor (bit_xor a c) (bit_xor b d)
-swap_middle a b c d =
-    xor_assoc a b (bit_xor c d)
-    ∙ ap (bit_xor a) (sym (xor_assoc b c d) ∙ ap (λ v. bit_xor v d) (xor_comm b c) ∙ xor_assoc c b d)
-    ∙ sym (xor_assoc a c (bit_xor b d))
 
 digits : (u v : ℕ) → u < 2 → v < 2 → plus (eqb u 1) (eqb v 1) ≡ eqb (bit_xor u v) 1
 digits zero zero p q = refl

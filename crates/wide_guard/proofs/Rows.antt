@@ -1,6 +1,7 @@
 -- Each entry of the tables is the register's.
 use Rattle.std.proofs.Common.{◌≡◌, ℕ, zero, suc, ◌+◌, ◌<◌, Bool, true, false, ◌&&◌, eqb, List, [], ◌∷◌, length, get_or, refl, sym, ap, ◌∙◌, arith}
 use Rattle.std.proofs.lemmas.Bool.{eqb-true, and_parts}
+use Rattle.pi_guard.proofs.Rows.{again, in_row, rows_follow}
 use Rattle.wide_guard.specs.Registers.{castagnoli, rocksoft, pass, later, entry}
 use Rattle.wide_guard.specs.declared.tables_32.TheConstants.{TABLES as TABLES_32}
 use Rattle.wide_guard.specs.declared.tables_64.TheConstants.{TABLES as TABLES_64}
@@ -9,15 +10,6 @@ use Rattle.wide_guard.specs.declared.tables_64.TheConstants.{TABLES as TABLES_64
 abbrev first_row : (ℕ → ℕ) → ℕ → List ℕ → Bool
 first_row f i [] = true
 first_row f i (x ∷ xs) = eqb (f i) x && first_row f (suc i) xs
-
-abbrev follows : (ℕ → ℕ) → List ℕ → List ℕ → Bool
-follows f [] ys = true
-follows f (x ∷ xs) [] = false
-follows f (x ∷ xs) (y ∷ ys) = eqb (f x) y && follows f xs ys
-
-abbrev rows_follow : (ℕ → ℕ) → List ℕ → List (List ℕ) → Bool
-rows_follow f r [] = true
-rows_follow f r (s ∷ ss) = follows f r s && rows_follow f s ss
 
 in_first : (f : ℕ → ℕ) (xs : List ℕ) (i k : ℕ) → first_row f i xs ≡ true → k < length xs → get_or xs k 0 ≡ f (i + k)
 in_first f [] i k h l = absurd (omega arith)
@@ -30,32 +22,10 @@ in_first f (x ∷ xs) i (suc k) h l =
     let e : suc i + k ≡ i + suc k = omega arith in
     in_first f xs (suc i) k b.1 (omega arith) ∙ ap f e
 
-in_next : (f : ℕ → ℕ) (xs ys : List ℕ) (k : ℕ) → follows f xs ys ≡ true → k < length xs → (k < length ys) × (get_or ys k 0 ≡ f (get_or xs k 0))
-in_next f [] ys k h l = absurd (omega arith)
-in_next f (x ∷ xs) [] k h l = cc
-in_next f (x ∷ xs) (y ∷ ys) zero h l = (omega arith, sym (eqb-true (f x) y (and_parts (eqb (f x) y) (follows f xs ys) h).0))
-in_next f (x ∷ xs) (y ∷ ys) (suc k) h l =
-    let r = in_next f xs ys k (and_parts (eqb (f x) y) (follows f xs ys) h).1 (omega arith) in
-    (omega arith, r.1)
-
-again : (ℕ → ℕ) → ℕ → ℕ → ℕ
-again f zero r = r
-again f (suc k) r = again f k (f r)
-
 again_pass : (p k r : ℕ) → again (pass p) k r ≡ later p k r
 unfolding again
 again_pass p zero r = refl
 again_pass p (suc k) r = again_pass p k (pass p r)
-
-in_row : (f : ℕ → ℕ) (ss : List (List ℕ)) (r : List ℕ) (k i : ℕ) → rows_follow f r ss ≡ true → k < length ss → i < length r →
-    get_or (get_or ss k []) i 0 ≡ again f (suc k) (get_or r i 0)
-unfolding again
-in_row f [] r k i h l m = absurd (omega arith)
-in_row f (s ∷ ss) r zero i h l m = (in_next f r s i (and_parts (follows f r s) (rows_follow f s ss) h).0 m).1
-in_row f (s ∷ ss) r (suc k) i h l m =
-    let b = and_parts (follows f r s) (rows_follow f s ss) h in
-    let n = in_next f r s i b.0 m in
-    in_row f ss s k i b.1 (omega arith) n.0 ∙ ap (again f (suc k)) n.1
 
 -- what is computed of a table, and what follows of any table of which it holds
 abbrev table_holds : (ℕ → ℕ) → List (List ℕ) → Bool
