@@ -5,7 +5,7 @@ use Rattle.std.proofs.lemmas.List.{get_or_past, get_or-replicate, same_lists, ge
 use Rattle.std.proofs.lemmas.Bool.{cases_lt}
 use Rattle.std.proofs.Math.Nat.{pow-suc}
 use Rattle.pi_guard.specs.Guards.{add_front, bits_of, divide, plus}
-use Rattle.pi_guard.proofs.Division.{EndsInOne, IsNone, add_both, added, added_at, are_bytes, divide-added, length-add_front, length-added, length-divide, places_anywhere, plus_same, same_plus}
+use Rattle.pi_guard.proofs.Division.{EndsInOne, IsNone, add_both, added, added_at, are_bytes, divide-added, length-add_front, length-added, length-divide, places_anywhere, plus_same, same_plus, with_itself}
 use Rattle.wide_guard.specs.Changes.{IsBurst, IsChange, bit_in}
 use Rattle.wide_guard.specs.Reflected.{crc32c, crc64, low_bits, low_first, low_number, reflected}
 
@@ -98,11 +98,6 @@ sum_at w a b k h =
     let p = none_behind w (low_first a) k in
     let q = none_behind w (low_first b) k in
     added_at (raised w a) (raised w b) k (as_long w a b h) ∙ rw (p, q) refl
-
-with_itself : (l : List Bool) → IsNone (added l l)
-with_itself [] k = refl
-with_itself (x ∷ l) zero = plus_same x x refl
-with_itself (x ∷ l) (suc k) = with_itself l k
 
 -- one CRC for both is no remainder for the sum
 one_crc : (w poly : ℕ) (a b : List ℕ) → length a ≡ length b → reflected w poly a ≡ reflected w poly b → IsNone (divide (bits_of w poly) (length (low_first a)) (sum_of w a b))
