@@ -123,9 +123,9 @@ module _ (law : EnoughLaw) (by_form : FormedLaw) (unfaulted : StillLaw) (s : Scr
       still = still run ended known none;
     };
     failing = λ known. ended.faults known.before known.began;
-    spared = λ known u leg p fine.
+    spared = λ known u leg p shows fine.
         kept-block s devices known.before (over-told s name devices old told begun known.before up known.began) (bytes-told s name devices old told begun known.before up known.began) u leg p (stage_of begun [] told) known.began up.starts.marks run.mirror run.repair.repaired run.repair.lost new ended
-        known.after known.ended fine;
+        known.after known.ended shows fine;
   }
 
   pub midway : Broke s devices (stage_of begun [] told) new → StoppedMidway s name old new

@@ -70,7 +70,7 @@ pub record HasMirrored (run : Mirrored) (s : Script) (name : List ℕ) (old new 
   pub intact : (known : KnownBlocks told new) → NamesNoMedium (ended.stage.runs ++ ended.runs) run.mirror.replies.items → OnIntactLegs s devices known.before known.after run.repair.lost
   -- Over known blocks, whatever store calls failed, each block that is listed was found bad by the check of a layer, or failed at the medium.
   pub failing : KnownBlocks told new → All NamesFaults run.mirror.replies.items
-  -- And of each block with a leg on which nothing alters it and no request names it for the medium, where what lines do to it on the other is shown: each read is right, and the repair leaves it right on that leg.
+  -- And of each block with a leg on which nothing alters it and no request names it for the medium, where what lines and overwrites do to it on the other is shown: each read is right, and the repair leaves it right on that leg.
   pub spared : (known : KnownBlocks told new) → KeepsSpared s devices (stage_of begun [] told) (length s.ops) ended.stage ended.served.stood known.before known.after (ended.stage.runs ++ ended.runs)
 
 -- The source was read to its end, and its script was run on a mirror.

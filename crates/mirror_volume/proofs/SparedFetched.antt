@@ -41,7 +41,7 @@ use Rattle.mirror_volume.proofs.Requests.{IsRequest, whole-piece}
 use Rattle.mirror_volume.proofs.Readings.{first-long}
 use Rattle.mirror_volume.proofs.SparedFetch.{IsRight, chosen-at, first-at, fresh0-at, last-at, listed_of, lands_of, read-right, rest-at, slice-flat}
 use Rattle.mirror_volume.proofs.Ground.{fits}
-use Rattle.mirror_volume.proofs.SparedGround.{Altered, HasLeg}
+use Rattle.mirror_volume.proofs.SparedGround.{Altered, HasLeg, Stopped, has-later}
 use Rattle.mirror_volume.proofs.SparedLegs.{LegFell, leg-fell}
 use Rattle.mirror_volume.proofs.SparedNames.{fails-first, fails-last}
 use Rattle.mirror_volume.proofs.SparedReads.{Comes, LegCame, PartCame, base, base-comes, leg-came, part-local, slice}
@@ -61,10 +61,10 @@ from-none (Err why) e = absurd cc
 
 module _ (s : Script) (devices : List DeviceInfo) (us : List Stored) (over : IsMirrorOver s devices us) (u : ℕ) (leg : Bool) (p : IsUnaltered s devices us u leg)
     (now : List Stored) (same : shapes_of now ≡ shapes_of us) (old : Sides) (counted : length old.marks ≡ half_of s devices) (e : Brought)
-    (has : HasLeg s devices us u leg e (blocks_told now) (marks_of old.marks u))
+    (at-op : ℕ) (has : HasLeg s devices us u leg at-op e (blocks_told now) (marks_of old.marks u))
     (i v n : ℕ) (body : List Seg) (req : IsRequest s (half_of s devices) v n body)
     (free : has_block v n u ≡ true → IsFree (mirror_setting s devices us) s.block (named_on s devices leg u (Fetch v n body) i))
-    (shown : has_block v n u ≡ true → IsShown (mirror_setting s devices us) s.block (Altered s devices us u leg) (named_on s devices (not leg) u (Fetch v n body) i)) where
+    (shown : has_block v n u ≡ true → IsShown (mirror_setting s devices us) s.block (Altered s devices us u leg) (Stopped s devices us u leg at-op) (named_on s devices (not leg) u (Fetch v n body) i)) where
   abbrev m : Setting
   m = mirror_setting s devices us
 
@@ -352,7 +352,7 @@ module _ (s : Script) (devices : List DeviceInfo) (us : List Stored) (over : IsM
 
       -- what a fresh leg delivers of it
       delivers : (c : Bool) → on_leg c k.leg0 k.leg1 ≡ true → (frame : List ℕ) → reading m (its-block c) cells ≡ Ok frame → (length frame ≡ size + 8) × (brought_by size frame ≡ e)
-      delivers = delivers-it m size half u leg (Altered s devices us u leg) e cells k its-block (λ c. refl) (free here) (shown here) has
+      delivers = delivers-it m size half u leg (Altered s devices us u leg) (Stopped s devices us u leg at-op) e cells k its-block (λ c. refl) (free here) (shown here) has
 
       only0 : k.leg0 ≡ true → (frame : List ℕ) → reading m (block0 j) cells ≡ Ok frame → (length frame ≡ size + 8) × (brought_by size frame ≡ e)
       only0 f frame q = delivers false f frame (ap (λ (b : Block). reading m b cells) (sym named-first) ∙ q)
@@ -398,12 +398,13 @@ module _ (s : Script) (devices : List DeviceInfo) (us : List Stored) (over : IsM
         data_is = lands ∙ right.lands;
       }
 
-    pub kept-fetch : Kept s devices us u leg old new left (Fetch v n body) reply e
+    pub kept-fetch : Kept s devices us u leg at-op old new left (Fetch v n body) reply e
     kept-fetch = record {
       shapes = fell1.shapes;
       counted = ap length w.marks ∙ counted;
       has =
-          subst (λ (k : Marks). HasLeg s devices us u leg e (blocks_told left) k) (sym (ap (λ (ms : List Marks). marks_of ms u) w.marks))
-          (subst (λ (bs : List (List ℕ)). HasLeg s devices us u leg e bs (marks_of old.marks u)) (sym fell1.same) has);
+          subst (λ (k : Marks). HasLeg s devices us u leg (at-op + 1) e (blocks_told left) k) (sym (ap (λ (ms : List Marks). marks_of ms u) w.marks))
+          (subst (λ (bs : List (List ℕ)). HasLeg s devices us u leg (at-op + 1) e bs (marks_of old.marks u)) (sym fell1.same)
+          (has-later s devices us u leg at-op e (blocks_told now) (marks_of old.marks u) has));
       reads = λ here. lands-right here;
     }

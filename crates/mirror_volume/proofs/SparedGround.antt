@@ -1,6 +1,7 @@
 -- A block of a mirror of which nothing alters a leg: where it stands, what is known of its requests on both legs, and what it has when the script begins.
 use Rattle.std.proofs.Common.{◌≡◌, ◌<◌, inl, ℕ, ◌+◌, Bool, true, false, not, List, [], ◌∷◌, length, refl, sym, ap, subst, ◌∙◌, arith, length-append}
 use Rattle.std.proofs.lemmas.Bool.{false_from_ne_true}
+use Rattle.std.proofs.lemmas.List.{length-take-le}
 use Rattle.fault_schedule.specs.declared.fault.Crossing.TheVariants.{MediumToTarget, TargetToMedium}
 use Rattle.pi_tuple.specs.Finds.{has_ref_tag, is_escaped}
 use Rattle.pi_tuple.specs.declared.checks.PiType.{PiType}
@@ -12,12 +13,14 @@ use Rattle.volume_table.specs.Tables.{Table}
 use Rattle.volume_table.specs.declared.device.DeviceInfo.{DeviceInfo}
 use Rattle.dix_adapter.specs.Ways.{blocks_told, shapes_of}
 use Rattle.block_path.proofs.Cells.{below}
+use Rattle.run_laws.proofs.Passed.{below_take}
 use Rattle.stack_ops.specs.Ops.{first_virt}
 use Rattle.small_laws.proofs.Numbers.{even_size}
 use Rattle.walk_laws.specs.FirstLayer.{has_flip}
 use Rattle.walk_laws.specs.Past.{Brought, brought_by}
 use Rattle.walk_laws.specs.Settings.{Block, Setting}
 use Rattle.walk_laws.specs.UnderMap.{home}
+use Rattle.walk_laws.proofs.TupleFrames.{frame_small}
 use Rattle.run_laws.specs.ShownRun.{IsChecked}
 use Rattle.script_text.specs.declared.script.Script.{Script}
 use Rattle.script_form_laws.proofs.Formed.{lines-bytes}
@@ -26,7 +29,7 @@ use Rattle.mirror_laws.specs.Mirror.{blocks_in, fresh}
 use Rattle.mirror_laws.specs.declared.marks.Marks.{Marks}
 use Rattle.mirror_laws.specs.OneGood.{IsUnnamed, on_leg}
 use Rattle.mirror_volume.specs.LegsPassed.{none_fails, setting_of, table_of}
-use Rattle.mirror_volume.specs.Spared.{IsAltered, IsUnaltered, has_block, named_on, place_on, stored_on}
+use Rattle.mirror_volume.specs.Spared.{IsAltered, IsFoundFrom, IsUnaltered, has_block, named_on, place_on, stored_on}
 use Rattle.mirror_volume.specs.Enough.{opening_over}
 use Rattle.mirror_volume.specs.Premises.{HoldsBytes}
 use Rattle.mirror_volume.specs.Standing.{IsMirrorOver, half_of, mirror_setting, op_at}
@@ -34,7 +37,7 @@ use Rattle.mirror_volume.proofs.Free.{SoundAs}
 use Rattle.mirror_volume.proofs.Ground.{fits, legs, sizes}
 use Rattle.mirror_volume.proofs.Premises.{checked-over, has-cells, lies-on}
 use Rattle.mirror_volume.proofs.SparedFree.{is-free, is-shown-block}
-use Rattle.mirror_volume.proofs.SparedWrites.{Has, IsFree, IsShown}
+use Rattle.mirror_volume.proofs.SparedWrites.{Has, IsFree, IsShown, has-more}
 
 -- units of the same shapes have as many blocks
 pub as-many : (us vs : List Stored) → shapes_of vs ≡ shapes_of us → length (blocks_told vs) ≡ length (blocks_told us)
@@ -59,9 +62,19 @@ leg-inside true u half l = omega (arith, l)
 abbrev pub Altered : Script → List DeviceInfo → List Stored → (u : ℕ) → (leg : Bool) → Type 0
 Altered s devices us u leg = (k : ℕ) × IsAltered s devices us (not leg) u k TargetToMedium
 
--- what it has, over these blocks and with these marks
-abbrev pub HasLeg : Script → List DeviceInfo → List Stored → (u : ℕ) → (leg : Bool) → Brought → List (List ℕ) → Marks → Type 0
-HasLeg s devices us u leg e blocks k = Has (mirror_setting s devices us) s.block (half_of s devices) u leg (Altered s devices us u leg) e blocks k
+-- The target's check finds it on the other leg, from op k on.
+abbrev pub Stopped : Script → List DeviceInfo → List Stored → (u : ℕ) → (leg : Bool) → (k : ℕ) → List ℕ → Type 0
+Stopped s devices us u leg k x = IsFoundFrom s devices us (not leg) u k x
+
+-- what it has before op k, over these blocks and with these marks
+abbrev pub HasLeg : Script → List DeviceInfo → List Stored → (u : ℕ) → (leg : Bool) → (k : ℕ) → Brought → List (List ℕ) → Marks → Type 0
+HasLeg s devices us u leg k e blocks marks = Has (mirror_setting s devices us) s.block (half_of s devices) u leg (Altered s devices us u leg) (Stopped s devices us u leg k) e blocks marks
+
+-- What it has it has still before the next op.
+pub has-later : (s : Script) (devices : List DeviceInfo) (us : List Stored) (u : ℕ) (leg : Bool) (k : ℕ) (e : Brought) (blocks : List (List ℕ)) (marks : Marks) → HasLeg s devices us u leg k e blocks marks → HasLeg s devices us u leg (k + 1) e blocks marks
+has-later s devices us u leg k e blocks marks h =
+    has-more (mirror_setting s devices us) s.block (half_of s devices) u leg (Altered s devices us u leg) (Stopped s devices us u leg k) (Stopped s devices us u leg (k + 1)) e blocks marks
+    (λ x found j from under here. found j (omega (arith, from)) under here) h
 
 module _ (s : Script) (devices : List DeviceInfo) (us : List Stored) (over : IsMirrorOver s devices us) where
   abbrev m : Setting
@@ -108,11 +121,11 @@ module _ (s : Script) (devices : List DeviceInfo) (us : List Stored) (over : IsM
         free (named_on s devices leg u (op_at s.ops k) (k + 1)) (λ at. false_from_ne_true (has_flip m (named_on s devices leg u (op_at s.ops k) (k + 1)) at) (λ f. p.unnamed k at (record { under = under; here = here; flips = f })))
 
     -- and on the other
-    pub shown-at : (k : ℕ) → k < length s.ops → has_block (first_virt (op_at s.ops k)) (blocks_in (op_at s.ops k)) u ≡ true → IsShown m s.block (Altered s devices us u leg) (named_on s devices (not leg) u (op_at s.ops k) (k + 1))
+    pub shown-at : (k : ℕ) → k < length s.ops → has_block (first_virt (op_at s.ops k)) (blocks_in (op_at s.ops k)) u ≡ true → IsShown m s.block (Altered s devices us u leg) (Stopped s devices us u leg k) (named_on s devices (not leg) u (op_at s.ops k) (k + 1))
     shown-at k under here =
         let b = named_on s devices (not leg) u (op_at s.ops k) (k + 1) in
         is-shown-block m (opening_over s us) half (λ at op. (legs s devices us over).unshifted at op) is-checked (even_size s.block over.bound.keeps.block_is) (lines-bytes s.block s.ops s.faults over.bound.keeps.faults_are)
-        (Altered s devices us u leg) b (λ at f. p.shown k at (record { under = under; here = here; flips = f })) (λ f. (k, record { under = under; here = here; flips = f }))
+        (Altered s devices us u leg) (Stopped s devices us u leg k) b (λ x found. found k (omega arith) under here) (λ at f. p.shown k at (record { under = under; here = here; flips = f })) (λ f. (k, record { under = under; here = here; flips = f }))
         (λ altered. false_from_ne_true (has_flip m b MediumToTarget) (λ f. p.apart altered.0 k altered.1 (record { under = under; here = here; flips = f })))
 
     sound-at : (c : Bool) → SoundAs m (place_on s devices c u) (brought_by s.block (stored_on s devices us us c u)) (stored_on s devices us us c u)
@@ -145,18 +158,23 @@ module _ (s : Script) (devices : List DeviceInfo) (us : List Stored) (over : IsM
     fresh-on true = refl
 
     -- it has what a leg has
-    pub begins : HoldsBytes us → HasLeg s devices us u leg (brought_by s.block (stored_on s devices us us leg u)) (blocks_told us) fresh
+    pub begins : HoldsBytes us → HasLeg s devices us u leg 0 (brought_by s.block (stored_on s devices us us leg u)) (blocks_told us) fresh
     begins bytes =
         let other = sound-at (not leg) in
+        let sound = (sound-at leg).sound in
+        let octets = λ (c : Bool). below 256 (stored_on s devices us us c u) (block_octets (blocks_told us) (home m (place_on s devices c u)) bytes) in
+        let x = stored_on s devices us us leg u in
         record {
+          whole = record {
+            size = (let long = sound.bare.size in length-take-le s.block x (omega (arith, long)));
+            below = (frame_small s.block x sound.bare.size (octets leg)).app;
+            bare = sound.bare.escape;
+          };
+          bytes = below_take 256 s.block x (octets leg);
           good = fresh-on leg;
           sound = sound-at leg;
-          other = λ f. record {
-            fine = record {
-              size = other.sound.bare.size;
-              bytes = below 256 (stored_on s devices us us (not leg) u) (block_octets (blocks_told us) (home m (place_on s devices (not leg) u)) bytes);
-              escape = other.sound.bare.escape;
-            };
+          other = λ f. inl (record {
+            fine = record { size = other.sound.bare.size; bytes = octets (not leg); escape = other.sound.bare.escape };
             either = inl (subst (λ (e : Brought). SoundAs m (place_on s devices (not leg) u) e (stored_on s devices us us (not leg) u)) (same-legs (not leg) leg) other);
-          };
+          });
         }

@@ -1,24 +1,38 @@
 -- A block on a leg on which fault lines may alter it, where they are shown: what its write stores is right or spoilt, and of what is stored so a read delivers what is right alone.
-use Rattle.std.proofs.Common.{◌≡◌, ◌⊎◌, inl, inr, ℕ, ◌+◌, ◌%◌, Bool, true, false, List, [], length, get_or, Option, Some, None, refl, sym, ap, subst, ◌∙◌}
-use Rattle.std.specs.Prelude.{All, Ok, pos}
+use Rattle.std.proofs.Common.{◌≡◌, ◌⊎◌, inl, inr, ℕ, ◌+◌, ◌%◌, Bool, true, false, List, [], length, get_or, Option, Some, None, refl, sym, ap, subst, ◌∙◌, length-append}
+use Rattle.std.specs.Prelude.{All, Ok, is_some, pos}
 use Rattle.std.proofs.lemmas.Bool.{false≢true}
+use Rattle.pi_guard.specs.Guards.{crc}
+use Rattle.pi_guard.specs.declared.GuardKind.TheVariants.{Crc}
+use Rattle.pi_guard.proofs.GuardSizes.{guard_below}
 use Rattle.fault_schedule.specs.Altered.{shift_of}
 use Rattle.fault_schedule.specs.declared.fault.Crossing.{Crossing}
-use Rattle.fault_schedule.specs.declared.fault.Crossing.TheVariants.{MediumToTarget, TargetToMedium}
+use Rattle.fault_schedule.specs.declared.fault.Crossing.TheVariants.{MediumToTarget, TargetToAdapter, TargetToMedium}
 use Rattle.fault_schedule.specs.declared.fault.FaultLine.{FaultLine}
+use Rattle.pi_tuple.specs.Finds.{is_escaped}
+use Rattle.pi_tuple.specs.Tuples.{ref_tag, tuple_bytes}
+use Rattle.pi_tuple.specs.declared.checks.Check.{Check}
+use Rattle.pi_tuple.specs.declared.checks.PiType.TheVariants.{One}
 use Rattle.pi_tuple.specs.declared.tuple.Tuple.{Tuple}
+use Rattle.pi_tuple.proofs.TupleLaws.{tag_below}
+use Rattle.rig_api.specs.Frames.{frame_of, tuple_of}
 use Rattle.integrity_payload.specs.declared.payload.Owner.TheVariants.{Block as OfBlock}
 use Rattle.bio_core.specs.declared.fate.Why.{Why}
+use Rattle.bio_core.specs.declared.fate.Why.TheVariants.{Target}
+use Rattle.rig_api.specs.Passing.{from_medium, then_crossed, unless}
 use Rattle.block_path.specs.Acts.{State}
-use Rattle.block_path.specs.Blocks.{own_frame}
-use Rattle.block_path.specs.WayIn.{Delivers, Spoils, Stops, WayIn, delivered_of, way_in}
+use Rattle.block_path.specs.Blocks.{fetched_cell, own_frame}
+use Rattle.block_path.specs.Routes.{by_target}
+use Rattle.block_path.specs.WayIn.{Delivers, Spoils, Stops, WayIn, delivered_of, from_device, verified, way_in}
 use Rattle.block_path.specs.WayOut.{Fails, Refuses, Stores, WayOut, stored_of, way_out}
 use Rattle.block_path.proofs.Cells.{AllBelow}
-use Rattle.walk_laws.specs.Detectable.{arrives}
-use Rattle.walk_laws.specs.FirstLayer.{AtAdapter, AtOwner, Layer, has_flip}
+use Rattle.walk_laws.specs.Detectable.{arrives, found}
+use Rattle.walk_laws.specs.FirstLayer.{AtAdapter, AtOwner, AtTarget, Layer, has_flip}
 use Rattle.walk_laws.specs.Past.{Brought, brought_by}
+use Rattle.walk_laws.specs.PlainMap.{as_expected}
 use Rattle.walk_laws.specs.Settings.{Block, Setting, route}
 use Rattle.walk_laws.specs.UnderMap.{address_of, home}
+use Rattle.run_laws.proofs.Passed.{below_append, data_is, tuple_below, tuple_is}
 use Rattle.run_laws.proofs.Layers.{After, Fetched, Hands, Outcome, Reading, Sound, Spoilt, checked, goes_out, reads, same_brought, why_ended}
 use Rattle.run_premises.specs.FormedRun.{IsOfBytes}
 use Rattle.run_premises.specs.Forms.{is_shown, kind_at, mask_of}
@@ -37,6 +51,28 @@ not-ended : (w : WayIn) (why : Why) (frame : List ℕ) → why_ended w ≡ Some 
 not-ended (Stops x) why frame e q = absurd cc
 not-ended (Spoils x carried) why frame e q = absurd cc
 not-ended (Delivers carried x) why frame e q = absurd cc
+
+-- ---- what the target's check finds isn't delivered
+
+module _ (m' : Setting) (opening : State) (half : ℕ) (still : (at : Crossing) (op : ℕ) → shift_of m'.site.faults at op ≡ pos 0) (b : Block) where
+  ended-there : (x : List ℕ) (check : Check) → found (checked m') b x AtTarget ≡ Some check → way_in m'.site.faults (checked m').site.device (route (checked m') b) OfBlock x ≡ Stops (Target check)
+  unfolding from_medium
+  ended-there x check h =
+      ap (λ o. verified (route (checked m') b) OfBlock
+      (from_device m'.site.faults (route (checked m') b) (by_target (then_crossed m'.site.faults (Some (route (checked m') b).label) TargetToAdapter (unless o (arrives (checked m') b x AtTarget)))))) h
+
+  pub stops-so : (blocks : List (List ℕ)) → is_some (found (checked m') b (get_or blocks (home (checked m') b.virt) []) AtTarget) ≡ true → (frame : List ℕ) → reading (checked m') b blocks ≡ Ok frame → ⊥
+  stops-so blocks finds frame r = by (found (checked m') b (get_or blocks (home (checked m') b.virt) []) AtTarget) refl finds where
+    at : fetched_cell (checked m').site (route (checked m') b) ≡ home (checked m') b.virt
+    at = fetched_at m' opening half (λ op. 0) still b
+
+    by : (o : Option Check) → found (checked m') b (get_or blocks (home (checked m') b.virt) []) AtTarget ≡ o → is_some o ≡ true → ⊥
+    by None e q = false≢true q
+    by (Some check) e q =
+        let way : delivered_of (Stops (Target check)) ≡ Ok frame =
+        sym (ap delivered_of (ended-there (get_or blocks (home (checked m') b.virt) []) check e))
+        ∙ sym (ap (λ i. delivered_of (way_in m'.site.faults (checked m').site.device (route (checked m') b) OfBlock (get_or blocks i []))) at) ∙ r in
+        cc
 
 module _ (m' : Setting) (opening : State) (half : ℕ) (still : (at : Crossing) (op : ℕ) → shift_of m'.site.faults at op ≡ pos 0)
     (even : m'.size % 2 ≡ 0) (flips : All (λ (line : FaultLine). IsOfBytes line.kind) m'.site.faults) (altered : Type 0) (b : Block)
@@ -117,3 +153,37 @@ module _ (m' : Setting) (opening : State) (half : ℕ) (still : (at : Crossing) 
             shown = comes_shown m' even flips b shown x s.fine (no_shift m' opening half none still b MediumToTarget) (λ q. absurd (false≢true (sym (apart spoilt.1) ∙ q)));
           } in
           absurd (false≢true (sym (hands true _ (reads m' b OfBlock true x fetched)).whole))
+
+-- ---- a stored block that is the frame of what was written
+
+-- a tag that stands there is expected
+pub expected-of : (m' : Setting) (v : ℕ) (e : Brought) {x : List ℕ} → SoundAs m' v e x → as_expected (checked m') e.app ≡ true
+expected-of m' v e s = subst (λ (a : ℕ). as_expected (checked m') a ≡ true) (ap (λ (b : Brought). b.app) s.brought) s.sound.app
+
+module _ (m' : Setting) (v : ℕ) (e : Brought) (whole : IsWhole m'.size e) (bytes : AllBelow 256 e.body) (expected : as_expected (checked m') e.app ≡ true) (altered : Type 0) where
+  abbrev its : Tuple
+  its = record { guard = crc e.body; app = e.app; rtag = ref_tag (address_of (checked m') v) }
+
+  tuple-there : tuple_of m'.size (frame_of e.body (record { guard = crc e.body; app = e.app; rtag = ref_tag (address_of (checked m') v) })) ≡ record { guard = crc e.body; app = e.app; rtag = ref_tag (address_of (checked m') v) }
+  tuple-there = tuple_is m'.size e.body its whole.size (record { guard = guard_below Crc e.body; app = whole.below; rtag = tag_below (address_of (checked m') v) })
+
+  long : length (frame_of e.body (record { guard = crc e.body; app = e.app; rtag = ref_tag (address_of (checked m') v) })) ≡ m'.size + 8
+  long = length-append e.body (tuple_bytes its) ∙ ap (λ k. k + 8) whole.size
+
+  bare : is_escaped One (tuple_of m'.size (frame_of e.body (record { guard = crc e.body; app = e.app; rtag = ref_tag (address_of (checked m') v) }))) ≡ false
+  bare = ap (λ (t : Tuple). is_escaped One t) tuple-there ∙ whole.bare
+
+  pub frame-stands : StandsAs m' v e altered (frame_of e.body (record { guard = crc e.body; app = e.app; rtag = ref_tag (address_of (checked m') v) }))
+  frame-stands =
+      let body-there = data_is m'.size e.body its whole.size in
+      record {
+        fine = record { size = long; bytes = below_append 256 e.body (tuple_bytes its) bytes (tuple_below its); escape = bare };
+        either = inl (record {
+          sound = record {
+            bare = record { size = long; escape = bare };
+            bears = record { guard = ap (λ (t : Tuple). t.guard) tuple-there ∙ ap crc (sym body-there); rtag = ap (λ (t : Tuple). t.rtag) tuple-there };
+            app = subst (λ (a : ℕ). as_expected (checked m') a ≡ true) (sym (ap (λ (t : Tuple). t.app) tuple-there)) expected;
+          };
+          brought = same_brought body-there (ap (λ (t : Tuple). t.app) tuple-there);
+        });
+      }

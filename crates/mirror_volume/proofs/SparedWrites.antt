@@ -86,31 +86,51 @@ pub record IsFree (m : Setting) (size : ℕ) (b : Block) : Type 0 where
   pub stores : (e : Brought) → IsWhole size e → as_expected m e.app ≡ true → (stored : List ℕ) × ((writing m b e ≡ Ok stored) × SoundAs m b.virt e stored)
   pub comes : (e : Brought) (blocks : List (List ℕ)) → SoundAs m b.virt e (get_or blocks (home m b.virt) []) → (frame : List ℕ) × ((reading m b blocks ≡ Ok frame) × ((length frame ≡ size + 8) × (brought_by size frame ≡ e)))
 
--- A block whose alterations are shown, on a leg of which a line may have altered what is stored: what its write stores is right or spoilt, and of what is stored so a read delivers what is right alone.
-pub record IsShown (m : Setting) (size : ℕ) (altered : Type 0) (b : Block) : Type 0 where
+-- It stands as a check can tell, or is stopped.
+abbrev pub StandsOrStops : Setting → (v : ℕ) → Brought → (altered : Type 0) → (stopped : List ℕ → Type 0) → List ℕ → Type 0
+StandsOrStops m v e altered stopped x = StandsAs m v e altered x ⊎ stopped x
+
+-- A block whose alterations are shown, on a leg of which a line may have altered what is stored: what its write stores is right or spoilt, and of what is stored so a read delivers what is right alone. It delivers none of what is `stopped`.
+pub record IsShown (m : Setting) (size : ℕ) (altered : Type 0) (stopped : List ℕ → Type 0) (b : Block) : Type 0 where
   pub stores : (e : Brought) → IsWhole size e → AllBelow 256 e.body → (stored : List ℕ) → writing m b e ≡ Ok stored → StandsAs m b.virt e altered stored
   pub comes : (e : Brought) (blocks : List (List ℕ)) → StandsAs m b.virt e altered (get_or blocks (home m b.virt) []) → (frame : List ℕ) → reading m b blocks ≡ Ok frame → (length frame ≡ size + 8) × (brought_by size frame ≡ e)
+  pub stops : (blocks : List (List ℕ)) → stopped (get_or blocks (home m b.virt) []) → (frame : List ℕ) → reading m b blocks ≡ Ok frame → ⊥
 
--- Its good leg is fresh, and has what it was last written with; the other has it, is spoilt or is stale.
-pub record Has (m : Setting) (size half u : ℕ) (leg : Bool) (altered : Type 0) (e : Brought) (blocks : List (List ℕ)) (k : Marks) : Type 0 where
+-- Its good leg is fresh, and has what it was last written with; the other has it, is spoilt, holds what is stopped or is stale.
+pub record Has (m : Setting) (size half u : ℕ) (leg : Bool) (altered : Type 0) (stopped : List ℕ → Type 0) (e : Brought) (blocks : List (List ℕ)) (k : Marks) : Type 0 where
+  pub whole : IsWhole size e
+  pub bytes : AllBelow 256 e.body
   pub good : on_leg leg k.leg0 k.leg1 ≡ true
   pub sound : SoundAs m (on_leg leg u (half + u)) e (get_or blocks (home m (on_leg leg u (half + u))) [])
-  pub other : on_leg (not leg) k.leg0 k.leg1 ≡ true → StandsAs m (on_leg (not leg) u (half + u)) e altered (get_or blocks (home m (on_leg (not leg) u (half + u))) [])
+  pub other : on_leg (not leg) k.leg0 k.leg1 ≡ true → StandsOrStops m (on_leg (not leg) u (half + u)) e altered stopped (get_or blocks (home m (on_leg (not leg) u (half + u))) [])
 
 -- What is stored of it stays.
-pub has-still : (m : Setting) (size half u : ℕ) (leg : Bool) (altered : Type 0) (e : Brought) (old new : List (List ℕ)) (k : Marks)
-    → ((c : Bool) → get_or new (home m (on_leg c u (half + u))) [] ≡ get_or old (home m (on_leg c u (half + u))) []) → Has m size half u leg altered e old k → Has m size half u leg altered e new k
-has-still m size half u leg altered e old new k same h = record {
+pub has-still : (m : Setting) (size half u : ℕ) (leg : Bool) (altered : Type 0) (stopped : List ℕ → Type 0) (e : Brought) (old new : List (List ℕ)) (k : Marks)
+    → ((c : Bool) → get_or new (home m (on_leg c u (half + u))) [] ≡ get_or old (home m (on_leg c u (half + u))) []) → Has m size half u leg altered stopped e old k → Has m size half u leg altered stopped e new k
+has-still m size half u leg altered stopped e old new k same h = record {
+  whole = h.whole;
+  bytes = h.bytes;
   good = h.good;
   sound = subst (SoundAs m (on_leg leg u (half + u)) e) (sym (same leg)) h.sound;
-  other = λ f. subst (StandsAs m (on_leg (not leg) u (half + u)) e altered) (sym (same (not leg))) (h.other f);
+  other = λ f. subst (StandsOrStops m (on_leg (not leg) u (half + u)) e altered stopped) (sym (same (not leg))) (h.other f);
+}
+
+-- What is stopped may be more.
+pub has-more : (m : Setting) (size half u : ℕ) (leg : Bool) (altered : Type 0) (stopped more : List ℕ → Type 0) (e : Brought) (blocks : List (List ℕ)) (k : Marks)
+    → ((x : List ℕ) → stopped x → more x) → Has m size half u leg altered stopped e blocks k → Has m size half u leg altered more e blocks k
+has-more m size half u leg altered stopped more e blocks k wide h = record {
+  whole = h.whole;
+  bytes = h.bytes;
+  good = h.good;
+  sound = h.sound;
+  other = λ f. elim (h.other f) [ inl stands ↦ inl stands | inr stops ↦ inr (wide (get_or blocks (home m (on_leg (not leg) u (half + u))) []) stops) ];
 }
 
 -- What a fresh leg delivers of it is what it was last written with.
-pub delivers-it : (m : Setting) (size half u : ℕ) (leg : Bool) (altered : Type 0) (e : Brought) (blocks : List (List ℕ)) (k : Marks) (b : Bool → Block) → ((c : Bool) → (b c).virt ≡ on_leg c u (half + u))
-    → IsFree m size (b leg) → IsShown m size altered (b (not leg)) → Has m size half u leg altered e blocks k
+pub delivers-it : (m : Setting) (size half u : ℕ) (leg : Bool) (altered : Type 0) (stopped : List ℕ → Type 0) (e : Brought) (blocks : List (List ℕ)) (k : Marks) (b : Bool → Block) → ((c : Bool) → (b c).virt ≡ on_leg c u (half + u))
+    → IsFree m size (b leg) → IsShown m size altered stopped (b (not leg)) → Has m size half u leg altered stopped e blocks k
     → (c : Bool) → on_leg c k.leg0 k.leg1 ≡ true → (frame : List ℕ) → reading m (b c) blocks ≡ Ok frame → (length frame ≡ size + 8) × (brought_by size frame ≡ e)
-delivers-it m size half u leg altered e blocks k b places free shown h c fresh-there frame r = by leg c free shown h.sound h.other fresh-there r where
+delivers-it m size half u leg altered stopped e blocks k b places free shown h c fresh-there frame r = by leg c free shown h.sound h.other fresh-there r where
   good : (d : Bool) → IsFree m size (b d) → SoundAs m (on_leg d u (half + u)) e (get_or blocks (home m (on_leg d u (half + u))) []) → reading m (b d) blocks ≡ Ok frame → (length frame ≡ size + 8) × (brought_by size frame ≡ e)
   good d free sound q =
       let x = free.comes e blocks (subst (λ (v : ℕ). SoundAs m v e (get_or blocks (home m v) [])) (sym (places d)) sound) in
@@ -118,11 +138,12 @@ delivers-it m size half u leg altered e blocks k b places free shown h c fresh-t
       let same : x.0 ≡ frame = cc in
       (ap length (sym same) ∙ x.1.1.0, ap (brought_by size) (sym same) ∙ x.1.1.1)
 
-  bad : (d : Bool) → IsShown m size altered (b d) → StandsAs m (on_leg d u (half + u)) e altered (get_or blocks (home m (on_leg d u (half + u))) []) → reading m (b d) blocks ≡ Ok frame → (length frame ≡ size + 8) × (brought_by size frame ≡ e)
-  bad d shown stands q = shown.comes e blocks (subst (λ (v : ℕ). StandsAs m v e altered (get_or blocks (home m v) [])) (sym (places d)) stands) frame q
+  bad : (d : Bool) → IsShown m size altered stopped (b d) → StandsOrStops m (on_leg d u (half + u)) e altered stopped (get_or blocks (home m (on_leg d u (half + u))) []) → reading m (b d) blocks ≡ Ok frame → (length frame ≡ size + 8) × (brought_by size frame ≡ e)
+  bad d shown (inl stands) q = shown.comes e blocks (subst (λ (v : ℕ). StandsAs m v e altered (get_or blocks (home m v) [])) (sym (places d)) stands) frame q
+  bad d shown (inr stops) q = absurd (shown.stops blocks (subst (λ (v : ℕ). stopped (get_or blocks (home m v) [])) (sym (places d)) stops) frame q)
 
-  by : (leg c : Bool) → IsFree m size (b leg) → IsShown m size altered (b (not leg)) → SoundAs m (on_leg leg u (half + u)) e (get_or blocks (home m (on_leg leg u (half + u))) [])
-      → (on_leg (not leg) k.leg0 k.leg1 ≡ true → StandsAs m (on_leg (not leg) u (half + u)) e altered (get_or blocks (home m (on_leg (not leg) u (half + u))) []))
+  by : (leg c : Bool) → IsFree m size (b leg) → IsShown m size altered stopped (b (not leg)) → SoundAs m (on_leg leg u (half + u)) e (get_or blocks (home m (on_leg leg u (half + u))) [])
+      → (on_leg (not leg) k.leg0 k.leg1 ≡ true → StandsOrStops m (on_leg (not leg) u (half + u)) e altered stopped (get_or blocks (home m (on_leg (not leg) u (half + u))) []))
       → on_leg c k.leg0 k.leg1 ≡ true → reading m (b c) blocks ≡ Ok frame → (length frame ≡ size + 8) × (brought_by size frame ≡ e)
   by false false free shown sound other f q = good false free sound q
   by false true free shown sound other f q = bad true shown (other f) q
@@ -134,8 +155,8 @@ pub record LegWrote (m : Setting) (b : Block) (x : Brought) (new : List (List �
   pub stores : found ≡ None → (stored : List ℕ) × ((writing m b x ≡ Ok stored) × (get_or new (home m b.virt) [] ≡ stored))
   pub may : (stored : List ℕ) → writing m b x ≡ Ok stored → (found ≡ None) ⊎ (found ≡ Some Medium)
 
-module _ (m : Setting) (size half u : ℕ) (leg : Bool) (altered : Type 0) (b : Bool → Block) (places : (c : Bool) → (b c).virt ≡ on_leg c u (half + u)) (x : Brought) (whole : IsWhole size x) (bytes : AllBelow 256 x.body) (expected : as_expected m x.app ≡ true)
-    (free : IsFree m size (b leg)) (shown : IsShown m size altered (b (not leg))) where
+module _ (m : Setting) (size half u : ℕ) (leg : Bool) (altered : Type 0) (stopped : List ℕ → Type 0) (b : Bool → Block) (places : (c : Bool) → (b c).virt ≡ on_leg c u (half + u)) (x : Brought) (whole : IsWhole size x) (bytes : AllBelow 256 x.body) (expected : as_expected m x.app ≡ true)
+    (free : IsFree m size (b leg)) (shown : IsShown m size altered stopped (b (not leg))) where
   abbrev Wrote : (left : List (List ℕ)) → (w0 w1 : Option Why) → Bool → Type 0
   Wrote left w0 w1 c = LegWrote m (b c) x left (on_leg c w0 w1)
 
@@ -157,7 +178,7 @@ module _ (m : Setting) (size half u : ℕ) (leg : Bool) (altered : Type 0) (b : 
   accepts left w0 w1 w off = let c = free.stores x whole expected in elim (w.may c.0 c.1.0) [ inl none ↦ none | inr medium ↦ absurd (off medium) ]
 
   pub record IsWrittenOn (left : List (List ℕ)) (w0 w1 : Option Why) (k : Marks) : Type 0 where
-    pub has : Has m size half u leg altered x left (marked w0 w1 k)
+    pub has : Has m size half u leg altered stopped x left (marked w0 w1 k)
     pub unlisted : neither w0 w1 ≡ None
 
   pub written-on : (left : List (List ℕ)) (w0 w1 : Option Why) (k : Marks) → ((c : Bool) → LegWrote m (b c) x left (on_leg c w0 w1)) → (on_leg leg w0 w1 ≡ Some Medium → ⊥) → IsWrittenOn left w0 w1 k
@@ -165,9 +186,11 @@ module _ (m : Setting) (size half u : ℕ) (leg : Bool) (altered : Type 0) (b : 
       let none = accepts left w0 w1 (wrote leg) off in
       record {
         has = record {
+          whole = whole;
+          bytes = bytes;
           good = (fresh-after leg w0 w1 none).0;
           sound = stored-right left w0 w1 (wrote leg) none;
-          other = λ f. stored-so left w0 w1 (wrote (not leg)) (none-there leg w0 w1 none f);
+          other = λ f. inl (stored-so left w0 w1 (wrote (not leg)) (none-there leg w0 w1 none f));
         };
         unlisted = (fresh-after leg w0 w1 none).1;
       }

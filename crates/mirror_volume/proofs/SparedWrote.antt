@@ -45,7 +45,7 @@ use Rattle.mirror_volume.proofs.FellWrite.{FellWrite, fell-write}
 use Rattle.mirror_volume.proofs.Free.{IsWhole}
 use Rattle.mirror_volume.proofs.Requests.{IsRequest, whole-piece}
 use Rattle.mirror_volume.proofs.Ground.{fits}
-use Rattle.mirror_volume.proofs.SparedGround.{Altered, HasLeg, home-inside, homes-apart}
+use Rattle.mirror_volume.proofs.SparedGround.{Altered, HasLeg, Stopped, has-later, home-inside, homes-apart}
 use Rattle.mirror_volume.proofs.SparedNames.{lists-it, names-it, one-fails, rest-fails}
 use Rattle.mirror_volume.proofs.SparedReads.{slice-long}
 use Rattle.mirror_volume.proofs.SparedWrites.{IsFree, IsShown, IsWrittenOn, LegWrote, has-still, listed-at, marks-in, marks-out, written-at, written-on}
@@ -63,20 +63,20 @@ in-request v n u h = let a = and_parts (nat_le v u) (nat_lt u (v + n)) h in (leb
 pub request-has : (v n u j : ℕ) → j < n → v + j ≡ u → has_block v n u ≡ true
 request-has v n u j l e = and_from (nat_le v u) (nat_lt u (v + n)) (le-leb v u (omega (arith, e))) (lt-ltb u (v + n) (omega (arith, e, l)))
 
--- What holds of block u after an op.
-pub record Kept (s : Script) (devices : List DeviceInfo) (us : List Stored) (u : ℕ) (leg : Bool) (old new : Sides) (left : List Stored) (op : Op) (reply : Reply) (e : Brought) : Type 0 where
+-- What holds of block u after op k, counted from 0.
+pub record Kept (s : Script) (devices : List DeviceInfo) (us : List Stored) (u : ℕ) (leg : Bool) (k : ℕ) (old new : Sides) (left : List Stored) (op : Op) (reply : Reply) (e : Brought) : Type 0 where
   pub shapes : shapes_of left ≡ shapes_of us
   pub counted : length new.marks ≡ half_of s devices
-  pub has : HasLeg s devices us u leg (written_then s.block u op old.pool reply e) (blocks_told left) (marks_of new.marks u)
+  pub has : HasLeg s devices us u leg (k + 1) (written_then s.block u op old.pool reply e) (blocks_told left) (marks_of new.marks u)
   pub reads : ReadsRight s.block u op old new reply e
 
 module _ (s : Script) (devices : List DeviceInfo) (us : List Stored) (over : IsMirrorOver s devices us) (u : ℕ) (leg : Bool) (p : IsUnaltered s devices us u leg)
     (now : List Stored) (same : shapes_of now ≡ shapes_of us) (old : Sides) (counted : length old.marks ≡ half_of s devices) (e : Brought)
-    (has : HasLeg s devices us u leg e (blocks_told now) (marks_of old.marks u))
+    (at-op : ℕ) (has : HasLeg s devices us u leg at-op e (blocks_told now) (marks_of old.marks u))
     (i v n : ℕ) (body : List Seg) (app : ℕ) (req : IsRequest s (half_of s devices) v n body) (below : app < 2 ^ 16)
     (right : has_block v n u ≡ true → (as_expected (mirror_setting s devices us) app ≡ true) × (eqb app 0xFFFF ≡ false))
     (free : has_block v n u ≡ true → IsFree (mirror_setting s devices us) s.block (named_on s devices leg u (Write v n body app) i))
-    (shown : has_block v n u ≡ true → IsShown (mirror_setting s devices us) s.block (Altered s devices us u leg) (named_on s devices (not leg) u (Write v n body app) i)) where
+    (shown : has_block v n u ≡ true → IsShown (mirror_setting s devices us) s.block (Altered s devices us u leg) (Stopped s devices us u leg at-op) (named_on s devices (not leg) u (Write v n body app) i)) where
   abbrev m : Setting
   m = mirror_setting s devices us
 
@@ -256,10 +256,10 @@ module _ (s : Script) (devices : List DeviceInfo) (us : List Stored) (over : IsM
       octets : AllBelow 256 (take size (drop (j * size) bytes))
       octets = below_take 256 size (drop (j * size) bytes) (below_drop 256 (j * size) bytes (all_below 256 bytes are-bytes))
 
-      written : IsWrittenOn m size half u leg (Altered s devices us u leg) (λ c. named_on s devices c u (Write v n body app) i) (λ c. refl) (brought j) whole octets (right here).0 (free here) (shown here)
+      written : IsWrittenOn m size half u leg (Altered s devices us u leg) (Stopped s devices us u leg at-op) (λ c. named_on s devices c u (Write v n body app) i) (λ c. refl) (brought j) whole octets (right here).0 (free here) (shown here)
           (blocks_told left) (get_or found0 j None) (get_or found1 j None) (marks_of old.marks u)
       written =
-          written-on m size half u leg (Altered s devices us u leg) (λ c. named_on s devices c u (Write v n body app) i) (λ c. refl) (brought j) whole octets (right here).0 (free here) (shown here)
+          written-on m size half u leg (Altered s devices us u leg) (Stopped s devices us u leg at-op) (λ c. named_on s devices c u (Write v n body app) i) (λ c. refl) (brought j) whole octets (right here).0 (free here) (shown here)
           (blocks_told left) (get_or found0 j None) (get_or found1 j None) (marks_of old.marks u) wrote (off leg refl)
 
       its-mark : marks_of new.marks u ≡ marked (get_or found0 j None) (get_or found1 j None) (marks_of old.marks u)
@@ -279,10 +279,10 @@ module _ (s : Script) (devices : List DeviceInfo) (us : List Stored) (over : IsM
       last-is =
           (λ x. if here x && is_none (unlisted x) then brought j else e)
 
-      in-it : HasLeg s devices us u leg (written_then size u (Write v n body app) old.pool reply e) (blocks_told left) (marks_of new.marks u)
+      in-it : HasLeg s devices us u leg at-op (written_then size u (Write v n body app) old.pool reply e) (blocks_told left) (marks_of new.marks u)
       in-it =
-          subst (λ (x : Brought). HasLeg s devices us u leg x (blocks_told left) (marks_of new.marks u)) (sym last-is)
-          (subst (λ (k : Marks). HasLeg s devices us u leg (brought j) (blocks_told left) k) (sym its-mark) written.has)
+          subst (λ (x : Brought). HasLeg s devices us u leg at-op x (blocks_told left) (marks_of new.marks u)) (sym last-is)
+          (subst (λ (k : Marks). HasLeg s devices us u leg at-op (brought j) (blocks_told left) k) (sym its-mark) written.has)
 
     -- ---- where it hasn't
 
@@ -319,19 +319,19 @@ module _ (s : Script) (devices : List DeviceInfo) (us : List Stored) (over : IsM
       as-before =
           (λ x. if gone x && is_none (listed_in reply (u - v)) then record { body = take size (drop ((u - v) * size) bytes); app = app } else e)
 
-      out-of-it : HasLeg s devices us u leg (written_then size u (Write v n body app) old.pool reply e) (blocks_told left) (marks_of new.marks u)
+      out-of-it : HasLeg s devices us u leg at-op (written_then size u (Write v n body app) old.pool reply e) (blocks_told left) (marks_of new.marks u)
       out-of-it =
-          subst (λ (x : Brought). HasLeg s devices us u leg x (blocks_told left) (marks_of new.marks u)) (sym as-before)
-          (subst (λ (k : Marks). HasLeg s devices us u leg e (blocks_told left) k) (sym out-mark) (has-still m size half u leg (Altered s devices us u leg) e (blocks_told now) (blocks_told left) (marks_of old.marks u) both-stay has))
+          subst (λ (x : Brought). HasLeg s devices us u leg at-op x (blocks_told left) (marks_of new.marks u)) (sym as-before)
+          (subst (λ (k : Marks). HasLeg s devices us u leg at-op e (blocks_told left) k) (sym out-mark) (has-still m size half u leg (Altered s devices us u leg) (Stopped s devices us u leg at-op) e (blocks_told now) (blocks_told left) (marks_of old.marks u) both-stay has))
 
-    pub after-both : HasLeg s devices us u leg (written_then size u (Write v n body app) old.pool reply e) (blocks_told left) (marks_of new.marks u)
+    pub after-both : HasLeg s devices us u leg at-op (written_then size u (Write v n body app) old.pool reply e) (blocks_told left) (marks_of new.marks u)
     after-both = by (has_block v n u) refl where
-      by : (c : Bool) → has_block v n u ≡ c → HasLeg s devices us u leg (written_then size u (Write v n body app) old.pool reply e) (blocks_told left) (marks_of new.marks u)
+      by : (c : Bool) → has_block v n u ≡ c → HasLeg s devices us u leg at-op (written_then size u (Write v n body app) old.pool reply e) (blocks_told left) (marks_of new.marks u)
       by true q = in-it q
       by false q = out-of-it q
 
   pub kept-write : (new : Sides) (runs : List LegRun) (reply : Reply) (left : List Stored) → WroteBy s half i v n app (bytes_in old.pool body 0 (total body)) old.marks new.marks runs reply → AllFallen t now runs left
-      → fails_on_leg (place_on s devices leg u) runs ≡ false → Kept s devices us u leg old new left (Write v n body app) reply e
+      → fails_on_leg (place_on s devices leg u) runs ≡ false → Kept s devices us u leg at-op old new left (Write v n body app) reply e
   kept-write new runs reply left w all fine =
       let fallen = subst (λ (rs : List LegRun). AllFallen t now rs left) w.runs_are all in
       let mid = fallen.0 in
@@ -344,6 +344,8 @@ module _ (s : Script) (devices : List DeviceInfo) (us : List Stored) (over : IsM
       record {
         shapes = last.shapes;
         counted = long-marks w.on0 w.on1 mid left w.own0 w.own1 l0 last w.octets none new w.marks reply w.reply_is;
-        has = after-both w.on0 w.on1 mid left w.own0 w.own1 l0 last w.octets none new w.marks reply w.reply_is;
+        has =
+            has-later s devices us u leg at-op (written_then size u (Write v n body app) old.pool reply e) (blocks_told left) (marks_of new.marks u)
+            (after-both w.on0 w.on1 mid left w.own0 w.own1 l0 last w.octets none new w.marks reply w.reply_is);
         reads = tt;
       }

@@ -1,13 +1,18 @@
 -- A block of a mirror with a leg on which nothing alters it and no request fails for it at the medium: what is asked of it, and what is said of it.
-use Rattle.std.specs.Prelude.{ℕ, ◌≡◌, ◌+◌, ◌-◌, ◌*◌, ◌<◌, Bool, true, false, eqb, is_none, nat_le, nat_lt, not, ◌&&◌, ◌||◌, if◌then◌else◌, List, [], ◌∷◌, drop, get_or, length, take, None}
+use Rattle.std.specs.Prelude.{ℕ, ◌≡◌, ◌+◌, ◌-◌, ◌*◌, ◌<◌, ◌≤◌, ◌⊎◌, Bool, true, false, eqb, is_none, is_some, nat_le, nat_lt, not, ◌&&◌, ◌||◌, if◌then◌else◌, List, [], ◌∷◌, drop, get_or, length, take, None, Some}
 use Rattle.std.specs.List.{list_any}
+use Rattle.pi_guard.specs.Guards.{crc}
+use Rattle.pi_tuple.specs.Tuples.{ref_tag}
 use Rattle.pi_tuple.specs.declared.checks.PiType.TheVariants.{One}
 use Rattle.fault_schedule.specs.declared.fault.Crossing.{Crossing}
 use Rattle.fault_schedule.specs.declared.fault.Crossing.TheVariants.{MediumToTarget, TargetToMedium}
 use Rattle.page_pool.specs.declared.segs.Seg.{Seg}
 use Rattle.page_pool.specs.Pages.{Wrote, bytes_in}
 use Rattle.page_pool.specs.Places.{range_of, total}
+use Rattle.rig_api.specs.Frames.{frame_of}
+use Rattle.rig_api.specs.State.{RigState}
 use Rattle.rig_api.specs.Target.{Stored}
+use Rattle.rig_api.specs.declared.change.Change.{Change}
 use Rattle.dix_adapter.specs.Ways.{blocks_told}
 use Rattle.block_path.specs.Senses.{is_medium_why}
 use Rattle.stack_ops.specs.Ops.{first_virt}
@@ -18,7 +23,8 @@ use Rattle.stack_ops.specs.declared.reply.Reply.{Reply}
 use Rattle.stack_ops.specs.declared.reply.Reply.TheVariants.{Bad, Medium, Shown, Silent, Whole}
 use Rattle.volume_table.specs.declared.device.DeviceInfo.{DeviceInfo}
 use Rattle.volume_table.specs.Places.{place_in}
-use Rattle.walk_laws.specs.FirstLayer.{has_flip}
+use Rattle.walk_laws.specs.Detectable.{found}
+use Rattle.walk_laws.specs.FirstLayer.{AtTarget, has_flip}
 use Rattle.walk_laws.specs.Past.{Brought, brought_by}
 use Rattle.walk_laws.specs.PlainMap.{as_expected}
 use Rattle.walk_laws.specs.ReadsAs.{listed_in}
@@ -26,7 +32,7 @@ use Rattle.walk_laws.specs.Settings.{Block}
 use Rattle.walk_laws.specs.UnderMap.{IsClean, address_of, home}
 use Rattle.script_text.specs.declared.script.Script.{Script}
 use Rattle.run_premises.specs.Forms.{is_shown, kind_at, mask_of}
-use Rattle.mirror_laws.specs.Mirror.{blocks_in}
+use Rattle.mirror_laws.specs.Mirror.{blocks_in, marks_of}
 use Rattle.mirror_laws.specs.OneGood.{HoldsProper, on_leg}
 use Rattle.mirror_volume.specs.LegsPassed.{table_of}
 use Rattle.mirror_volume.specs.LegRuns.{LegRun, replies_of}
@@ -71,19 +77,22 @@ named_on s devices leg u op number = record { op = number; k = on_leg leg (u - f
 abbrev pub has_block : (v n u : ℕ) → Bool
 has_block v n u = nat_le v u && nat_lt u (v + n)
 
--- A write of block u has the expected application tag, which is no escape; an overwrite is of another stored block than those of u.
-abbrev pub LeavesRight : Script → List DeviceInfo → (us : List Stored) → (u : ℕ) → Op → Type 0
-LeavesRight s devices us u (Fill seg byte) = Unit {0}
-LeavesRight s devices us u (Put page off bytes) = Unit {0}
-LeavesRight s devices us u (Show seg) = Unit {0}
-LeavesRight s devices us u (Seal n body tuples app rtag) = Unit {0}
-LeavesRight s devices us u (Write v n body app) = has_block v n u ≡ true → (as_expected (mirror_setting s devices us) app ≡ true) × (eqb app 0xFFFF ≡ false)
-LeavesRight s devices us u (Fetch v n body) = Unit {0}
-LeavesRight s devices us u (WritePi v n body tuples) = Unit {0}
-LeavesRight s devices us u (FetchPi v n body tuples) = Unit {0}
-LeavesRight s devices us u (Overwrite dev lba change) =
-    (leg : Bool) → dev ≡ (place_in (table_of s devices).entries (place_on s devices leg u)).0 → lba ≡ (place_in (table_of s devices).entries (place_on s devices leg u)).1 → ⊥
-LeavesRight s devices us u Wait = Unit {0}
+-- The stored block of u on a leg has this address.
+abbrev pub HasAddress : Script → List DeviceInfo → (leg : Bool) → (u dev lba : ℕ) → Type 0
+HasAddress s devices leg u dev lba = (dev ≡ (place_in (table_of s devices).entries (place_on s devices leg u)).0) × (lba ≡ (place_in (table_of s devices).entries (place_on s devices leg u)).1)
+
+-- A write of block u has the expected application tag, which is no escape; an overwrite is of another stored block than that of u on this leg.
+abbrev pub LeavesRight : Script → List DeviceInfo → (us : List Stored) → (u : ℕ) → (leg : Bool) → Op → Type 0
+LeavesRight s devices us u leg (Fill seg byte) = Unit {0}
+LeavesRight s devices us u leg (Put page off bytes) = Unit {0}
+LeavesRight s devices us u leg (Show seg) = Unit {0}
+LeavesRight s devices us u leg (Seal n body tuples app rtag) = Unit {0}
+LeavesRight s devices us u leg (Write v n body app) = has_block v n u ≡ true → (as_expected (mirror_setting s devices us) app ≡ true) × (eqb app 0xFFFF ≡ false)
+LeavesRight s devices us u leg (Fetch v n body) = Unit {0}
+LeavesRight s devices us u leg (WritePi v n body tuples) = Unit {0}
+LeavesRight s devices us u leg (FetchPi v n body tuples) = Unit {0}
+LeavesRight s devices us u leg (Overwrite dev lba change) = HasAddress s devices leg u dev lba → ⊥
+LeavesRight s devices us u leg Wait = Unit {0}
 
 -- Op k, from 0, is a request of block u, and a fault line alters the block at this crossing on this leg.
 pub record IsAltered (s : Script) (devices : List DeviceInfo) (us : List Stored) (leg : Bool) (u k : ℕ) (at : Crossing) : Type 0 where
@@ -95,8 +104,8 @@ pub record IsAltered (s : Script) (devices : List DeviceInfo) (us : List Stored)
 abbrev pub IsShownAt : Script → (at : Crossing) → Block → Type 0
 IsShownAt s at b = is_shown s.block (kind_at s.mode.kind at) (mask_of s.block s.faults at (record { op = b.op; k = b.k })) ≡ true
 
--- The volume is of type 1, and commands have protect field 001b. Block u is clean on both legs, with the same data and application tag. No op overwrites it there, and each write of it has the expected application tag, which is no escape.
--- No fault line alters it on this leg. On the other its lines are shown wherever they alter it, and none alters it on its way from the medium if one does on its way there.
+-- The volume is of type 1, and commands have protect field 001b. Block u is clean on both legs, with the same data and application tag, and each write of it has the expected application tag, which is no escape.
+-- On this leg no fault line alters it, and no op overwrites it. On the other its lines are shown wherever they alter it, and none alters it on its way from the medium if one does on its way there.
 pub record IsUnaltered (s : Script) (devices : List DeviceInfo) (us : List Stored) (u : ℕ) (leg : Bool) : Type 0 where
   pub ty : (table_of s devices).ty ≡ One
   pub protect : s.mode.protect ≡ 1
@@ -106,7 +115,24 @@ pub record IsUnaltered (s : Script) (devices : List DeviceInfo) (us : List Store
   pub unnamed : (k : ℕ) (at : Crossing) → IsAltered s devices us leg u k at → ⊥
   pub shown : (k : ℕ) (at : Crossing) → IsAltered s devices us (not leg) u k at → IsShownAt s at (named_on s devices (not leg) u (op_at s.ops k) (k + 1))
   pub apart : (j k : ℕ) → IsAltered s devices us (not leg) u j TargetToMedium → IsAltered s devices us (not leg) u k MediumToTarget → ⊥
-  pub right : (k : ℕ) → k < length s.ops → LeavesRight s devices us u (op_at s.ops k)
+  pub right : (k : ℕ) → k < length s.ops → LeavesRight s devices us u leg (op_at s.ops k)
+
+-- ---- an overwrite of it on the other leg
+
+-- the stored block of these data and this application tag: under their CRC, and the tag of the address
+abbrev pub frame_on : Script → List DeviceInfo → (us : List Stored) → (leg : Bool) → (u : ℕ) → Brought → List ℕ
+frame_on s devices us leg u e = frame_of e.body (record { guard = crc e.body; app = e.app; rtag = ref_tag (address_of (mirror_setting s devices us) (place_on s devices leg u)) })
+
+-- The target's check finds this stored block bad in each request of block u on a leg, from op k on, counted from 0: as it arrives there it has a wrong guard or reference tag, and is no escape.
+abbrev pub IsFoundFrom : Script → List DeviceInfo → (us : List Stored) → (leg : Bool) → (u k : ℕ) → (stored : List ℕ) → Type 0
+IsFoundFrom s devices us leg u k stored = (j : ℕ) → k ≤ j → j < length s.ops → has_block (first_virt (op_at s.ops j)) (blocks_in (op_at s.ops j)) u ≡ true
+    → is_some (found (mirror_setting s devices us) (named_on s devices leg u (op_at s.ops j) (j + 1)) stored AtTarget) ≡ true
+
+-- If op k overwrites block u on a leg, made or failed, and that leg is fresh, what stands there behind it is the block as it was last written, or the target's check finds it bad.
+abbrev pub IsShownOverwrite : Script → List DeviceInfo → (us : List Stored) → (leg : Bool) → (u k : ℕ) → Op → (now : Sides) → (after : RigState) → Brought → Type 0
+IsShownOverwrite s devices us leg u k op now after e = (dev lba : ℕ) (change : Change) (left : List Stored) → op ≡ Overwrite dev lba change → HasAddress s devices leg u dev lba
+    → on_leg leg (marks_of now.marks u).leg0 (marks_of now.marks u).leg1 ≡ true → after.units ≡ Some left
+    → (stored_on s devices us left leg u ≡ frame_on s devices us leg u e) ⊎ IsFoundFrom s devices us leg u (k + 1) (stored_on s devices us left leg u)
 
 -- ---- what is said of it
 
