@@ -1,4 +1,5 @@
 pub mod Aparts
+pub mod Bitmaps
 pub mod Checks
 pub mod Copies
 pub mod Feeds

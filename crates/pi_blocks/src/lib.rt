@@ -44,5 +44,5 @@ pub use seen::Seen;
 pub use sensing::SenseFields;
 pub use single::{TupleFields, check};
 pub use spread::verify_spread;
-pub use stripping::strip;
+pub use stripping::{strip, strip_all};
 pub use texts::{check_name, found_text, write_ended};

@@ -1,5 +1,5 @@
-use Rattle.std.proofs.Common.{rules, ◌≡◌, ◌+◌, ◌-◌, ◌≤◌, ◌∙◌, length, drop, ap, sym, arith}
-use Rattle.std.proofs.lemmas.List.{drop-drop, length-drop}
+use Rattle.std.proofs.Common.{rules, ◌≡◌, ◌+◌, ◌-◌, ◌≤◌, ◌∙◌, length, drop, ap, arith}
+use Rattle.std.proofs.lemmas.List.{drop-drop}
 use Rattle.pi_blocks.specs.Parts.{left_of}
 use Rattle.pi_blocks.proofs.Copies.{copied_on, part-length}
 use Rattle.pi_blocks.proofs.parts.copy_next.Goals as goal

@@ -1,5 +1,4 @@
-use Rattle.std.proofs.Common.{rules, ◌≡◌, ◌+◌, ◌≤◌, ◌∙◌, drop, ap, arith}
-use Rattle.pi_blocks.specs.Layouts.{covered_of, stride_of}
+use Rattle.std.proofs.Common.{rules, ◌+◌, ◌≤◌, ◌∙◌, drop, ap, arith}
 use Rattle.pi_blocks.specs.Parts.{left_of}
 use Rattle.pi_blocks.proofs.Spreads.{behind_tuple, looked_spread, next_block_left, rest_is_there}
 use Rattle.pi_blocks.proofs.spread.look.Goals as goal
