@@ -1,7 +1,10 @@
 pub mod Aparts
+pub mod Bitmaps
 pub mod Checks
+pub mod Copies
 pub mod Feeds
 pub mod Forms
+pub mod Inserts
 pub mod MadeLaws
 pub mod Makes
 pub mod MapLaws
@@ -9,5 +12,6 @@ pub mod Maps
 pub mod Puts
 pub mod Sameness
 pub mod Seeing
+pub mod Spreads
 pub mod StayLaws
 pub mod Tuples

@@ -114,7 +114,7 @@ all_put-stands place piece (suc n) i bytes h lt =
     ]
 
 -- what stands there already may be put
-put_same : (at width : ℕ) (bytes : List ℕ) (piece : List ℕ) → piece ≡ take width (drop at bytes) → length piece ≡ width → put_at at piece bytes ≡ bytes
+pub put_same : (at width : ℕ) (bytes : List ℕ) (piece : List ℕ) → piece ≡ take width (drop at bytes) → length piece ≡ width → put_at at piece bytes ≡ bytes
 put_same at width bytes piece e long =
     put_is_part at width piece bytes long ∙ (ap (λ (p : List ℕ). take at bytes ++ (p ++ drop width (drop at bytes))) e ∙ (ap (λ (rest : List ℕ). take at bytes ++ rest) (take-append-drop width (drop at bytes)) ∙ take-append-drop at bytes))
 

@@ -1,6 +1,7 @@
 pub mod Apart
 pub mod Blocks
 pub mod Commands
+pub mod Inserted
 pub mod Laws
 pub mod Layouts
 pub mod Made
@@ -13,4 +14,6 @@ pub mod Same
 pub mod Seen
 pub mod Senses
 pub mod Single
+pub mod Spread
+pub mod Stripped
 pub mod Texts

@@ -16,8 +16,8 @@ use crate::parts::{Place, front, guard_of_next, skip};
 use crate::{Found, Layout, Part, Refusal, Unchecked, Want};
 use pi_tuple::{Tuple, own_tag};
 
-// Whether the parts have so many bytes. They may be more than an address space has, as parts may share memory.
-fn have_length(parts: &[Part], wanted: u128) -> bool
+/// Whether the parts have so many bytes. They may be more than an address space has, as parts may share memory.
+pub(crate) fn have_length(parts: &[Part], wanted: u128) -> bool
     ensures { IsTrue result ↔ (length (all_parts parts.now) ≡ wanted) }
 {
     let mut left = wanted;

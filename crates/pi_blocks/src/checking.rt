@@ -7,8 +7,8 @@ ghost use Rattle.pi_blocks.specs.Layouts.{AreBlocks, NotChecked, Refused, are_fl
 use crate::block::{compare, tuple_at};
 use crate::{Found, Layout, Unchecked, Want};
 
-// What block i is found to differ in.
-fn look(blocks: &[u8], layout: Layout, want: Want, i: usize) -> Option<Found>
+/// What block i is found to differ in.
+pub(crate) fn look(blocks: &[u8], layout: Layout, want: Want, i: usize) -> Option<Found>
     requires good { is_good layout ≡ true }
     requires inside { i * stride_of layout + stride_of layout ≤ length blocks.now }
     ensures found { result ≡ looked layout want (in_line layout blocks.now) i }

@@ -9,6 +9,7 @@ mod apart;
 mod block;
 mod checking;
 mod commands;
+mod inserting;
 mod laws;
 mod layout;
 mod making;
@@ -19,12 +20,15 @@ mod run;
 mod seen;
 mod sensing;
 mod single;
+mod spread;
+mod stripping;
 mod texts;
 
 pub use apart::{dix_generate, dix_verify};
 pub use block::{Found, Want};
 pub use checking::verify;
 pub use commands::CdbFields;
+pub use inserting::insert;
 pub use laws::{
     a_check_has_one_answer, a_described_sense_is_found, a_written_sense_is_found,
     commands_that_are_read_are_written, made_blocks_are_fine, making_writes_tuples_alone,
@@ -39,4 +43,6 @@ pub use run::Run;
 pub use seen::Seen;
 pub use sensing::SenseFields;
 pub use single::{TupleFields, check};
+pub use spread::verify_spread;
+pub use stripping::{strip, strip_all};
 pub use texts::{check_name, found_text, write_ended};

@@ -114,6 +114,22 @@ fn feed(parts: &[Part], place: &mut Place, run: &mut GuardRun, count: usize)
     }
 }
 
+/// Copies the next bytes of the parts, as many as there is room for.
+pub(crate) fn copy_next(parts: &[Part], place: &mut Place, out: &mut [u8])
+    requires inside { IsIn parts.now place.old }
+    requires enough { length out.old ≤ length (left_of parts.now place.old) }
+    ensures copied { out.new ≡ take (length out.old) (left_of parts.now place.old) }
+    ensures inside { IsIn parts.now place.new }
+    ensures left { left_of parts.now place.new ≡ drop (length out.old) (left_of parts.now place.old) }
+{
+    let mut done = 0;
+    while done < out.len() {
+        let bytes = take_part(parts, place, out.len() - done);
+        out[done..done + bytes.len()].copy_from_slice(bytes);
+        done += bytes.len();
+    }
+}
+
 /// Goes past so many bytes, which may be more than an address space has, as parts may share memory.
 pub(crate) fn skip(parts: &[Part], place: &mut Place, count: u128)
     requires inside { IsIn parts.now place.old }
