@@ -7,9 +7,9 @@ ghost use Rattle.pi_guard.specs.Register.{register};
 use crate::narrow::Bytes64;
 use crate::{broad, halves, narrow, quarters, slicing, wide};
 
-// From how many bytes on a part goes by vectors of thirty-two. Built for x86-64-v2, which has them as two of
-// sixteen, they gain from about this many on.
-const BROAD_FROM: usize = 2_048;
+// From how many bytes on a part goes by vectors of 32 bytes. For x86-64-v2, which has them as two of sixteen, that is
+// where they are nowhere slower; lib/build-both proves and builds x86-64-v3 with 512, the fewest that they take.
+const BROAD_FROM: usize = 4_096;
 
 /// The register after these bytes.
 #[inline(always)]
