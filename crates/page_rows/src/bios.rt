@@ -8,7 +8,7 @@ use crate::scene::Scene;
 use bio_core::{Bio, Io};
 use integrity_payload::Payload;
 use std::alloc::{AllocError, Global};
-use test_pages::is_payload;
+use test_groups::is_payload;
 use test_table::Words;
 
 /// Whether the request has tuples for each of its blocks, or none.

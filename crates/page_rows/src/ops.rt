@@ -10,7 +10,7 @@ use range_gate::Footprint;
 use rig_api::Change;
 use stack_ops::{Op, footprint_of};
 use std::alloc::{AllocError, Global};
-use test_pages::list_of;
+use test_groups::list_of;
 use test_table::Words;
 
 /// Where an op has its 512 bytes of data on page 0, its tuple on page 1, and its virtual block.

@@ -8,7 +8,7 @@ use crate::kinds::seg_of;
 use crate::scene::Scene;
 use page_pool::{PagePool, Seg, SgList, a_range_is_of_its_list};
 use std::alloc::{AllocError, Global};
-use test_pages::{all_lie, lies, none_twice};
+use test_groups::{all_lie, lies, none_twice};
 use test_table::{Words, hex_of};
 
 /// Whether the list lies in the pool and has so many bytes from this one on.

@@ -7,7 +7,7 @@ use bio_core::{Bio, Dir, Io};
 use integrity_payload::{Owner, Payload};
 use page_pool::{PagePool, SgList};
 use std::alloc::{AllocError, Global};
-use test_pages::list_of;
+use test_groups::list_of;
 use test_table::{Words, bytes_of, cut, small, tag_of};
 
 /// The pool, a request whose data and tuples may lie in it, and a bio of it.

@@ -13,7 +13,7 @@ use page_pool::{PagePool, SgList};
 use pi_tuple::{Check, Tuple};
 use ref_remap::{map_back, map_out};
 use std::alloc::{AllocError, Global};
-use test_pages::{all_lie, are_apart, is_payload, none_twice};
+use test_groups::{all_lie, are_apart, is_payload, none_twice};
 use test_table::{Words, array_of, hex_of, tag_of};
 
 /// Whether the payload's tuples lie in the pool.

@@ -7,18 +7,20 @@ ghost use Rattle.bio_core.specs.declared.request.Dir.TheVariants.{Read};
 ghost use Rattle.dix_adapter.specs.Groups.{IsCarriedRequest};
 ghost use Rattle.dix_adapter.specs.Walking.{HasHost, IsOnce, TuplesOnce, Walkable, WalksTuples};
 
+use crate::bytes::all_lie;
+use crate::separate::none_twice;
+use crate::tuples;
 use bio_core::{Dir, Io};
 use dix_adapter::Adapter;
 use integrity_payload::Payload;
 use page_pool::PagePool;
-use test_pages::{all_lie, none_twice};
 
 fn is_payload(pool: &PagePool, count: u32, pi: &Payload) -> bool
     ensures payload { result ≡ true → IsPayload pi.now }
     ensures count { result ≡ true → pi.now.count ≡ count }
     ensures lies { result ≡ true → AllLieIn pool.now pi.now.tuples }
 {
-    pi.count == count && test_pages::is_payload(pi) && all_lie(pool, pi.tuples.as_slice())
+    pi.count == count && tuples::is_payload(pi) && all_lie(pool, pi.tuples.as_slice())
 }
 
 fn walks_tuples(pool: &PagePool, count: u32, pi: &Option<Payload>) -> bool

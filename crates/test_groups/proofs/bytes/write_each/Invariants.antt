@@ -2,7 +2,7 @@ use Rattle.std.proofs.Common.{◌≡◌, ◌≤◌, drop, length}
 use Rattle.std.specs.Prelude.{map}
 use Rattle.page_pool.specs.Cells.{cell, flat, scatter}
 use Rattle.page_pool.specs.Places.{places_in, total}
-use Rattle.test_pages.proofs.bytes.write_each.Given as goal
+use Rattle.test_groups.proofs.bytes.write_each.Given as goal
 
 abbrev pub invariant-loop-s : goal.invariant-loop-s
 invariant-loop-s l = record {

@@ -1,8 +1,8 @@
 use Rattle.std.proofs.Common.{◌≤◌, get_or, length, arith, ◌∙◌}
 use Rattle.page_pool.proofs.Placing.{all_lie-same}
-use Rattle.test_pages.proofs.Lists.{lie-at, no_seg, total-drop}
-use Rattle.test_pages.proofs.Writes.{wrote-more}
-use Rattle.test_pages.proofs.bytes.write_each.Goals as goal
+use Rattle.test_groups.proofs.SegLists.{lie-at, no_seg, total-drop}
+use Rattle.test_groups.proofs.Writes.{wrote-more}
+use Rattle.test_groups.proofs.bytes.write_each.Goals as goal
 
 pub write_part-requires-clause-lies : goal.write_part-requires-clause-lies
 write_part-requires-clause-lies c =

@@ -10,7 +10,7 @@ use Rattle.page_pool.specs.Walking.{AllStandIn}
 use Rattle.page_pool.proofs.Celled.{scatter-append, wrote-cells}
 use Rattle.page_pool.proofs.Placing.{length-run, segments_stand}
 use Rattle.std.proofs.lemmas.List.{append-nil}
-use Rattle.test_pages.proofs.Lists.{no_seg, places-drop}
+use Rattle.test_groups.proofs.SegLists.{no_seg, places-drop}
 
 segment-stands : (pool : List (List ℕ)) (s : Seg) → LiesIn pool s → AllStandIn (length pool) (places_of s)
 segment-stands pool s l = let P : List PageByte → Type 0 = AllStandIn (length pool) in subst P (append-nil (places_of s)) (segments_stand pool (s ∷ []) (l, tt))
