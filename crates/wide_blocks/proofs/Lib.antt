@@ -1,0 +1,4 @@
+mod Bits
+mod Checks
+mod Makes
+mod Moves
