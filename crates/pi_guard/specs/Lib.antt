@@ -1,5 +1,6 @@
 pub mod AfterZeros
 pub mod Broad
+pub mod Changes
 pub mod Guards
 pub mod Register
 pub mod Stands

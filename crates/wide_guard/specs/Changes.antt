@@ -1,12 +1,6 @@
-use Rattle.std.specs.Prelude.{ℕ, ◌≡◌, ◌≢◌, ◌+◌, ◌<◌, ◌≤◌, Bool, false, ◌⊎◌, List, All, length, slice_index_or}
+use Rattle.std.specs.Prelude.{ℕ, ◌≡◌, ◌+◌, ◌<◌, ◌≤◌, Bool, false, ◌⊎◌, List, slice_index_or}
+pub use Rattle.pi_guard.specs.Changes.{IsChange}
 use Rattle.wide_guard.specs.Reflected.{low_first}
-
--- Two messages of equally many bytes that are not the same.
-pub record IsChange (a b : List ℕ) : Type 0 where
-  pub bytes : All (λ x. x < 256) a
-  pub other_bytes : All (λ x. x < 256) b
-  pub as_long : length a ≡ length b
-  pub differ : a ≢ b
 
 -- the bit at this place of the bytes' bits: byte by byte, the lowest bit of a byte first
 abbrev pub bit_in : List ℕ → ℕ → Bool
