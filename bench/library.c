@@ -1,6 +1,7 @@
 /* Measures the library for callers in C beside the same loops over ISA-L's CRC and over a table of 256, in one run: the
-   check and the making of blocks, of 1 MiB again and again and through 64 MiB; tags exchanged, beside a plain loop; and
-   blocks whose data lie in parts of 4 KiB, beside one buffer. Times are the thread's. The ways are taken in turn in each
+   check and the making of blocks, and data copied to them and out of them, of 512 bytes to 1 MiB again and again and
+   through 64 MiB; tags exchanged, beside a plain loop; and blocks whose data lie in parts of 4 KiB, and blocks over such
+   parts, beside one buffer. Times are the thread's. The ways are taken in turn in each
    round; a figure is the median of the rounds, a ratio the median of the ratios in the rounds. */
 #define _DEFAULT_SOURCE
 #include <stdio.h>
@@ -148,6 +149,52 @@ static uint32_t apart_pieces(uint8_t *b, size_t len, const struct dixpi_layout *
     return status;
 }
 
+/* Data copied to blocks and out of them, in one pass: beside ISA-L's copy that makes the CRC, with the tuple. */
+static uint32_t insert_ours(uint8_t *b, size_t len, const struct dixpi_layout *l) {
+    struct iovec whole = {body, len / (l->data_size + l->meta_size) * l->data_size};
+    return dixpi_insert(&whole, 1, b, len, l, WANT.app, WANT.first_ref);
+}
+static __attribute__((noinline)) uint32_t insert_isal(uint8_t *b, size_t len, const struct dixpi_layout *l) {
+    const size_t data = l->data_size, stride = data + l->meta_size, count = len / stride;
+    for (size_t i = 0; i < count; i++) {
+        uint8_t *tuple = b + i * stride + data;
+        store16(tuple, crc16_t10dif_copy(0, b + i * stride, body + i * data, data));
+        store16(tuple + 2, WANT.app);
+        store32(tuple + 4, WANT.first_ref + (uint32_t)i);
+    }
+    return DIXPI_OK;
+}
+static uint32_t strip_ours(uint8_t *b, size_t len, const struct dixpi_layout *l) {
+    struct dixpi_found found;
+    return dixpi_strip(b, len, body, len / (l->data_size + l->meta_size) * l->data_size, l, &WANT, &found);
+}
+static uint32_t strip_all_ours(uint8_t *b, size_t len, const struct dixpi_layout *l) {
+    static uint8_t bad[64 * MIB / 512 / 8];
+    struct dixpi_found found;
+    return dixpi_strip_all(b, len, body, len / (l->data_size + l->meta_size) * l->data_size, bad, sizeof bad, l, &WANT,
+                           &found);
+}
+static __attribute__((noinline)) uint32_t strip_isal(uint8_t *b, size_t len, const struct dixpi_layout *l) {
+    const size_t data = l->data_size, stride = data + l->meta_size, count = len / stride;
+    for (size_t i = 0; i < count; i++) {
+        const uint8_t *tuple = b + i * stride + data;
+        if (load16(tuple) != crc16_t10dif_copy(0, body + i * data, b + i * stride, data) ||
+            load16(tuple + 2) != WANT.app || load32(tuple + 4) != WANT.first_ref + (uint32_t)i)
+            return DIXPI_DIFFERS;
+    }
+    return DIXPI_OK;
+}
+
+/* Blocks over parts of 4 KiB. */
+static uint32_t spread_pieces(uint8_t *b, size_t len, const struct dixpi_layout *l) {
+    static struct iovec over[64 * MIB / 4096 + 1];
+    struct dixpi_found found;
+    size_t parts = 0;
+    for (size_t at = 0; at < len; at += 4096)
+        over[parts++] = (struct iovec){b + at, len - at < 4096 ? len - at : 4096};
+    return dixpi_verifyv(over, parts, l, &WANT, 0, &found);
+}
+
 typedef uint32_t way(uint8_t *, size_t, const struct dixpi_layout *);
 static const struct {
     const char *name;
@@ -156,15 +203,21 @@ static const struct {
 } CALLS[] = {
     {"verify", {verify_ours, verify_isal, verify_table}, {"library", "ISA-L", "table"}},
     {"generate", {generate_ours, generate_isal, generate_table}, {"library", "ISA-L", "table"}},
+    {"insert", {insert_ours, insert_isal, NULL}, {"library", "ISA-L's copy", NULL}},
+    {"strip", {strip_ours, strip_isal, strip_all_ours}, {"library", "ISA-L's copy", "strip_all"}},
+    {"verifyv", {spread_pieces, verify_ours, NULL}, {"parts of 4 KiB", "one buffer", NULL}},
     {"remap, there and back", {remap_ours, remap_plain, NULL}, {"library", "plain loop", NULL}},
     {"dix_verify", {apart_pieces, apart_one, NULL}, {"parts of 4 KiB", "one buffer", NULL}},
 };
 enum { CALLED = sizeof CALLS / sizeof *CALLS };
 static const struct dixpi_layout LAYOUTS[] = {{512, 8, 0, 1, DIXPI_CRC}, {4096, 8, 0, 1, DIXPI_CRC}};
 
-/* Seconds of one call; at least 4 MiB are passed over. A call that isn't counted comes first. */
+static const size_t SIZES[] = {512, 4096, 65536, MIB, (size_t)64 * MIB};
+
+/* Seconds of one call; some 4 MiB at least are passed over, by a slow way fewer. A call that isn't counted comes first. */
 static double seconds(way *it, uint8_t *b, size_t len, const struct dixpi_layout *l, int is_slow) {
-    int times = is_slow || len > 4 * MIB ? 1 : (int)(4 * MIB / len);
+    size_t least = is_slow ? MIB / 4 : 4 * MIB;
+    int times = len > least ? 1 : (int)(least / len);
     if (it(b, len, l) != DIXPI_OK)
         exit(1);
     double start = spent();
@@ -182,7 +235,17 @@ static void split(const uint8_t *blocks, size_t len, const struct dixpi_layout *
     }
 }
 
-static void measured(int call, const struct dixpi_layout *l, uint8_t *blocks, size_t len, int rounds) {
+/* A figure of bytes, as 512, 4 K or 64 M. */
+static void print_size(size_t size) {
+    if (size < 1024)
+        printf(" %zu B |", size);
+    else if (size < MIB)
+        printf(" %zu KiB |", size / 1024);
+    else
+        printf(" %zu MiB |", size / MIB);
+}
+
+static void measured(int call, const struct dixpi_layout *l, uint8_t *blocks, size_t size, size_t len, int rounds) {
     int ways = CALLS[call].ways[2] ? 3 : 2;
     double *taken[WAYS], *ratios = malloc(sizeof(double) * (size_t)rounds);
     for (int w = 0; w < ways; w++)
@@ -190,9 +253,10 @@ static void measured(int call, const struct dixpi_layout *l, uint8_t *blocks, si
             exit(1);
     for (int round = 0; round < rounds; round++)
         for (int w = 0; w < ways; w++)
-            taken[w][round] = seconds(CALLS[call].ways[w], blocks, len, l, w == 2);
+            taken[w][round] = seconds(CALLS[call].ways[w], blocks, len, l, w == 2 && call < 2);
     size_t count = len / (l->data_size + l->meta_size);
-    printf("| %s, %u + %u, %zu MiB |", CALLS[call].name, (unsigned)l->data_size, (unsigned)l->meta_size, len / MIB + 1);
+    printf("| %s, %u + %u,", CALLS[call].name, (unsigned)l->data_size, (unsigned)l->meta_size);
+    print_size(size);
     char by[200] = "";
     for (int w = 1; w < ways; w++) {
         for (int round = 0; round < rounds; round++)
@@ -224,14 +288,18 @@ int main(int count, char **words) {
         pieces[i] = (struct iovec){body + i * 4096, 4096};
     make_tables();
     for (size_t k = 0; k < 2; k++)
-        for (int is_far = 0; is_far < 2; is_far++) {
+        for (size_t n = 0; n < sizeof SIZES / sizeof *SIZES; n++) {
             const struct dixpi_layout *l = &LAYOUTS[k];
-            size_t stride = l->data_size + l->meta_size, len = (is_far ? most : MIB) / stride * stride;
+            size_t stride = l->data_size + l->meta_size, len = SIZES[n] / stride * stride;
+            if (SIZES[n] < l->data_size)
+                continue;
+            if (len == 0)
+                len = stride;
             if (generate_ours(blocks, len, l) || verify_isal(blocks, len, l) || verify_table(blocks, len, l))
                 return 1;
             split(blocks, len, l);
             for (int call = 0; call < CALLED; call++)
-                measured(call, l, blocks, len, is_far ? rounds / 4 + 1 : rounds);
+                measured(call, l, blocks, SIZES[n], len, SIZES[n] == most ? rounds / 4 + 1 : rounds);
         }
     return 0;
 }

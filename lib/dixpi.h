@@ -119,6 +119,27 @@ DIXPI_STATUS dixpi_dix_verify_from(const struct iovec *data, size_t count, const
                                    const struct dixpi_layout *layout, const struct dixpi_want *want, uint64_t start,
                                    struct dixpi_found *found);
 
+/* Data copied to blocks with their metadata behind each, and out of them: block by block, while it is in the cache. As
+   many data as the blocks hold. */
+
+/* Makes blocks of data, which may lie in parts that end anywhere: each takes its data, and gets its tuple as
+   dixpi_generate makes it. The rest of its metadata stays, and what stands before the tuple is guarded too. */
+DIXPI_STATUS dixpi_insert(const struct iovec *data, size_t count, uint8_t *blocks, size_t len,
+                          const struct dixpi_layout *layout, uint16_t app, uint32_t first_ref);
+/* Checks blocks as dixpi_verify does and copies their data out, up to the first that differs. Of data the places of that
+   block and of those behind it stay. */
+DIXPI_STATUS dixpi_strip(const uint8_t *blocks, size_t len, uint8_t *data, size_t data_len,
+                         const struct dixpi_layout *layout, const struct dixpi_want *want, struct dixpi_found *found);
+/* The same to the last block: of data the places of blocks that differ stay. Bit i % 8 of bad[i / 8] is 1 where block i
+   differs, else 0, and 0 where there is no block i; bytes of bad behind the last one that is needed stay. *found has the
+   first. DIXPI_BAD_LENGTH also where bad has fewer bits than there are blocks. */
+DIXPI_STATUS dixpi_strip_all(const uint8_t *blocks, size_t len, uint8_t *data, size_t data_len, uint8_t *bad,
+                             size_t bad_len, const struct dixpi_layout *layout, const struct dixpi_want *want,
+                             struct dixpi_found *found);
+/* dixpi_verify_from of blocks that lie over parts: a block may begin in one and end in another. */
+DIXPI_STATUS dixpi_verifyv(const struct iovec *blocks, size_t count, const struct dixpi_layout *layout,
+                           const struct dixpi_want *want, uint64_t start, struct dixpi_found *found);
+
 /* Command descriptor blocks (SBC-3, 5.11 to 5.35). */
 enum dixpi_op {
     DIXPI_READ_10 = 0x28,

@@ -373,6 +373,132 @@ static void apart(const struct dixpi_layout *l, struct dixpi_want w) {
     IS(are_same);
 }
 
+/* The byte at this place of parts. */
+static uint8_t *byte_of(const struct iovec *parts, size_t at) {
+    while (at >= parts->iov_len)
+        at -= parts++->iov_len;
+    return (uint8_t *)parts->iov_base + at;
+}
+
+/* What strip leaves: data of blocks that differ in nothing, up to the first that does or of all, and a bit for each. */
+static uint32_t stripped(const uint8_t *blocks, size_t n, uint8_t *data, uint8_t *bad, const struct dixpi_layout *l,
+                         const struct dixpi_want *w, struct dixpi_found *found) {
+    size_t stride = l->data_size + l->meta_size;
+    uint32_t answer = DIXPI_OK;
+    if (!are_flags(w->checks))
+        return DIXPI_BAD_FIELD;
+    if (bad)
+        memset(bad, 0, (n + 7) / 8);
+    for (size_t i = 0; i < n; i++) {
+        struct dixpi_found one;
+        if (!verified(blocks, i, i + 1, l, w, &one)) {
+            memcpy(data + i * l->data_size, blocks + i * stride, l->data_size);
+            continue;
+        }
+        if (!answer)
+            *found = one;
+        answer = DIXPI_DIFFERS;
+        if (!bad)
+            break;
+        bad[i / 8] = (uint8_t)(bad[i / 8] | 1 << i % 8);
+    }
+    return answer;
+}
+
+/* Both forms of strip leave what the loop leaves, of the first n blocks. */
+static void strips(const uint8_t *blocks, size_t n, const struct dixpi_layout *l, const struct dixpi_want *w) {
+    static uint8_t by_hand[N * 4096], whole[N * 4096];
+    size_t len = n * (l->data_size + l->meta_size), data_len = n * l->data_size;
+    uint8_t *data = whole + sizeof whole - data_len;
+    uint8_t bad[5] = {0xA5, 0xA5, 0xA5, 0xA5, 0xA5}, bits[5] = {0xA5, 0xA5, 0xA5, 0xA5, 0xA5};
+    struct dixpi_found found = NOTHING, wanted = NOTHING;
+    memset(by_hand, 0x5A, data_len);
+    memset(data, 0x5A, data_len);
+    IS(dixpi_strip(blocks, len, data, data_len, l, w, &found) == stripped(blocks, n, by_hand, NULL, l, w, &wanted));
+    IS(!memcmp(data, by_hand, data_len) && same(found, wanted));
+    found = wanted = NOTHING;
+    memset(by_hand, 0x5A, data_len);
+    memset(data, 0x5A, data_len);
+    IS(dixpi_strip_all(blocks, len, data, data_len, bad, 5, l, w, &found) ==
+       stripped(blocks, n, by_hand, bits, l, w, &wanted));
+    IS(!memcmp(data, by_hand, data_len) && !memcmp(bad, bits, 5) && same(found, wanted));
+}
+
+static void move_refusals(uint8_t *blocks, const struct iovec *parts, size_t count, const struct dixpi_layout *l) {
+    static uint8_t before[N * MOST], data[N * 4096], kept[N * 4096];
+    size_t stride = l->data_size + l->meta_size, len = N * stride, data_len = (size_t)N * l->data_size;
+    struct dixpi_want w = {0, 0, 0, DIXPI_CHECK_ALL}, none = {0, 0, 0, 0};
+    struct dixpi_layout bad = *l;
+    struct dixpi_found f = NOTHING;
+    struct iovec one = {blocks, len - 1}, nothing[2] = {{NULL, 0}, {NULL, 0}};
+    uint8_t bits[N / 8] = {7, 7, 7};
+    bad.type = 4;
+    memcpy(before, blocks, len);
+    memset(data, 0x5A, data_len);
+    memcpy(kept, data, data_len);
+    IS(dixpi_insert(parts, count, blocks, len, &bad, 1, 2) == DIXPI_BAD_LAYOUT);
+    IS(dixpi_insert(parts, count, blocks, len - 1, l, 1, 2) == DIXPI_BAD_LENGTH);
+    IS(!data_len || dixpi_insert(parts, count, blocks, len - stride, l, 1, 2) == DIXPI_BAD_LENGTH);
+    IS(!data_len || dixpi_insert(nothing, 2, blocks, len, l, 1, 2) == DIXPI_BAD_LENGTH);
+    IS(dixpi_strip(blocks, len, data, data_len, &bad, &w, &f) == DIXPI_BAD_LAYOUT);
+    IS(dixpi_strip(blocks, len - 1, data, data_len, l, &w, &f) == DIXPI_BAD_LENGTH);
+    IS(dixpi_strip(blocks, len, data, data_len + 1, l, &w, &f) == DIXPI_BAD_LENGTH);
+    IS(!data_len || dixpi_strip(blocks, len, data, data_len - 1, l, &w, &f) == DIXPI_BAD_LENGTH);
+    IS(dixpi_strip(blocks, len, data, data_len, l, &none, &f) == DIXPI_BAD_FIELD);
+    IS(dixpi_strip_all(blocks, len, data, data_len, bits, N / 8, &bad, &w, &f) == DIXPI_BAD_LAYOUT);
+    IS(dixpi_strip_all(blocks, len, data, data_len, bits, N / 8 - 1, l, &w, &f) == DIXPI_BAD_LENGTH);
+    IS(dixpi_strip_all(blocks, len, data, data_len + 1, bits, N / 8, l, &w, &f) == DIXPI_BAD_LENGTH);
+    IS(dixpi_strip_all(blocks, len, data, data_len, bits, N / 8, l, &none, &f) == DIXPI_BAD_FIELD);
+    IS(dixpi_verifyv(&one, 1, l, &w, 0, &f) == DIXPI_BAD_LENGTH);
+    one.iov_len = len;
+    IS(dixpi_verifyv(&one, 1, &bad, &w, 0, &f) == DIXPI_BAD_LAYOUT);
+    IS(dixpi_verifyv(&one, 1, l, &none, 0, &f) == DIXPI_BAD_FIELD);
+    IS(!memcmp(before, blocks, len) && !memcmp(kept, data, data_len) && bits[0] == 7 && bits[1] == 7 && bits[2] == 7);
+    IS(dixpi_insert(NULL, 0, NULL, 0, l, 1, 2) == DIXPI_OK && dixpi_insert(nothing, 2, NULL, 0, l, 1, 2) == DIXPI_OK);
+    IS(dixpi_strip(NULL, 0, NULL, 0, l, &w, &f) == DIXPI_OK);
+    IS(dixpi_strip_all(NULL, 0, NULL, 0, NULL, 0, l, &w, &f) == DIXPI_OK);
+    IS(dixpi_verifyv(NULL, 0, l, &w, 0, &f) == DIXPI_OK && dixpi_verifyv(nothing, 2, l, &w, 9, &f) == DIXPI_OK);
+    IS(same(f, NOTHING));
+}
+
+/* Data in parts become blocks, and blocks in parts and in one piece become data again. */
+static void moves(const struct dixpi_layout *l, struct dixpi_want w) {
+    static uint8_t data[N * 4096], by_hand[N * MOST];
+    size_t stride = l->data_size + l->meta_size, len = N * stride, data_len = (size_t)N * l->data_size;
+    uint8_t *blocks = fenced(len);
+    struct iovec parts[40], pieces[40];
+    fill(data, data_len);
+    fill(blocks, len);
+    memcpy(by_hand, blocks, len);
+    for (size_t i = 0; i < N; i++)
+        memcpy(by_hand + i * stride, data + i * l->data_size, l->data_size);
+    generated(by_hand, N, l, w.app, w.first_ref);
+    size_t count = cut(data, data_len, parts, 40);
+    IS(dixpi_insert(parts, count, blocks, len, l, w.app, w.first_ref) == DIXPI_OK);
+    IS(!memcmp(blocks, by_hand, len));
+    move_refusals(blocks, parts, count, l);
+    strips(blocks, N, l, &w);
+    count = cut(blocks, len, pieces, 40);
+    struct dixpi_found found = NOTHING, wanted = NOTHING;
+    IS(dixpi_verifyv(pieces, count, l, &w, 0, &found) == DIXPI_OK && same(found, NOTHING));
+    for (size_t k = 0; k < 60; k++) {
+        size_t at = drawn() % len, start = drawn() % (N + 2);
+        uint8_t flip = (uint8_t)(1 << drawn() % 8);
+        blocks[at] ^= flip;
+        *byte_of(pieces, at) ^= flip;
+        w.mask = (uint16_t)drawn();
+        w.checks = drawn() % 16;
+        found = wanted = NOTHING;
+        IS(dixpi_verifyv(pieces, count, l, &w, start, &found) == verified(blocks, start, N, l, &w, &wanted));
+        IS(same(found, wanted));
+        strips(blocks, drawn() % (N + 1), l, &w);
+        if (k % 3 == 0)
+            continue;
+        blocks[at] ^= flip;
+        *byte_of(pieces, at) ^= flip;
+    }
+}
+
 /* Parts of no bytes, which have no address, stand anywhere among others. */
 static void empty_parts(void) {
     struct iovec none = {NULL, 0};
@@ -449,6 +575,7 @@ static void blocks_in_line(struct dixpi_layout l) {
         refusals(blocks, &l);
         generates(&l, w.app, first);
         apart(&l, w);
+        moves(&l, w);
     }
 }
 

@@ -80,6 +80,12 @@ TYPES = {
     "dix_verify_from": (
         c_uint32, parts_at, c_size_t, c_void_p, c_size_t, layout_at, want_at, c_uint64, found_at,
     ),
+    "insert": (c_uint32, parts_at, c_size_t, c_void_p, c_size_t, layout_at, c_uint16, c_uint32),
+    "strip": (c_uint32, c_void_p, c_size_t, c_void_p, c_size_t, layout_at, want_at, found_at),
+    "strip_all": (
+        c_uint32, c_void_p, c_size_t, c_void_p, c_size_t, c_void_p, c_size_t, layout_at, want_at, found_at,
+    ),
+    "verifyv": (c_uint32, parts_at, c_size_t, layout_at, want_at, c_uint64, found_at),
     "cdb_encode": (c_uint32, cdb_at, c_void_p, number_at),
     "cdb_decode": (c_uint32, c_void_p, c_size_t, cdb_at),
     "cdb_len": (c_uint32, c_void_p, c_size_t),
@@ -187,6 +193,30 @@ holds("dix_verify, a block differs", dixpi.dixpi_dix_verify(pieces, 4, meta, 48,
 holds("found apart", tell(found) == (4, 8, 2, 3))
 holds("dix_verify_from", dixpi.dixpi_dix_verify_from(pieces, 4, meta, 48, layout, want, 5, found) == 0)
 holds("dix_verify, other counts", dixpi.dixpi_dix_verify(pieces, 3, meta, 48, layout, want, found) == 3)
+
+# Data in parts become the six blocks; blocks 1 and 4 are spoilt, and the data of the others come back.
+blocks, found = memory(b"\xee" * len(whole)), Found(9, 9, 9, 9)
+pieces, kept = parts(joined[:1], joined[1:1000], b"", joined[1000:])
+holds("insert", dixpi.dixpi_insert(pieces, 4, blocks, len(blocks), layout, 0x1234, FIRST) == 0)
+holds("the blocks", bytes(blocks) == whole)
+holds("insert, other counts", dixpi.dixpi_insert(pieces, 3, blocks, len(blocks), layout, 0x1234, FIRST) == 3)
+holds("insert, a layout", dixpi.dixpi_insert(pieces, 4, blocks, len(blocks), Layout(512, 7, 0, 1, 0), 0, 0) == 2)
+blocks[1 * 520] ^= 1
+blocks[4 * 520 + 519] ^= 1
+out, bad = memory(b"-" * 3072), memory(b"\xff\xff")
+holds("strip", dixpi.dixpi_strip(blocks, len(blocks), out, 3072, layout, want, found) == 1)
+holds("what strip found", tell(found) == (1, 2, crc(bytes(blocks[520 : 520 + 512])), crc(data[1])))
+holds("what strip left", bytes(out) == data[0] + b"-" * 2560)
+holds("strip_all", dixpi.dixpi_strip_all(blocks, len(blocks), out, 3072, bad, 2, layout, want, found) == 1)
+gaps = [data[0], b"-" * 512, data[2], data[3], b"-" * 512, data[5]]
+holds("what strip_all left", bytes(out) == b"".join(gaps) and bytes(bad) == b"\x12\xff" and found.block == 1)
+holds("strip_all, no room", dixpi.dixpi_strip_all(blocks, len(blocks), out, 3072, bad, 0, layout, want, found) == 3)
+cuts = bytes(blocks)
+pieces, kept = parts(cuts[:515], b"", cuts[515:1050], cuts[1050:])
+holds("verifyv", dixpi.dixpi_verifyv(pieces, 4, layout, want, 0, found) == 1 and found.block == 1)
+holds("verifyv behind it", dixpi.dixpi_verifyv(pieces, 4, layout, want, 2, found) == 1)
+holds("the tag in parts", tell(found) == (4, 8, 2, 3))
+holds("verifyv, a length", dixpi.dixpi_verifyv(pieces, 3, layout, want, 0, found) == 3)
 
 sense, length, by_target = Sense(0x1234, 0xB, 0x10, 3, 1), c_uint32(), c_uint32()
 out = memory(bytes(20))

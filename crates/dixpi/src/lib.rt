@@ -22,7 +22,7 @@ pub use blocks::{dixpi_generate, dixpi_remap, dixpi_verify, dixpi_verify_from};
 pub use commands::{dixpi_cdb_decode, dixpi_cdb_encode};
 pub use device::{dixpi_cdb_len, dixpi_command_decode, dixpi_command_encode, dixpi_protect_checks};
 pub use guards::{dixpi_crc16, dixpi_crc16_after, dixpi_crc16v, dixpi_ip_sum, dixpi_ip_sumv};
-pub use moves::{dixpi_insert, dixpi_strip, dixpi_verifyv};
+pub use moves::{dixpi_insert, dixpi_strip, dixpi_strip_all, dixpi_verifyv};
 pub use runs::{dixpi_run_begin, dixpi_run_finish, dixpi_run_update};
 pub use senses::{
     dixpi_sense_check, dixpi_sense_decode, dixpi_sense_describe, dixpi_sense_encode,

@@ -6,10 +6,10 @@ ghost use Rattle.pi_blocks.specs.Inserted.{AreMoved, inserted};
 ghost use Rattle.pi_blocks.specs.Layouts.{are_flags, is_good, stride_of};
 ghost use Rattle.pi_blocks.specs.Parts.{all_parts};
 ghost use Rattle.pi_blocks.specs.Spread.{AreSpread};
-ghost use Rattle.pi_blocks.specs.Stripped.{stripped};
+ghost use Rattle.pi_blocks.specs.Stripped.{AreMarked, all_marked, all_stripped, bytes_for, stripped};
 
 use crate::status::{OK, status_of_none, told};
-use pi_blocks::{Found, Layout, Part, Want, insert, strip, verify_spread};
+use pi_blocks::{Found, Layout, Part, Want, insert, strip, strip_all, verify_spread};
 
 /// Makes blocks of data that lie in parts: each block takes its data and gets its tuple, as `dixpi_generate` makes it.
 /// All other bytes of its metadata stay. Answers `OK`, or why data and blocks don't go together; then all stays.
@@ -64,6 +64,42 @@ pub extern "C" fn dixpi_strip(
     ensures stays { ¬ (result ≡ 1) → found.new ≡ found.old }
 {
     told(strip(blocks, body, layout, want), found)
+}
+
+/// Checks blocks as `dixpi_verify` does, and copies the data of each that differs in nothing; what stands in the places of
+/// the others' data stays. Bit `i % 8`, from the lowest on, of byte `i / 8` of `bad` is 1 where block `i` differs, and 0
+/// elsewhere in these bytes; those behind stay. `found` is written where a block differs alone.
+#[unsafe(no_mangle)]
+pub extern "C" fn dixpi_strip_all(
+    blocks: &[u8],
+    body: &mut [u8],
+    bad: &mut [u8],
+    layout: &Layout,
+    want: &Want,
+    found: &mut Found,
+) -> u32
+    ensures fine { result ≡ 0 → AreMarked layout.now (length body.old) (length blocks.now) (length bad.old)
+        × (are_flags want.now.checks ≡ true)
+        × AreFineFrom layout.now want.now (in_line layout.now blocks.now) 0 (length blocks.now / stride_of layout.now) }
+    ensures differs { result ≡ 1 → AreMarked layout.now (length body.old) (length blocks.now) (length bad.old)
+        × (are_flags want.now.checks ≡ true)
+        × IsFirst layout.now want.now (in_line layout.now blocks.now) 0 (length blocks.now / stride_of layout.now) found.new }
+    ensures copied { result ≤ 1 → body.new ≡ all_stripped layout.now want.now
+        (length blocks.now / stride_of layout.now) blocks.now body.old }
+    ensures marked { result ≤ 1 → bad.new ≡ all_marked layout.now want.now
+        (length blocks.now / stride_of layout.now) blocks.now bad.old }
+    ensures bad_layout { result ≡ 2 → is_good layout.now ≡ false }
+    ensures bad_length { result ≡ 3 → (is_good layout.now ≡ true)
+        × ¬ ((length blocks.now % stride_of layout.now ≡ 0)
+        × (length body.old ≡ length blocks.now / stride_of layout.now * layout.now.data_size)
+        × (bytes_for (length blocks.now / stride_of layout.now) ≤ length bad.old)) }
+    ensures bad_field { result ≡ 5 → AreMarked layout.now (length body.old) (length blocks.now) (length bad.old)
+        × (are_flags want.now.checks ≡ false) }
+    ensures one_of { (result ≤ 3) ⊎ (result ≡ 5) }
+    ensures refused { 2 ≤ result → (body.new ≡ body.old) × (bad.new ≡ bad.old) }
+    ensures stays { ¬ (result ≡ 1) → found.new ≡ found.old }
+{
+    told(strip_all(blocks, body, bad, layout, want), found)
 }
 
 /// Checks blocks that lie over parts, as `dixpi_verify_from` does those in one piece: the parts may end anywhere.
