@@ -48,6 +48,7 @@ pub mod FellElse
 pub mod SparedLegs
 pub mod SparedNames
 pub mod SparedReads
+pub mod SparedRows
 pub mod SparedShown
 pub mod SparedWrites
 pub mod Others
