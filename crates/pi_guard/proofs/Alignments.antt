@@ -1,7 +1,7 @@
 -- Vectors that are put together from the halves of two.
 use Rattle.std.proofs.Common.{◌≡◌, ℕ, ◌+◌, ◌-◌, ◌≤◌, List, ◌++◌, length, take, drop, refl, sym, ap, ◌∙◌, arith}
 use Rattle.std.specs.List.{range_with_len}
-use Rattle.std.proofs.lemmas.List.{map-append, drop-take, take-take}
+use Rattle.std.proofs.lemmas.List.{map-append, drop-drop, drop-append-le, drop-take, take-take}
 use Rattle.std.proofs.lemmas.Simd.{length-chunk, pick_l-range_with_len}
 use lib.Lanes.{chunk, pick_l}
 use Rattle.std.specs.Prelude.{get_or}
@@ -20,7 +20,7 @@ pieces p q uv l e =
     ∙ ap (λ v. pick_l 0 uv one ++ v) (map-append f two (three ++ four) ∙ ap (λ v. pick_l 0 uv two ++ v) (map-append f three four))
     ∙ rw (pick_l-range_with_len 0 uv p q (omega arith), pick_l-range_with_len 0 uv 32 p (omega arith), pick_l-range_with_len 0 uv (16 + p) q (omega arith), pick_l-range_with_len 0 uv 48 p (omega arith)) refl
 
-chunk-chunk : (k n j m : ℕ) (xs : List ℕ) → k + n ≤ m → chunk k n (chunk j m xs) ≡ chunk (k + j) n xs
+pub chunk-chunk : (k n j m : ℕ) (xs : List ℕ) → k + n ≤ m → chunk k n (chunk j m xs) ≡ chunk (k + j) n xs
 chunk-chunk k n j m xs h =
     let s = m - k in
     let e : m ≡ k + s = omega arith in
@@ -51,3 +51,14 @@ aligned o p q w u v e l eu ev =
     ∙ chunk-cat (o + p) q (p + (q + p)) w
     ∙ ap (λ x. chunk (o + p) q w ++ x) (chunk-cat (o + p + q) p (q + p) w
     ∙ ap (λ x. chunk (o + p + q) p w ++ x) (chunk-cat (o + p + q + p) q p w)))
+
+-- a piece of two neighbouring pieces
+pub between : (k i : ℕ) (xs : List ℕ) → k ≤ 32 → chunk k 32 (chunk i 32 xs ++ chunk (i + 32) 32 xs) ≡ chunk (k + i) 32 xs
+between k i xs h = ap (chunk k 32) (sym (chunk-cat i 32 32 xs)) ∙ chunk-chunk k 32 i 64 xs (omega arith)
+
+-- a piece behind the first two bytes, of lists that are the same from there on
+pub past_two : (k n : ℕ) (a x y : List ℕ) → length a ≡ 32 → length x ≡ 32 → drop 2 a ≡ drop 2 x → chunk (2 + k) n (a ++ y) ≡ chunk (2 + k) n (x ++ y)
+past_two k n a x y la lx e =
+    let two : (v : List ℕ) → length v ≡ 32 → chunk (2 + k) n (v ++ y) ≡ take n (drop k (drop 2 v ++ y)) = λ v l.
+    ap (take n) (sym (drop-drop k 2 (v ++ y)) ∙ ap (drop k) (drop-append-le 2 v y (omega arith))) in
+    two a la ∙ ap (λ v. take n (drop k (v ++ y))) e ∙ sym (two x lx)

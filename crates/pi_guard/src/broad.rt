@@ -4,7 +4,7 @@
 //! 224 bytes are seven whole vectors, and 144 are four and a half, so a step puts two vectors together
 //! from others: by half a vector, and that one by four bytes more, which is carried until it is due.
 
-ghost use Rattle.std.specs.Prelude.{◌≡◌, ℕ, ◌+◌, ◌≤◌, List, ◌++◌, length, take};
+ghost use Rattle.std.specs.Prelude.{◌≡◌, ℕ, ◌+◌, ◌≤◌, List, ◌++◌, length, drop, take};
 ghost use Rattle.std.specs.Simd.Lanes.{chunk};
 ghost use Rattle.pi_guard.specs.Register.{register};
 ghost use Rattle.pi_guard.specs.Broad.{aligned_by, Owes, broad_owed_next, broad_register};
@@ -43,7 +43,8 @@ pub struct Trail {
 /// The first thirty-two bytes, with the register added to their front.
 #[inline(always)]
 fn with_register(start: u16, first: u8x32) -> u8x32
-    ensures { (rest : List ℕ) → register 0 (result ++ rest) ≡ register start (first ++ rest) }
+    ensures sum { (rest : List ℕ) → register 0 (result ++ rest) ≡ register start (first ++ rest) }
+    ensures rest { (length result ≡ 32) × (drop 2 result ≡ drop 2 first) }
 {
     let high = (start >> 8) as u8;
     let low = (start & 0xff) as u8;
@@ -129,7 +130,7 @@ fn trail_after(t: Trail, part: &[u8], at: usize) -> Trail
 
 /// The trail after the 256 bytes of the part that begin at `at`.
 #[inline(always)]
-fn trail_after_all(t: Trail, part: &[u8], at: usize) -> Trail
+pub fn trail_after_all(t: Trail, part: &[u8], at: usize) -> Trail
     requires { at + 256 ≤ length part.now }
     ensures { (r : ℕ) → Owes (register r (take at part.now)) t
         → Owes (register r (take (at + 256) part.now)) result }
@@ -146,46 +147,33 @@ fn trail_after_all(t: Trail, part: &[u8], at: usize) -> Trail
     t
 }
 
-/// A trail of zeros.
+/// The trail of the first 256 bytes, with the register added to their front. What the first of them owe is read at the
+/// places where it is due.
 #[inline(always)]
-fn no_trail() -> Trail
-    ensures { Owes 0 result }
-{
-    let zero = u8x32::from_array([0; 32]);
-    Trail {
-        b: zero,
-        c: zero,
-        d: zero,
-        e: zero,
-        f: zero,
-        g: zero,
-        h: zero,
-        far_a: zero,
-        far_b: zero,
-        far_c: zero,
-    }
-}
-
-/// The trail of the first 256 bytes, with the register added to their front.
-#[inline(always)]
-fn first_trail(start: u16, part: &[u8]) -> Trail
+pub fn first_trail(start: u16, part: &[u8]) -> Trail
     requires { 256 ≤ length part.now }
     ensures { Owes (register start (take 256 part.now)) result }
 {
-    let mut t = next_trail(no_trail(), with_register(start, u8x32::from_slice(part)));
-    t = trail_after(t, part, 32);
-    t = trail_after(t, part, 64);
-    t = trail_after(t, part, 96);
-    t = trail_after(t, part, 128);
-    t = trail_after(t, part, 160);
-    t = trail_after(t, part, 192);
-    t = trail_after(t, part, 224);
-    t
+    let zero = u8x32::from_array([0; 32]);
+    let a = with_register(start, u8x32::from_slice(part));
+    Trail {
+        b: u8x32::from_slice(&part[32..]),
+        c: u8x32::from_slice(&part[64..]),
+        d: u8x32::from_slice(&part[96..]),
+        e: u8x32::from_slice(&part[128..]) ^ half_on(zero, a),
+        f: u8x32::from_slice(&part[160..]) ^ u8x32::from_slice(&part[16..]),
+        g: u8x32::from_slice(&part[192..]) ^ u8x32::from_slice(&part[48..]),
+        h: u8x32::from_slice(&part[224..])
+            ^ (u8x32::from_slice(&part[80..]) ^ (a ^ far_on(zero, a))),
+        far_a: u8x32::from_slice(&part[4..]),
+        far_b: u8x32::from_slice(&part[36..]),
+        far_c: u8x32::from_slice(&part[68..]),
+    }
 }
 
 /// Pays all that a trail owes into the 256 bytes of the part that begin at `at`.
 #[inline(always)]
-fn last_window(t: Trail, part: &[u8], at: usize) -> Bytes256
+pub fn last_window(t: Trail, part: &[u8], at: usize) -> Bytes256
     requires { at + 256 ≤ length part.now }
     ensures { (r : ℕ) → Owes (register r (take at part.now)) t
         → broad_register result ≡ register r (take (at + 256) part.now) }
@@ -201,20 +189,4 @@ fn last_window(t: Trail, part: &[u8], at: usize) -> Bytes256
         g: u8x32::from_slice(&part[at + 192..]) ^ owed_to(far_on(t.g, t.h), t.h, zero, zero),
         h: u8x32::from_slice(&part[at + 224..]) ^ owed_to(far_on(t.h, zero), zero, zero, zero),
     }
-}
-
-/// The window of all but the last 0 to 255 bytes, and how many bytes it stands for.
-#[inline(always)]
-pub fn whole_window(start: u16, part: &[u8]) -> (Bytes256, usize)
-    requires { 512 ≤ length part.now }
-    ensures { (result.1 ≤ length part.now)
-        × (broad_register result.0 ≡ register start (take result.1 part.now)) }
-{
-    let mut t = first_trail(start, part);
-    let mut at = 256;
-    while part.len() - at >= 512 {
-        t = trail_after_all(t, part, at);
-        at += 256;
-    }
-    (last_window(t, part, at), at + 256)
 }

@@ -71,9 +71,16 @@ fn after_long(start: u16, part: &[u8]) -> u16
     requires { 512 ≤ length part.now }
     ensures { result ≡ register start part.now }
 {
-    let (w, at) = broad::whole_window(start, part);
+    let mut t = broad::first_trail(start, part);
+    // (What is left is carried, not a place: then each load has a plain address.)
+    let mut rest = &part[256..];
+    while rest.len() >= 512 {
+        t = broad::trail_after_all(t, rest, 0);
+        rest = &rest[256..];
+    }
+    let w = broad::last_window(t, rest, 0);
     let register = quarters::register_of_window(w.a, w.b, w.c, w.d, w.e, w.f, w.g, w.h);
-    after_short(register, &part[at..])
+    after_short(register, &rest[256..])
 }
 
 /// The window of all but the last bytes, of which there are fewer than 128, and how many it stands for.
