@@ -6,6 +6,7 @@ mod commands;
 mod device;
 mod guards;
 mod in_line;
+mod moves;
 mod senses;
 mod single;
 mod words;
@@ -59,6 +60,10 @@ impl Judge for Table {
             "verify" => in_line::verified(alloc, layout, &mut words),
             "generate" => in_line::generated(alloc, layout, &mut words),
             "remap" => in_line::remapped(alloc, layout, &mut words),
+            "insert" => moves::inserted(alloc, layout, &mut words),
+            "strip" => moves::stripped(alloc, layout, &mut words),
+            "strip_all" => moves::all_stripped(alloc, layout, &mut words),
+            "verifyv" => moves::verified(alloc, layout, &mut words),
             "dix_verify" => apart::verified(alloc, layout, &mut words),
             "dix_generate" => apart::generated(alloc, layout, &mut words),
             "crc16v" | "ip_sumv" | "crc16_after" | "run_crc" | "run_ip" => {

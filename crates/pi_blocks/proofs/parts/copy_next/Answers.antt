@@ -1,4 +1,4 @@
-use Rattle.std.proofs.Common.{rules, ◌≡◌, ◌+◌, ◌-◌, ◌≤◌, ◌∙◌, length, drop, ap, arith}
+use Rattle.std.proofs.Common.{rules, ◌≡◌, ◌+◌, ◌≤◌, ◌∙◌, length, drop, ap, arith}
 use Rattle.std.proofs.lemmas.List.{drop-drop}
 use Rattle.pi_blocks.specs.Parts.{left_of}
 use Rattle.pi_blocks.proofs.Copies.{copied_on, part-length}
