@@ -140,6 +140,74 @@ DIXPI_STATUS dixpi_strip_all(const uint8_t *blocks, size_t len, uint8_t *data, s
 DIXPI_STATUS dixpi_verifyv(const struct iovec *blocks, size_t count, const struct dixpi_layout *layout,
                            const struct dixpi_want *want, uint64_t start, struct dixpi_found *found);
 
+/* The information of NVMe with a guard of 32 or 64 bits (NVM Command Set Specification, "End-to-end Data Protection"):
+   sixteen bytes of metadata, high bytes first: guard, application tag of 16 bits, storage tag, reference tag. */
+
+/* CRC-32C, and the CRC of 64 bits of NVMe; _after goes on from the CRC of the bytes before. */
+uint32_t dixpi_crc32c(const uint8_t *bytes, size_t len);
+uint32_t dixpi_crc32c_after(uint32_t guard, const uint8_t *bytes, size_t len);
+uint64_t dixpi_crc64_nvme(const uint8_t *bytes, size_t len);
+uint64_t dixpi_crc64_nvme_after(uint64_t guard, const uint8_t *bytes, size_t len);
+
+/* In checks of struct dixpi_nvme_want, and in check of struct dixpi_nvme_found, beside enum dixpi_check. */
+enum dixpi_nvme_check { DIXPI_CHECK_STORAGE = 16, DIXPI_CHECK_NVME_ALL = 30 };
+
+struct dixpi_nvme_layout {
+    uint32_t data_size; /* bytes of data, as 512 or 4096; 0 where only metadata is given */
+    uint32_t meta_size; /* bytes of metadata, at least 16; the sum of both sizes fits 32 bits */
+    uint32_t at_end;    /* 0: the first 16 bytes of the metadata, and the guard is of the data alone; 1: the last 16, and
+                           the guard is of the data and of the metadata before */
+    uint32_t guard;     /* bits of the guard: 32 or 64 */
+    uint32_t type;      /* 1 to 3 */
+    uint32_t storage;   /* bits of the storage tag (STS): 16 to 64 beside a guard of 32 bits, 0 to 48 beside one of 64. The
+                           reference tag has 80 - storage, or 48 - storage */
+};
+
+/* The tags that are written. */
+struct dixpi_nvme_tags {
+    uint64_t first_ref; /* block 0's reference tag. Block i's is + i, modulo its width */
+    uint64_t storage;   /* storage tag */
+    uint16_t app;       /* application tag */
+};
+
+/* What is wanted. */
+struct dixpi_nvme_want {
+    uint64_t first_ref;             /* as above */
+    uint64_t storage, storage_mask; /* storage tag, and the bits of it that are checked */
+    uint16_t app, mask;             /* application tag, and the bits of it that are checked */
+    uint32_t checks;                /* flags. In type 3 the reference tag is never checked */
+};
+
+/* The first difference: by block, and in a block guard, application tag, storage tag, reference tag. */
+struct dixpi_nvme_found {
+    uint64_t block, expected, actual;
+    uint32_t check; /* its flag */
+};
+
+/* Blocks with their metadata behind each. DIXPI_BAD_FIELD where the storage tag has more bits than the layout's. */
+DIXPI_STATUS dixpi_nvme_generate(uint8_t *blocks, size_t len, const struct dixpi_nvme_layout *layout,
+                                 const struct dixpi_nvme_tags *tags);
+/* From block start on; block and tag count from the first. An escape differs in nothing: application tag FFFFh, in type
+   3 beside a storage and a reference tag of all ones. *found is written for DIXPI_DIFFERS alone. */
+DIXPI_STATUS dixpi_nvme_verify(const uint8_t *blocks, size_t len, const struct dixpi_nvme_layout *layout,
+                               const struct dixpi_nvme_want *want, uint64_t start, struct dixpi_nvme_found *found);
+/* Types 1 and 2: where block i's reference tag is from + i it becomes to + i, modulo its width. All other bytes stay. */
+DIXPI_STATUS dixpi_nvme_remap(uint8_t *blocks, size_t len, const struct dixpi_nvme_layout *layout, uint64_t from,
+                              uint64_t to);
+/* Copies the data of as many blocks as len has to them, and generates. Of the metadata all other bytes stay. */
+DIXPI_STATUS dixpi_nvme_insert(const uint8_t *data, size_t data_len, uint8_t *blocks, size_t len,
+                               const struct dixpi_nvme_layout *layout, const struct dixpi_nvme_tags *tags);
+/* Checks as verify does from the first block on, and copies the data of each block before the first that differs. */
+DIXPI_STATUS dixpi_nvme_strip(const uint8_t *blocks, size_t len, uint8_t *data, size_t data_len,
+                              const struct dixpi_nvme_layout *layout, const struct dixpi_nvme_want *want,
+                              struct dixpi_nvme_found *found);
+/* Data and metadata in buffers of their own. */
+DIXPI_STATUS dixpi_nvme_dix_generate(const uint8_t *data, size_t data_len, uint8_t *meta, size_t meta_len,
+                                     const struct dixpi_nvme_layout *layout, const struct dixpi_nvme_tags *tags);
+DIXPI_STATUS dixpi_nvme_dix_verify(const uint8_t *data, size_t data_len, const uint8_t *meta, size_t meta_len,
+                                   const struct dixpi_nvme_layout *layout, const struct dixpi_nvme_want *want,
+                                   uint64_t start, struct dixpi_nvme_found *found);
+
 /* Command descriptor blocks (SBC-3, 5.11 to 5.35). */
 enum dixpi_op {
     DIXPI_READ_10 = 0x28,
