@@ -18,6 +18,9 @@ pub fn register_after(start: u16, part: &[u8]) -> u16
 {
     if part.len() < BROAD_FROM {
         after_short(start, part)
+    } else if part.len() < 1_024 && part.len() % 256 >= 128 {
+        // (What is left behind whole 256s is then too much of the part.)
+        after_short(start, part)
     } else {
         after_long(start, part)
     }
