@@ -2,7 +2,7 @@
 use Rattle.std.proofs.Common.{◌≡◌, ℕ, zero, suc, ◌+◌, ◌-◌, ◌*◌, ◌^◌, ◌<◌, ◌≤◌, Bool, true, false, if◌then◌else◌, min, List, ◌∷◌, ◌++◌, length, take, drop, slice_set, Option, Some, None, IfSome, inl, inr, refl, ap, ◌∙◌, sym, subst, add-one, arith}
 use Rattle.std.proofs.lemmas.Bool.{cases_lt}
 use Rattle.std.proofs.lemmas.List.{length-drop, length-take-le, set_split}
-use Rattle.std.proofs.Math.Nat.{min-eq_left, min-eq_right, mul-le-mul_right, pow-le-pow_right}
+use Rattle.std.proofs.Math.Nat.{min-eq_left, min-eq_right, pow-le-pow_right}
 use Rattle.pi_blocks.specs.Blocks.{AreFineFrom, Checked, in_line, looked}
 use Rattle.pi_blocks.specs.Inserted.{data_in, place_of_data}
 use Rattle.pi_blocks.specs.Layouts.{stride_of}
@@ -118,10 +118,6 @@ blocks_in_all n = min-eq_right (omega arith)
 -- a bit that is marked, or none
 pub mark_small : (told : Option Found) (bit mark : ℕ) → mark ≡ (if is_told told then bit else 0) → mark ≤ bit
 mark_small told bit mark e = let a = bit_small (is_told told) bit in omega (arith, a, e)
-
--- where the next one of so many lies
-pub room_for : (n m size total : ℕ) → n < m → m * size ≤ total → n * size + size ≤ total
-room_for n m size total lt h = let a : (n + 1) * size ≤ m * size = mul-le-mul_right size (omega arith) in let b = next_block n size in omega arith
 
 -- before the first byte
 pub fine_at_first : (l : Layout) (w : Want) (blocks : List ℕ) (n : ℕ) → AreFineFrom l w (in_line l blocks) 0 (min (8 * 0) n)

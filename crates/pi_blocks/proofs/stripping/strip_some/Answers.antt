@@ -2,7 +2,8 @@ use Rattle.std.proofs.Common.{◌≡◌, ◌+◌, ◌<◌, length, refl, subst, 
 use Rattle.pi_blocks.specs.Blocks.{Checked, in_line}
 use Rattle.pi_blocks.specs.Layouts.{stride_of}
 use Rattle.pi_blocks.specs.Stripped.{AreStripped, is_bad}
-use Rattle.pi_blocks.proofs.Bitmaps.{bit_in_byte, bits_more, bits_small, left_more, mark_small, next_bit, room_for, told_more}
+use Rattle.pi_blocks.proofs.Bitmaps.{bit_in_byte, bits_more, bits_small, left_more, mark_small, next_bit, told_more}
+use Rattle.pi_blocks.proofs.MapLaws.{block_within}
 use Rattle.pi_blocks.proofs.stripping.strip_some.Goals as goal
 
 pub loop-j-init : goal.loop-j-init
@@ -41,8 +42,8 @@ loop-j-preserved c =
     let n = c.args.first + c.loop-j.j in
     let below : n < c.args.first + c.args.count = omega (arith, c.loop-j-test.true) in
     let next : n + 1 ≡ c.args.first + (c.loop-j.j + 1) = omega arith in
-    let inside = room_for n (c.args.first + c.args.count) (stride_of l) (length blocks) below c.requires.inside in
-    let room = room_for n (c.args.first + c.args.count) l.data_size (length c.loop-j.body) below (search rules) in
+    let inside = block_within n (c.args.first + c.args.count) (stride_of l) (length blocks) below c.requires.inside in
+    let room = block_within n (c.args.first + c.args.count) l.data_size (length c.loop-j.body) below (search rules) in
     record {
       bit = next_bit c.loop-j.j c.loop-j.bit h.bit;
       bits = bits_more l w blocks c.args.first c.loop-j.j c.loop-j.bits c.loop-j.bit c.mark-bits.result c.strip_one-found.result h.bits h.bit c.strip_one-found.ensures.found c.mark-bits.ensures;
