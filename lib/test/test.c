@@ -37,6 +37,17 @@ static_assert(offsetof(struct dixpi_command, protect) == 24 && offsetof(struct d
 static_assert(offsetof(struct dixpi_command, bytchk) == 32 && offsetof(struct dixpi_command, dld) == 36, "command");
 static_assert(offsetof(struct dixpi_command, group) == 40 && offsetof(struct dixpi_command, control) == 44, "command");
 
+static_assert(sizeof(struct dixpi_nvme_layout) == 24 && offsetof(struct dixpi_nvme_layout, at_end) == 8, "layout");
+static_assert(offsetof(struct dixpi_nvme_layout, guard) == 12 && offsetof(struct dixpi_nvme_layout, type) == 16, "layout");
+static_assert(offsetof(struct dixpi_nvme_layout, storage) == 20, "layout");
+static_assert(sizeof(struct dixpi_nvme_tags) == 24 && offsetof(struct dixpi_nvme_tags, storage) == 8, "tags");
+static_assert(offsetof(struct dixpi_nvme_tags, app) == 16, "tags");
+static_assert(sizeof(struct dixpi_nvme_want) == 32 && offsetof(struct dixpi_nvme_want, storage_mask) == 16, "want");
+static_assert(offsetof(struct dixpi_nvme_want, app) == 24 && offsetof(struct dixpi_nvme_want, mask) == 26, "want");
+static_assert(offsetof(struct dixpi_nvme_want, checks) == 28, "want");
+static_assert(sizeof(struct dixpi_nvme_found) == 32 && offsetof(struct dixpi_nvme_found, expected) == 8, "found");
+static_assert(offsetof(struct dixpi_nvme_found, actual) == 16 && offsetof(struct dixpi_nvme_found, check) == 24, "found");
+
 static unsigned passed, failed;
 
 static void is_true(int holds, int line, const char *what) {
@@ -1019,6 +1030,193 @@ static void described_senses(void) {
     }
 }
 
+/* The guards of NVMe of 32 and 64 bits, bit by bit, the lowest first. */
+static uint64_t wide_crc(uint32_t width, uint64_t crc, const uint8_t *bytes, size_t len) {
+    uint64_t poly = width == 32 ? 0x82F63B78 : 0x9A6C9329AC4BC9B5, ones = width == 32 ? UINT32_MAX : UINT64_MAX;
+    crc ^= ones;
+    for (size_t i = 0; i < len; i++) {
+        crc ^= bytes[i];
+        for (int k = 0; k < 8; k++)
+            crc = crc >> 1 ^ (crc & 1 ? poly : 0);
+    }
+    return crc ^ ones;
+}
+
+static void wide_guards(void) {
+    static const struct {
+        uint8_t first, step;
+        uint32_t crc32c;
+        uint64_t crc64;
+    } KNOWN[] = {{0, 0, 0x98F94189, 0x6482D367EB22B64E},
+                 {0xFF, 0, 0x25C1FE13, 0xC0DDBA7302ECA3AC},
+                 {0, 1, 0x9C71FE32, 0x3E729F5F6750449C},
+                 {0xFF, 0xFF, 0x214941A8, 0x9A2DF64B8E9E517E}};
+    uint8_t *bytes = fenced(4096);
+    for (size_t i = 0; i < sizeof KNOWN / sizeof *KNOWN; i++) {
+        for (size_t k = 0; k < 4096; k++)
+            bytes[k] = (uint8_t)(KNOWN[i].first + k * KNOWN[i].step);
+        IS(dixpi_crc32c(bytes, 4096) == KNOWN[i].crc32c && dixpi_crc64_nvme(bytes, 4096) == KNOWN[i].crc64);
+    }
+    IS(dixpi_crc32c((const uint8_t *)"123456789", 9) == 0xE3069283);
+    IS(dixpi_crc64_nvme((const uint8_t *)"123456789", 9) == 0xAE8B14860A799888);
+    IS(dixpi_crc32c(NULL, 0) == 0 && dixpi_crc64_nvme(NULL, 0) == 0);
+    fill(bytes, 4096);
+    for (size_t len = 0; len < 600; len++) {
+        const uint8_t *b = bytes + 4096 - len;
+        size_t cut = len ? drawn() % len : 0;
+        IS(dixpi_crc32c(b, len) == wide_crc(32, 0, b, len) && dixpi_crc64_nvme(b, len) == wide_crc(64, 0, b, len));
+        IS(dixpi_crc32c_after(dixpi_crc32c(b, cut), b + cut, len - cut) == wide_crc(32, 0, b, len));
+        IS(dixpi_crc64_nvme_after(dixpi_crc64_nvme(b, cut), b + cut, len - cut) == wide_crc(64, 0, b, len));
+    }
+}
+
+/* A field of so many bits, the highest first, from a bit of sixteen bytes on. */
+static uint64_t field(const uint8_t *info, uint32_t from, uint32_t bits) {
+    uint64_t x = 0;
+    for (uint32_t k = from; k < from + bits; k++)
+        x = x << 1 | (info[k / 8] >> (7 - k % 8) & 1);
+    return x;
+}
+
+static void set_field(uint8_t *info, uint32_t from, uint32_t bits, uint64_t x) {
+    for (uint32_t k = from + bits; k-- > from; x >>= 1)
+        info[k / 8] = (uint8_t)((info[k / 8] & ~(0x80 >> k % 8)) | (x & 1 ? 0x80 >> k % 8 : 0));
+}
+
+static uint64_t low_bits(uint64_t x, uint32_t bits) { return bits < 64 ? x & ((1ull << bits) - 1) : x; }
+
+static uint32_t ref_bits(const struct dixpi_nvme_layout *l) { return 112 - l->guard - l->storage; }
+
+static void nvme_make(const struct dixpi_nvme_layout *l, const struct dixpi_nvme_tags *t, uint64_t i, uint64_t guard,
+                      uint8_t *info) {
+    set_field(info, 0, l->guard, guard);
+    set_field(info, l->guard, 16, t->app);
+    set_field(info, l->guard + 16, l->storage, t->storage);
+    set_field(info, l->guard + 16 + l->storage, ref_bits(l), l->type == 3 ? 0 : t->first_ref + i);
+}
+
+static uint32_t nvme_compare(const struct dixpi_nvme_layout *l, const struct dixpi_nvme_want *w, uint64_t i, uint64_t guard,
+                             const uint8_t *info, struct dixpi_nvme_found *found) {
+    uint64_t has = field(info, 0, l->guard), app = field(info, l->guard, 16);
+    uint64_t storage = field(info, l->guard + 16, l->storage), ref = field(info, 128 - ref_bits(l), ref_bits(l));
+    uint64_t wanted = low_bits(w->first_ref + i, ref_bits(l));
+    struct dixpi_nvme_found f = {i, guard, has, 0};
+    if (app == 0xFFFF && (l->type != 3 || (storage == low_bits(UINT64_MAX, l->storage) && ref == low_bits(UINT64_MAX, ref_bits(l)))))
+        return 0;
+    if (w->checks & DIXPI_CHECK_GUARD && has != guard)
+        f.check = DIXPI_CHECK_GUARD;
+    else if (w->checks & DIXPI_CHECK_APP && (app ^ w->app) & w->mask)
+        f = (struct dixpi_nvme_found){i, w->app, app, DIXPI_CHECK_APP};
+    else if (w->checks & DIXPI_CHECK_STORAGE && (storage ^ w->storage) & w->storage_mask)
+        f = (struct dixpi_nvme_found){i, w->storage, storage, DIXPI_CHECK_STORAGE};
+    else if (w->checks & DIXPI_CHECK_REF && l->type != 3 && ref != wanted)
+        f = (struct dixpi_nvme_found){i, wanted, ref, DIXPI_CHECK_REF};
+    else
+        return 0;
+    *found = f;
+    return 1;
+}
+
+static int same_nvme(struct dixpi_nvme_found a, struct dixpi_nvme_found b) {
+    return a.block == b.block && a.expected == b.expected && a.actual == b.actual && a.check == b.check;
+}
+
+/* Five blocks of a layout in both forms: made, spoilt in each byte of the last information, remapped, moved. */
+static void nvme_blocks(struct dixpi_nvme_layout l) {
+    enum { N = 5 };
+    size_t stride = l.data_size + l.meta_size, at = l.at_end ? l.meta_size - 16 : 0;
+    uint8_t *blocks = fenced(N * stride), *wanted = malloc(N * stride), *data = fenced(N * l.data_size);
+    uint8_t *copy = fenced(N * l.data_size), *other = fenced(N * stride), *meta = fenced(N * l.meta_size);
+    struct dixpi_nvme_tags tags = {UINT64_MAX - drawn() % 3, low_bits((uint64_t)drawn() << 32 | drawn(), l.storage), 0x1234};
+    struct dixpi_nvme_want want = {tags.first_ref, tags.storage, UINT64_MAX, 0x1234, 0xFFFF, DIXPI_CHECK_NVME_ALL};
+    const struct dixpi_nvme_found none = {9, 9, 9, 9};
+    struct dixpi_nvme_found found = none, first;
+    if (!wanted)
+        exit(70);
+    fill(blocks, N * stride);
+    memcpy(wanted, blocks, N * stride);
+    memcpy(other, blocks, N * stride);
+    for (size_t i = 0; i < N; i++) {
+        uint8_t *b = wanted + i * stride;
+        memcpy(data + i * l.data_size, b, l.data_size);
+        memcpy(meta + i * l.meta_size, b + l.data_size, l.meta_size);
+        memset(other + i * stride, 0, l.data_size);
+        nvme_make(&l, &tags, i, wide_crc(l.guard, 0, b, l.data_size + at), b + l.data_size + at);
+    }
+    IS(dixpi_nvme_generate(blocks, N * stride, &l, &tags) == DIXPI_OK && !memcmp(blocks, wanted, N * stride));
+    IS(dixpi_nvme_insert(data, N * l.data_size, other, N * stride, &l, &tags) == DIXPI_OK);
+    IS(!memcmp(other, wanted, N * stride));
+    IS(dixpi_nvme_dix_generate(data, N * l.data_size, meta, N * l.meta_size, &l, &tags) == DIXPI_OK);
+    for (size_t i = 0; i < N; i++)
+        IS(!memcmp(meta + i * l.meta_size, wanted + i * stride + l.data_size, l.meta_size));
+    IS(dixpi_nvme_verify(blocks, N * stride, &l, &want, 0, &found) == DIXPI_OK && same_nvme(found, none));
+    IS(dixpi_nvme_dix_verify(data, N * l.data_size, meta, N * l.meta_size, &l, &want, 0, &found) == DIXPI_OK);
+    IS(dixpi_nvme_strip(blocks, N * stride, copy, N * l.data_size, &l, &want, &found) == DIXPI_OK);
+    IS(!memcmp(copy, data, N * l.data_size) && same_nvme(found, none));
+    for (size_t k = 0; k < 18; k++) { /* a bit of each byte of block 3, then escapes of both sorts in block 2 */
+        size_t i = k < 16 ? 3 : 2;
+        uint8_t *info = blocks + i * stride + l.data_size + at, *apart = meta + i * l.meta_size + at, was[16];
+        memcpy(was, info, 16);
+        if (k < 16)
+            info[k] ^= (uint8_t)(1u << k % 8);
+        else
+            memset(k == 16 ? info + l.guard / 8 : info, 0xFF, k == 16 ? 2 : 16);
+        memcpy(apart, info, 16);
+        uint32_t differs = nvme_compare(&l, &want, i, wide_crc(l.guard, 0, blocks + i * stride, l.data_size + at), info, &first);
+        found = none;
+        IS(dixpi_nvme_verify(blocks, N * stride, &l, &want, 0, &found) == differs);
+        IS(same_nvme(found, differs ? first : none));
+        found = none;
+        IS(dixpi_nvme_dix_verify(data, N * l.data_size, meta, N * l.meta_size, &l, &want, i, &found) == differs);
+        IS(same_nvme(found, differs ? first : none));
+        IS(dixpi_nvme_verify(blocks, N * stride, &l, &want, i + 1, &found) == DIXPI_OK);
+        memset(copy, 0xEE, N * l.data_size);
+        IS(dixpi_nvme_strip(blocks, N * stride, copy, N * l.data_size, &l, &want, &found) == differs);
+        IS(!memcmp(copy, data, (differs ? i : N) * l.data_size) && (!differs || copy[i * l.data_size] == 0xEE));
+        memcpy(info, was, 16);
+        memcpy(apart, was, 16);
+    }
+    set_field(wanted + 2 * stride + l.data_size + at, 128 - ref_bits(&l), ref_bits(&l), 77);
+    memcpy(blocks, wanted, N * stride);
+    for (size_t i = 0; i < N; i++) {
+        uint8_t *info = wanted + i * stride + l.data_size + at;
+        if (l.type != 3 && field(info, 128 - ref_bits(&l), ref_bits(&l)) == low_bits(tags.first_ref + i, ref_bits(&l)))
+            set_field(info, 128 - ref_bits(&l), ref_bits(&l), 1000 + i);
+    }
+    IS(dixpi_nvme_remap(blocks, N * stride, &l, tags.first_ref, 1000) == DIXPI_OK && !memcmp(blocks, wanted, N * stride));
+    /* refusals */
+    found = none;
+    struct dixpi_nvme_layout bad = l;
+    bad.guard = 16;
+    IS(dixpi_nvme_generate(blocks, N * stride, &bad, &tags) == DIXPI_BAD_LAYOUT);
+    bad = l, bad.storage = l.guard == 32 ? 15 : 49;
+    IS(dixpi_nvme_verify(blocks, N * stride, &bad, &want, 0, &found) == DIXPI_BAD_LAYOUT);
+    bad = l, bad.meta_size = 15;
+    IS(dixpi_nvme_remap(blocks, N * stride, &bad, 0, 1) == DIXPI_BAD_LAYOUT);
+    IS(dixpi_nvme_verify(blocks, N * stride - 1, &l, &want, 0, &found) == DIXPI_BAD_LENGTH);
+    IS(dixpi_nvme_insert(data, N * l.data_size - 1, blocks, N * stride, &l, &tags) == DIXPI_BAD_LENGTH);
+    if (l.storage < 64) {
+        tags.storage = 1ull << l.storage;
+        IS(dixpi_nvme_generate(blocks, N * stride, &l, &tags) == DIXPI_BAD_FIELD);
+    }
+    want.checks = 32;
+    IS(dixpi_nvme_verify(blocks, N * stride, &l, &want, 0, &found) == DIXPI_BAD_FIELD);
+    want.checks = 0;
+    IS(dixpi_nvme_strip(blocks, N * stride, copy, N * l.data_size, &l, &want, &found) == DIXPI_BAD_FIELD);
+    IS(!memcmp(blocks, wanted, N * stride) && same_nvme(found, none));
+    free(wanted);
+}
+
+static void nvme_layouts(void) {
+    static const uint32_t STORAGE[][2] = {{32, 16}, {32, 40}, {32, 64}, {64, 0}, {64, 1}, {64, 23}, {64, 47}, {64, 48}};
+    static const uint32_t SIZES[][2] = {{512, 16}, {4096, 64}, {8, 23}};
+    for (size_t i = 0; i < sizeof STORAGE / sizeof *STORAGE; i++)
+        for (size_t k = 0; k < sizeof SIZES / sizeof *SIZES; k++)
+            for (uint32_t type = 1; type <= 3; type++)
+                for (uint32_t at_end = 0; at_end <= 1; at_end++)
+                    nvme_blocks((struct dixpi_nvme_layout){SIZES[k][0], SIZES[k][1], at_end, STORAGE[i][0], type, STORAGE[i][1]});
+}
+
 int main(void) {
     IS(dixpi_version() == 0x000200);
     guards();
@@ -1031,6 +1229,8 @@ int main(void) {
     empty_parts();
     sent_commands();
     drawn_commands();
+    wide_guards();
+    nvme_layouts();
     for (size_t i = 0; i < sizeof LAYOUTS / sizeof *LAYOUTS; i++)
         for (uint32_t type = 1; type <= 3; type++)
             for (uint32_t guard = DIXPI_CRC; guard <= DIXPI_IP; guard++) {

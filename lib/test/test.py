@@ -51,6 +51,23 @@ class Command(ctypes.Structure):
     _fields_ += [(name, c_uint32) for name in ("protect", "flags", "bytchk", "dld", "group", "control")]
 
 
+class NvmeLayout(ctypes.Structure):
+    _fields_ = [(name, c_uint32) for name in ("data_size", "meta_size", "at_end", "guard", "type", "storage")]
+
+
+class NvmeTags(ctypes.Structure):
+    _fields_ = [("first_ref", c_uint64), ("storage", c_uint64), ("app", c_uint16)]
+
+
+class NvmeWant(ctypes.Structure):
+    _fields_ = [(name, c_uint64) for name in ("first_ref", "storage", "storage_mask")]
+    _fields_ += [("app", c_uint16), ("mask", c_uint16), ("checks", c_uint32)]
+
+
+class NvmeFound(ctypes.Structure):
+    _fields_ = [(name, c_uint64) for name in ("block", "expected", "actual")] + [("check", c_uint32)]
+
+
 class Part(ctypes.Structure):
     _fields_ = [("base", c_void_p), ("len", c_size_t)]
 
@@ -59,6 +76,9 @@ dixpi = ctypes.CDLL(sys.argv[1])
 layout_at, want_at, found_at, parts_at = POINTER(Layout), POINTER(Want), POINTER(Found), POINTER(Part)
 tuple_at, run_at, sense_at, number_at = POINTER(Tuple), POINTER(Run), POINTER(Sense), POINTER(c_uint32)
 cdb_at, command_at = POINTER(Cdb), POINTER(Command)
+nvme_layout_at, nvme_tags_at = POINTER(NvmeLayout), POINTER(NvmeTags)
+nvme_want_at, nvme_found_at = POINTER(NvmeWant), POINTER(NvmeFound)
+bytes_of = (c_void_p, c_size_t)
 TYPES = {
     "crc16": (c_uint16, c_void_p, c_size_t),
     "crc16_after": (c_uint16, c_uint16, c_void_p, c_size_t),
@@ -101,6 +121,17 @@ TYPES = {
     "sense_find": (c_uint32, c_void_p, c_size_t, sense_at, number_at),
     "sense_check": (c_uint32, sense_at, number_at),
     "version": (c_uint32,),
+    "crc32c": (c_uint32, *bytes_of),
+    "crc32c_after": (c_uint32, c_uint32, *bytes_of),
+    "crc64_nvme": (c_uint64, *bytes_of),
+    "crc64_nvme_after": (c_uint64, c_uint64, *bytes_of),
+    "nvme_generate": (c_uint32, *bytes_of, nvme_layout_at, nvme_tags_at),
+    "nvme_verify": (c_uint32, *bytes_of, nvme_layout_at, nvme_want_at, c_uint64, nvme_found_at),
+    "nvme_remap": (c_uint32, *bytes_of, nvme_layout_at, c_uint64, c_uint64),
+    "nvme_insert": (c_uint32, *bytes_of, *bytes_of, nvme_layout_at, nvme_tags_at),
+    "nvme_strip": (c_uint32, *bytes_of, *bytes_of, nvme_layout_at, nvme_want_at, nvme_found_at),
+    "nvme_dix_generate": (c_uint32, *bytes_of, *bytes_of, nvme_layout_at, nvme_tags_at),
+    "nvme_dix_verify": (c_uint32, *bytes_of, *bytes_of, nvme_layout_at, nvme_want_at, c_uint64, nvme_found_at),
 }
 for name, (result, *arguments) in TYPES.items():
     function = getattr(dixpi, "dixpi_" + name)
@@ -264,6 +295,38 @@ holds("its numbers", bytes(back) == bytes(command))
 holds("command_decode, cut", dixpi.dixpi_command_decode(out, 15, back) == 3)
 asked = [dixpi.dixpi_protect_checks(protect) for protect in range(8)]
 holds("protect_checks", asked == [1, 14, 12, 1, 2, 14, 0, 0])
+
+# The guards of NVMe: the first four of CRC-32C are RFC 3720's.
+ups, downs = bytes(range(256)) * 16, bytes(range(255, -1, -1)) * 16
+for data, guard in ((bytes(32), 0x8A9136AA), (b"\xff" * 32, 0x62A8AB43), (ups[:32], 0x46DD794E), (downs[-32:], 0x113FDB5C)):
+    holds("crc32c", dixpi.dixpi_crc32c(memory(data), 32) == guard)
+for data, guard in ((NINE, 0xAE8B14860A799888), (ups, 0x3E729F5F6750449C), (downs, 0x9A2DF64B8E9E517E)):
+    holds("crc64_nvme", dixpi.dixpi_crc64_nvme(memory(data), len(data)) == guard)
+holds("crc32c_after", dixpi.dixpi_crc32c_after(dixpi.dixpi_crc32c(memory(NINE), 4), memory(NINE[4:]), 5) == 0xE3069283)
+part = dixpi.dixpi_crc64_nvme(memory(NINE), 4)
+holds("crc64_nvme_after", dixpi.dixpi_crc64_nvme_after(part, memory(NINE[4:]), 5) == 0xAE8B14860A799888)
+
+# Two blocks of 4,096 bytes with a guard of 64 bits, 16 bits of storage tag and 32 of reference tag.
+layout, tags = NvmeLayout(4096, 16, 0, 64, 1, 16), NvmeTags(0xFFFFFFFF, 0xBEEF, 0x1234)
+want, found = NvmeWant(0xFFFFFFFF, 0xBEEF, 0xFFFF, 0x1234, 0xFFFF, 30), NvmeFound()
+infos = [bytes.fromhex("3e729f5f6750449c 1234 beef ffffffff"), bytes.fromhex("9a2df64b8e9e517e 1234 beef 00000000")]
+wanted = ups + infos[0] + downs + infos[1]
+blocks, data, meta = memory(ups + bytes(16) + downs + bytes(16)), memory(ups + downs), memory(bytes(32))
+holds("nvme_generate", dixpi.dixpi_nvme_generate(blocks, 8224, layout, tags) == 0 and bytes(blocks) == wanted)
+holds("nvme_verify", dixpi.dixpi_nvme_verify(blocks, 8224, layout, want, 0, found) == 0)
+holds("nvme_dix_generate", dixpi.dixpi_nvme_dix_generate(data, 8192, meta, 32, layout, tags) == 0)
+holds("their bytes", bytes(meta) == infos[0] + infos[1])
+holds("nvme_dix_verify", dixpi.dixpi_nvme_dix_verify(data, 8192, meta, 32, layout, want, 0, found) == 0)
+others, copy = memory(bytes(8224)), memory(bytes(8192))
+holds("nvme_insert", dixpi.dixpi_nvme_insert(data, 8192, others, 8224, layout, tags) == 0 and bytes(others) == wanted)
+holds("nvme_strip", dixpi.dixpi_nvme_strip(others, 8224, copy, 8192, layout, want, found) == 0)
+holds("the data", bytes(copy) == ups + downs)
+holds("nvme_remap", dixpi.dixpi_nvme_remap(blocks, 8224, layout, 0xFFFFFFFF, 7) == 0)
+holds("its tags", bytes(blocks)[4108:4112] + bytes(blocks)[8220:] == bytes.fromhex("0000000700000008"))
+holds("nvme_verify, moved", dixpi.dixpi_nvme_verify(blocks, 8224, layout, want, 1, found) == 1)
+holds("the difference", (found.block, found.expected, found.actual, found.check) == (1, 0, 8, 8))
+layout.storage = 49
+holds("nvme_verify, a storage tag", dixpi.dixpi_nvme_verify(blocks, 8224, layout, want, 0, found) == 2)
 
 text = memory(b"x" * 80)
 
