@@ -2,9 +2,9 @@
 
 ghost use Rattle.std.specs.Prelude.{◌≡◌, ◌/◌, ◌⊎◌, ◌≤◌, ℕ, List, ◌++◌, length, true, false, if◌then◌else◌};
 ghost use Rattle.wide_guard.specs.Reflected.{crc32c, crc64};
-ghost use Rattle.wide_blocks.specs.Apart.{AreApart, RefusedApart};
-ghost use Rattle.wide_blocks.specs.Blocks.{AreFineFrom, IsFirst, apart, in_line};
-ghost use Rattle.wide_blocks.specs.Layouts.{AreBlocks, Refused, are_flags, fits_storage, has_reference, is_good, stride_of};
+ghost use Rattle.wide_blocks.specs.Apart.{AreWideApart, RefusedApart};
+ghost use Rattle.wide_blocks.specs.Blocks.{AreFineFrom, IsFirstWide, apart, in_line};
+ghost use Rattle.wide_blocks.specs.Layouts.{AreWideBlocks, Refused, are_flags, fits_storage, has_reference, is_good, stride_of};
 ghost use Rattle.wide_blocks.specs.Made.{made_apart, made_in_line};
 ghost use Rattle.wide_blocks.specs.Mapped.{all_mapped};
 ghost use Rattle.wide_blocks.specs.Moved.{inserted, stripped};
@@ -13,8 +13,8 @@ ghost use Rattle.dixpi.specs.Nvme.{ToldNvme, nvme_status};
 
 use crate::status::{BAD_FIELD, BAD_LAYOUT, BAD_LENGTH, DIFFERS, OK};
 use wide_blocks::{
-    NvmeFound, NvmeLayout, NvmeRefusal, NvmeTags, NvmeWant, generate, generate_apart, insert,
-    remap, strip, verify, verify_apart,
+    NvmeFound, NvmeLayout, NvmeRefusal, NvmeTags, NvmeWant, generate_apart, generate_wide,
+    insert_wide, remap_wide, strip_wide, verify_apart, verify_wide,
 };
 use wide_guard::{crc32c, crc32c_after, crc64, crc64_after};
 
@@ -84,15 +84,15 @@ pub extern "C" fn dixpi_nvme_generate(
     layout: &NvmeLayout,
     tags: &NvmeTags,
 ) -> u32
-    ensures made { result ≡ 0 → AreBlocks layout.now (length blocks.old) × (fits_storage layout.now tags.now.storage ≡ true)
+    ensures made { result ≡ 0 → AreWideBlocks layout.now (length blocks.old) × (fits_storage layout.now tags.now.storage ≡ true)
         × (blocks.new ≡ made_in_line layout.now tags.now (length blocks.old / stride_of layout.now) blocks.old) }
     ensures bad_layout { result ≡ 2 → is_good layout.now ≡ false }
     ensures bad_length { result ≡ 3 → Refused layout.now (length blocks.old) Length }
-    ensures bad_field { result ≡ 5 → AreBlocks layout.now (length blocks.old) × (fits_storage layout.now tags.now.storage ≡ false) }
+    ensures bad_field { result ≡ 5 → AreWideBlocks layout.now (length blocks.old) × (fits_storage layout.now tags.now.storage ≡ false) }
     ensures one_of { (result ≡ 0) ⊎ ((result ≡ 2) ⊎ ((result ≡ 3) ⊎ (result ≡ 5))) }
     ensures stays { ¬ (result ≡ 0) → blocks.new ≡ blocks.old }
 {
-    match generate(blocks, layout, tags) {
+    match generate_wide(blocks, layout, tags) {
         Ok(()) => OK,
         Err(why) => status_of_refusal(why),
     }
@@ -109,17 +109,17 @@ pub extern "C" fn dixpi_nvme_verify(
     start: u64,
     found: &mut NvmeFound,
 ) -> u32
-    ensures fine { result ≡ 0 → AreBlocks layout.now (length blocks.now) × (are_flags want.now.checks ≡ true)
+    ensures fine { result ≡ 0 → AreWideBlocks layout.now (length blocks.now) × (are_flags want.now.checks ≡ true)
         × AreFineFrom layout.now want.now (in_line layout.now blocks.now) start (length blocks.now / stride_of layout.now) }
-    ensures differs { result ≡ 1 → AreBlocks layout.now (length blocks.now) × (are_flags want.now.checks ≡ true)
-        × IsFirst layout.now want.now (in_line layout.now blocks.now) start (length blocks.now / stride_of layout.now) found.new }
+    ensures differs { result ≡ 1 → AreWideBlocks layout.now (length blocks.now) × (are_flags want.now.checks ≡ true)
+        × IsFirstWide layout.now want.now (in_line layout.now blocks.now) start (length blocks.now / stride_of layout.now) found.new }
     ensures bad_layout { result ≡ 2 → is_good layout.now ≡ false }
     ensures bad_length { result ≡ 3 → Refused layout.now (length blocks.now) Length }
-    ensures bad_field { result ≡ 5 → AreBlocks layout.now (length blocks.now) × (are_flags want.now.checks ≡ false) }
+    ensures bad_field { result ≡ 5 → AreWideBlocks layout.now (length blocks.now) × (are_flags want.now.checks ≡ false) }
     ensures one_of { (result ≤ 3) ⊎ (result ≡ 5) }
     ensures stays { ¬ (result ≡ 1) → found.new ≡ found.old }
 {
-    told(verify(blocks, layout, want, start), found)
+    told(verify_wide(blocks, layout, want, start), found)
 }
 
 /// Maps reference tags in place, in types 1 and 2: the tag of block `i`, where it is `from + i`, becomes `to + i`, both
@@ -131,14 +131,14 @@ pub extern "C" fn dixpi_nvme_remap(
     from: u64,
     to: u64,
 ) -> u32
-    ensures mapped { result ≡ 0 → AreBlocks layout.now (length blocks.old)
+    ensures mapped { result ≡ 0 → AreWideBlocks layout.now (length blocks.old)
         × (blocks.new ≡ (if has_reference layout.now then all_mapped layout.now from to (length blocks.old / stride_of layout.now) blocks.old else blocks.old)) }
     ensures bad_layout { result ≡ 2 → is_good layout.now ≡ false }
     ensures bad_length { result ≡ 3 → Refused layout.now (length blocks.old) Length }
     ensures one_of { (result ≡ 0) ⊎ ((result ≡ 2) ⊎ (result ≡ 3)) }
     ensures stays { ¬ (result ≡ 0) → blocks.new ≡ blocks.old }
 {
-    match remap(blocks, layout, from, to) {
+    match remap_wide(blocks, layout, from, to) {
         Ok(()) => OK,
         Err(why) => status_of_refusal(why),
     }
@@ -153,17 +153,17 @@ pub extern "C" fn dixpi_nvme_insert(
     layout: &NvmeLayout,
     tags: &NvmeTags,
 ) -> u32
-    ensures made { result ≡ 0 → AreApart layout.now (stride_of layout.now) (length body.now) (length blocks.old)
+    ensures made { result ≡ 0 → AreWideApart layout.now (stride_of layout.now) (length body.now) (length blocks.old)
         × (fits_storage layout.now tags.now.storage ≡ true)
         × (blocks.new ≡ inserted layout.now tags.now (length blocks.old / stride_of layout.now) body.now blocks.old) }
     ensures bad_layout { result ≡ 2 → is_good layout.now ≡ false }
     ensures bad_length { result ≡ 3 → RefusedApart layout.now (stride_of layout.now) (length body.now) (length blocks.old) Length }
-    ensures bad_field { result ≡ 5 → AreApart layout.now (stride_of layout.now) (length body.now) (length blocks.old)
+    ensures bad_field { result ≡ 5 → AreWideApart layout.now (stride_of layout.now) (length body.now) (length blocks.old)
         × (fits_storage layout.now tags.now.storage ≡ false) }
     ensures one_of { (result ≡ 0) ⊎ ((result ≡ 2) ⊎ ((result ≡ 3) ⊎ (result ≡ 5))) }
     ensures stays { ¬ (result ≡ 0) → blocks.new ≡ blocks.old }
 {
-    match insert(body, blocks, layout, tags) {
+    match insert_wide(body, blocks, layout, tags) {
         Ok(()) => OK,
         Err(why) => status_of_refusal(why),
     }
@@ -179,21 +179,21 @@ pub extern "C" fn dixpi_nvme_strip(
     want: &NvmeWant,
     found: &mut NvmeFound,
 ) -> u32
-    ensures fine { result ≡ 0 → AreApart layout.now (stride_of layout.now) (length body.old) (length blocks.now) × (are_flags want.now.checks ≡ true)
+    ensures fine { result ≡ 0 → AreWideApart layout.now (stride_of layout.now) (length body.old) (length blocks.now) × (are_flags want.now.checks ≡ true)
         × AreFineFrom layout.now want.now (in_line layout.now blocks.now) 0 (length blocks.now / stride_of layout.now)
         × (body.new ≡ stripped layout.now (length blocks.now / stride_of layout.now) blocks.now body.old) }
-    ensures differs { result ≡ 1 → AreApart layout.now (stride_of layout.now) (length body.old) (length blocks.now) × (are_flags want.now.checks ≡ true)
-        × IsFirst layout.now want.now (in_line layout.now blocks.now) 0 (length blocks.now / stride_of layout.now) found.new
+    ensures differs { result ≡ 1 → AreWideApart layout.now (stride_of layout.now) (length body.old) (length blocks.now) × (are_flags want.now.checks ≡ true)
+        × IsFirstWide layout.now want.now (in_line layout.now blocks.now) 0 (length blocks.now / stride_of layout.now) found.new
         × (body.new ≡ stripped layout.now found.new.block blocks.now body.old) }
     ensures bad_layout { result ≡ 2 → is_good layout.now ≡ false }
     ensures bad_length { result ≡ 3 → RefusedApart layout.now (stride_of layout.now) (length body.old) (length blocks.now) Length }
-    ensures bad_field { result ≡ 5 → AreApart layout.now (stride_of layout.now) (length body.old) (length blocks.now)
+    ensures bad_field { result ≡ 5 → AreWideApart layout.now (stride_of layout.now) (length body.old) (length blocks.now)
         × (are_flags want.now.checks ≡ false) }
     ensures one_of { (result ≤ 3) ⊎ (result ≡ 5) }
     ensures stays { ¬ (result ≡ 1) → found.new ≡ found.old }
     ensures refused { ¬ (result ≤ 1) → body.new ≡ body.old }
 {
-    told(strip(blocks, body, layout, want), found)
+    told(strip_wide(blocks, body, layout, want), found)
 }
 
 /// Makes the information of blocks whose metadata lie in a buffer of their own, as `dixpi_nvme_generate` does. Only the
@@ -205,12 +205,12 @@ pub extern "C" fn dixpi_nvme_dix_generate(
     layout: &NvmeLayout,
     tags: &NvmeTags,
 ) -> u32
-    ensures made { result ≡ 0 → AreApart layout.now layout.now.meta_size (length body.now) (length meta.old)
+    ensures made { result ≡ 0 → AreWideApart layout.now layout.now.meta_size (length body.now) (length meta.old)
         × (fits_storage layout.now tags.now.storage ≡ true)
         × (meta.new ≡ made_apart layout.now tags.now (length meta.old / layout.now.meta_size) body.now meta.old) }
     ensures bad_layout { result ≡ 2 → is_good layout.now ≡ false }
     ensures bad_length { result ≡ 3 → RefusedApart layout.now layout.now.meta_size (length body.now) (length meta.old) Length }
-    ensures bad_field { result ≡ 5 → AreApart layout.now layout.now.meta_size (length body.now) (length meta.old)
+    ensures bad_field { result ≡ 5 → AreWideApart layout.now layout.now.meta_size (length body.now) (length meta.old)
         × (fits_storage layout.now tags.now.storage ≡ false) }
     ensures one_of { (result ≡ 0) ⊎ ((result ≡ 2) ⊎ ((result ≡ 3) ⊎ (result ≡ 5))) }
     ensures stays { ¬ (result ≡ 0) → meta.new ≡ meta.old }
@@ -231,13 +231,13 @@ pub extern "C" fn dixpi_nvme_dix_verify(
     start: u64,
     found: &mut NvmeFound,
 ) -> u32
-    ensures fine { result ≡ 0 → AreApart layout.now layout.now.meta_size (length body.now) (length meta.now) × (are_flags want.now.checks ≡ true)
+    ensures fine { result ≡ 0 → AreWideApart layout.now layout.now.meta_size (length body.now) (length meta.now) × (are_flags want.now.checks ≡ true)
         × AreFineFrom layout.now want.now (apart layout.now body.now meta.now) start (length meta.now / layout.now.meta_size) }
-    ensures differs { result ≡ 1 → AreApart layout.now layout.now.meta_size (length body.now) (length meta.now) × (are_flags want.now.checks ≡ true)
-        × IsFirst layout.now want.now (apart layout.now body.now meta.now) start (length meta.now / layout.now.meta_size) found.new }
+    ensures differs { result ≡ 1 → AreWideApart layout.now layout.now.meta_size (length body.now) (length meta.now) × (are_flags want.now.checks ≡ true)
+        × IsFirstWide layout.now want.now (apart layout.now body.now meta.now) start (length meta.now / layout.now.meta_size) found.new }
     ensures bad_layout { result ≡ 2 → is_good layout.now ≡ false }
     ensures bad_length { result ≡ 3 → RefusedApart layout.now layout.now.meta_size (length body.now) (length meta.now) Length }
-    ensures bad_field { result ≡ 5 → AreApart layout.now layout.now.meta_size (length body.now) (length meta.now)
+    ensures bad_field { result ≡ 5 → AreWideApart layout.now layout.now.meta_size (length body.now) (length meta.now)
         × (are_flags want.now.checks ≡ false) }
     ensures one_of { (result ≤ 3) ⊎ (result ≡ 5) }
     ensures stays { ¬ (result ≡ 1) → found.new ≡ found.old }

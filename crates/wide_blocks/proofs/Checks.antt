@@ -5,11 +5,11 @@ use Rattle.wide_blocks.specs.declared.block.NvmeFound.{NvmeFound}
 use Rattle.wide_blocks.specs.declared.block.NvmeWant.{NvmeWant}
 use Rattle.wide_blocks.specs.declared.information.Information.{Information}
 use Rattle.wide_blocks.specs.declared.layout.NvmeLayout.{NvmeLayout}
-use Rattle.wide_blocks.specs.Blocks.{AreFineFrom, Block, apart, compared, guard_of, in_line, looked}
+use Rattle.wide_blocks.specs.Blocks.{AreFineFrom, WideBlock, apart, compared, guard_of, in_line, looked}
 use Rattle.wide_blocks.specs.Information.{info_in}
 use Rattle.wide_blocks.specs.Layouts.{covered_of, info_at, stride_of}
 
-pub one_more : (l : NvmeLayout) (w : NvmeWant) (blocks : ℕ → Block) (start n : ℕ) → AreFineFrom l w blocks start n → looked l w blocks n ≡ None → AreFineFrom l w blocks start (n + 1)
+pub one_more : (l : NvmeLayout) (w : NvmeWant) (blocks : ℕ → WideBlock) (start n : ℕ) → AreFineFrom l w blocks start n → looked l w blocks n ≡ None → AreFineFrom l w blocks start (n + 1)
 one_more l w blocks start n h e k from lt =
     ⊎_elim (λ (below : k < n). h k from below) (λ (above : n ≤ k). let same : k ≡ n = omega arith in subst (λ m. looked l w blocks m ≡ None) (sym same) e) (cases_lt k n)
 

@@ -4,7 +4,7 @@ use Rattle.std.proofs.lemmas.Bool.Decides.{nat_tests}
 use Rattle.std.proofs.lemmas.List.{length-drop, length-take-le, take-append-drop}
 use Rattle.wide_blocks.specs.declared.layout.NvmeLayout.{NvmeLayout}
 use Rattle.wide_blocks.specs.declared.making.NvmeTags.{NvmeTags}
-use Rattle.wide_blocks.specs.Blocks.{Block, apart, guard_of, in_line}
+use Rattle.wide_blocks.specs.Blocks.{WideBlock, apart, guard_of, in_line}
 use Rattle.wide_blocks.specs.Information.{info_bytes, info_in}
 use Rattle.wide_blocks.specs.Layouts.{covered_of, info_at, is_good, reference_bits, stride_of}
 use Rattle.wide_blocks.specs.Made.{made_bytes, made_info, own_reference, place_apart, place_in_line}
@@ -19,7 +19,7 @@ pub room : (l : NvmeLayout) → is_good l ≡ true → info_at l + 16 ≤ l.meta
 room l h = grind (arith, nat_tests)
 
 -- the information that is made looks at nothing but the guarded bytes
-pub made_by_guarded : (l : NvmeLayout) (tags : NvmeTags) (blocks others : ℕ → Block) (i : ℕ) → (blocks i).guarded ≡ (others i).guarded → made_bytes l tags blocks i ≡ made_bytes l tags others i
+pub made_by_guarded : (l : NvmeLayout) (tags : NvmeTags) (blocks others : ℕ → WideBlock) (i : ℕ) → (blocks i).guarded ≡ (others i).guarded → made_bytes l tags blocks i ≡ made_bytes l tags others i
 made_by_guarded l tags blocks others i e = ap (λ (b : List ℕ). info_bytes l (record { guard = guard_of l b; app = tags.app; storage = tags.storage; reference = own_reference l tags i })) e
 
 -- what the loop keeps

@@ -5,7 +5,7 @@ use Rattle.wide_blocks.specs.declared.layout.NvmeRefusal.TheVariants.{Field, Lay
 use Rattle.wide_blocks.specs.Layouts.{is_good}
 
 -- so many bytes are whole pieces of this size, and as many pieces of data as there are of these
-pub record AreApart (l : NvmeLayout) (size body all : ℕ) : Type 0 where
+pub record AreWideApart (l : NvmeLayout) (size body all : ℕ) : Type 0 where
   pub good : is_good l ≡ true
   pub even : all % size ≡ 0
   pub same : body ≡ all / size * l.data_size

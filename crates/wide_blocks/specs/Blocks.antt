@@ -8,16 +8,16 @@ use Rattle.wide_blocks.specs.Information.{info_in}
 use Rattle.wide_blocks.specs.Layouts.{covered_of, has_reference, info_at, reference_bits, stride_of}
 
 -- a block as its check sees it: the bytes that its guard is of, and the sixteen of its information
-pub record Block : Type 0 where
+pub record WideBlock : Type 0 where
   pub guarded : List ℕ
   pub info : List ℕ
 
 -- block i of blocks that lie one after another, each with its metadata behind its data
-abbrev pub in_line : NvmeLayout → List ℕ → ℕ → Block
+abbrev pub in_line : NvmeLayout → List ℕ → ℕ → WideBlock
 in_line l bytes i = record { guarded = take (covered_of l) (drop (i * stride_of l) bytes); info = take 16 (drop (i * stride_of l + covered_of l) bytes) }
 
 -- block i of data and metadata in buffers of their own
-abbrev pub apart : NvmeLayout → List ℕ → List ℕ → ℕ → Block
+abbrev pub apart : NvmeLayout → List ℕ → List ℕ → ℕ → WideBlock
 apart l body meta i = record {
   guarded = take l.data_size (drop (i * l.data_size) body) ++ take (info_at l) (drop (i * l.meta_size) meta);
   info = take 16 (drop (i * l.meta_size + info_at l) meta);
@@ -76,21 +76,21 @@ compared l w i guard t =
     else (if (storage_check w t).differs then Some (told_of i (storage_check w t))
     else (if (ref_check l w i t).differs then Some (told_of i (ref_check l w i t)) else None))))
 
-abbrev pub looked : NvmeLayout → NvmeWant → (ℕ → Block) → ℕ → Option NvmeFound
+abbrev pub looked : NvmeLayout → NvmeWant → (ℕ → WideBlock) → ℕ → Option NvmeFound
 looked l w blocks i = compared l w i (guard_of l (blocks i).guarded) (info_in l (blocks i).info)
 
 -- none of n blocks differs, from this one on
-abbrev pub AreFineFrom : NvmeLayout → NvmeWant → (ℕ → Block) → (start n : ℕ) → Type 0
+abbrev pub AreFineFrom : NvmeLayout → NvmeWant → (ℕ → WideBlock) → (start n : ℕ) → Type 0
 AreFineFrom l w blocks start n = (k : ℕ) → start ≤ k → k < n → looked l w blocks k ≡ None
 
 -- the first of n blocks to differ is told, from this one on
-pub record IsFirst (l : NvmeLayout) (w : NvmeWant) (blocks : ℕ → Block) (start n : ℕ) (told : NvmeFound) : Type 0 where
+pub record IsFirstWide (l : NvmeLayout) (w : NvmeWant) (blocks : ℕ → WideBlock) (start n : ℕ) (told : NvmeFound) : Type 0 where
   pub behind : start ≤ told.block
   pub inside : told.block < n
   pub differs : looked l w blocks told.block ≡ Some told
   pub first : AreFineFrom l w blocks start told.block
 
 -- what a check of n blocks answers, from this one on
-abbrev pub Checked : NvmeLayout → NvmeWant → (ℕ → Block) → (start n : ℕ) → Option NvmeFound → Type 0
+abbrev pub Checked : NvmeLayout → NvmeWant → (ℕ → WideBlock) → (start n : ℕ) → Option NvmeFound → Type 0
 Checked l w blocks start n None = AreFineFrom l w blocks start n
-Checked l w blocks start n (Some told) = IsFirst l w blocks start n told
+Checked l w blocks start n (Some told) = IsFirstWide l w blocks start n told

@@ -30,7 +30,7 @@ abbrev pub has_reference : NvmeLayout → Bool
 has_reference l = not (eqb l.pi_type 3)
 
 -- the layout is good, and so many bytes are whole blocks of it
-pub record AreBlocks (l : NvmeLayout) (len : ℕ) : Type 0 where
+pub record AreWideBlocks (l : NvmeLayout) (len : ℕ) : Type 0 where
   pub good : is_good l ≡ true
   pub even : len % stride_of l ≡ 0
 

@@ -3,7 +3,7 @@ use Rattle.pi_blocks.specs.Puts.{all_put}
 use Rattle.wide_blocks.specs.declared.information.Information.{Information}
 use Rattle.wide_blocks.specs.declared.layout.NvmeLayout.{NvmeLayout}
 use Rattle.wide_blocks.specs.declared.making.NvmeTags.{NvmeTags}
-use Rattle.wide_blocks.specs.Blocks.{Block, apart, guard_of, in_line}
+use Rattle.wide_blocks.specs.Blocks.{WideBlock, apart, guard_of, in_line}
 use Rattle.wide_blocks.specs.Information.{info_bytes}
 use Rattle.wide_blocks.specs.Layouts.{covered_of, has_reference, info_at, reference_bits, stride_of}
 
@@ -12,10 +12,10 @@ abbrev pub own_reference : NvmeLayout → NvmeTags → ℕ → ℕ
 own_reference l tags i = if has_reference l then (tags.first_ref + i) % 2 ^ reference_bits l else 0
 
 -- the information that is made for block i
-abbrev pub made_info : NvmeLayout → NvmeTags → (ℕ → Block) → ℕ → Information
+abbrev pub made_info : NvmeLayout → NvmeTags → (ℕ → WideBlock) → ℕ → Information
 made_info l tags blocks i = record { guard = guard_of l (blocks i).guarded; app = tags.app; storage = tags.storage; reference = own_reference l tags i }
 
-abbrev pub made_bytes : NvmeLayout → NvmeTags → (ℕ → Block) → ℕ → List ℕ
+abbrev pub made_bytes : NvmeLayout → NvmeTags → (ℕ → WideBlock) → ℕ → List ℕ
 made_bytes l tags blocks i = info_bytes l (made_info l tags blocks i)
 
 -- where the information of block i begins, behind its data or in metadata alone

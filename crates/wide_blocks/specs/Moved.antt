@@ -3,7 +3,7 @@ use Rattle.pi_blocks.specs.Puts.{all_put, put_at}
 use Rattle.wide_blocks.specs.declared.block.NvmeFound.{NvmeFound}
 use Rattle.wide_blocks.specs.declared.layout.NvmeLayout.{NvmeLayout}
 use Rattle.wide_blocks.specs.declared.making.NvmeTags.{NvmeTags}
-use Rattle.wide_blocks.specs.Blocks.{Block}
+use Rattle.wide_blocks.specs.Blocks.{WideBlock}
 use Rattle.wide_blocks.specs.Layouts.{info_at, stride_of}
 use Rattle.wide_blocks.specs.Made.{made_bytes}
 
@@ -15,7 +15,7 @@ abbrev pub meta_of : NvmeLayout → List ℕ → ℕ → List ℕ
 meta_of l bytes i = take l.meta_size (drop (i * stride_of l + l.data_size) bytes)
 
 -- the block that data and metadata are
-abbrev pub joined_block : NvmeLayout → List ℕ → List ℕ → ℕ → Block
+abbrev pub joined_block : NvmeLayout → List ℕ → List ℕ → ℕ → WideBlock
 joined_block l body bytes i = record { guarded = data_of l body i ++ take (info_at l) (meta_of l bytes i); info = take 16 (drop (info_at l) (meta_of l bytes i)) }
 
 -- a block with its data inserted: the data, and the metadata that was there, in which the information is made

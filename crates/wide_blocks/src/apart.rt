@@ -2,7 +2,7 @@
 
 ghost use Rattle.std.specs.Prelude.{◌≡◌, ◌+◌, ◌*◌, ◌/◌, ◌≤◌, length, take, true, IfErr, IfOk, IfSome, OnOk, ◌++◌};
 ghost use Rattle.pi_blocks.specs.Puts.{put_at};
-ghost use Rattle.wide_blocks.specs.Apart.{AreApart, RefusedApart};
+ghost use Rattle.wide_blocks.specs.Apart.{AreWideApart, RefusedApart};
 ghost use Rattle.wide_blocks.specs.Blocks.{Checked, apart, guard_of, looked};
 ghost use Rattle.wide_blocks.specs.Layouts.{NotDone, are_flags, fits_storage, info_at, is_good};
 ghost use Rattle.wide_blocks.specs.Made.{made_apart, made_bytes, place_apart};
@@ -49,9 +49,9 @@ pub fn verify_apart(
     want: &NvmeWant,
     start: u64,
 ) -> Result<Option<NvmeFound>, NvmeRefusal>
-    ensures checked { IfOk result (λ found. AreApart layout.now layout.now.meta_size (length body.now) (length meta.now) × (are_flags want.now.checks ≡ true)
+    ensures checked { IfOk result (λ found. AreWideApart layout.now layout.now.meta_size (length body.now) (length meta.now) × (are_flags want.now.checks ≡ true)
         × Checked layout.now want.now (apart layout.now body.now meta.now) start (length meta.now / layout.now.meta_size) found) }
-    ensures refused { IfErr result (NotDone (AreApart layout.now layout.now.meta_size (length body.now) (length meta.now))
+    ensures refused { IfErr result (NotDone (AreWideApart layout.now layout.now.meta_size (length body.now) (length meta.now))
         (RefusedApart layout.now layout.now.meta_size (length body.now) (length meta.now)) (are_flags want.now.checks)) }
 {
     let layout = *layout;
@@ -76,9 +76,9 @@ pub fn generate_apart(
     layout: &NvmeLayout,
     tags: &NvmeTags,
 ) -> Result<(), NvmeRefusal>
-    ensures made { OnOk result (AreApart layout.now layout.now.meta_size (length body.now) (length meta.old) × (fits_storage layout.now tags.now.storage ≡ true)
+    ensures made { OnOk result (AreWideApart layout.now layout.now.meta_size (length body.now) (length meta.old) × (fits_storage layout.now tags.now.storage ≡ true)
         × (meta.new ≡ made_apart layout.now tags.now (length meta.old / layout.now.meta_size) body.now meta.old)) }
-    ensures refused { IfErr result (λ e. NotDone (AreApart layout.now layout.now.meta_size (length body.now) (length meta.old))
+    ensures refused { IfErr result (λ e. NotDone (AreWideApart layout.now layout.now.meta_size (length body.now) (length meta.old))
         (RefusedApart layout.now layout.now.meta_size (length body.now) (length meta.old)) (fits_storage layout.now tags.now.storage) e × (meta.new ≡ meta.old)) }
 {
     let layout = *layout;

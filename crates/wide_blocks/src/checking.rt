@@ -2,7 +2,7 @@
 
 ghost use Rattle.std.specs.Prelude.{◌≡◌, ◌+◌, ◌*◌, ◌/◌, ◌≤◌, length, true, IfErr, IfOk, IfSome};
 ghost use Rattle.wide_blocks.specs.Blocks.{Checked, in_line, looked};
-ghost use Rattle.wide_blocks.specs.Layouts.{AreBlocks, NotDone, Refused, are_flags, is_good, stride_of};
+ghost use Rattle.wide_blocks.specs.Layouts.{AreWideBlocks, NotDone, Refused, are_flags, is_good, stride_of};
 
 use crate::block::{compare, guard_of};
 use crate::information::info_at;
@@ -24,16 +24,16 @@ pub(crate) fn look(blocks: &[u8], layout: NvmeLayout, want: NvmeWant, i: usize) 
 /// Checks blocks that lie one after another, each with its metadata behind its data, from block `start` on, and answers
 /// the first difference, or `None` where there is none. Block and tag count from the first block on, whatever the start.
 /// An escape differs in nothing: application tag FFFFh, and in type 3 a storage and reference space of all ones too.
-pub fn verify(
+pub fn verify_wide(
     blocks: &[u8],
     layout: &NvmeLayout,
     want: &NvmeWant,
     start: u64,
 ) -> Result<Option<NvmeFound>, NvmeRefusal>
-    ensures checked { IfOk result (λ found. AreBlocks layout.now (length blocks.now) × (are_flags want.now.checks ≡ true)
+    ensures checked { IfOk result (λ found. AreWideBlocks layout.now (length blocks.now) × (are_flags want.now.checks ≡ true)
         × Checked layout.now want.now (in_line layout.now blocks.now) start
         (length blocks.now / stride_of layout.now) found) }
-    ensures refused { IfErr result (NotDone (AreBlocks layout.now (length blocks.now)) (Refused layout.now (length blocks.now))
+    ensures refused { IfErr result (NotDone (AreWideBlocks layout.now (length blocks.now)) (Refused layout.now (length blocks.now))
         (are_flags want.now.checks)) }
 {
     let layout = *layout;

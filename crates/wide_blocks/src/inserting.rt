@@ -2,7 +2,7 @@
 
 ghost use Rattle.std.specs.Prelude.{◌≡◌, ◌+◌, ◌*◌, ◌/◌, ◌≤◌, length, true, IfErr, IfOk, OnOk};
 ghost use Rattle.pi_blocks.specs.Puts.{put_at};
-ghost use Rattle.wide_blocks.specs.Apart.{AreApart, RefusedApart};
+ghost use Rattle.wide_blocks.specs.Apart.{AreWideApart, RefusedApart};
 ghost use Rattle.wide_blocks.specs.Layouts.{NotDone, fits_storage, is_good, stride_of};
 ghost use Rattle.wide_blocks.specs.Moved.{block_at, data_of, inserted, inserted_block};
 
@@ -17,7 +17,7 @@ pub(crate) fn count_pieces(
     all: usize,
 ) -> Result<usize, NvmeRefusal>
     requires { is_good layout ≡ true → 16 ≤ size }
-    ensures count { IfOk result (λ n. AreApart layout size body all × (n ≡ all / size)) }
+    ensures count { IfOk result (λ n. AreWideApart layout size body all × (n ≡ all / size)) }
     ensures refused { IfErr result (λ e. RefusedApart layout size body all e) }
 {
     if !layout.is_good() {
@@ -37,7 +37,7 @@ pub(crate) fn count_blocks(
     body: usize,
     blocks: usize,
 ) -> Result<usize, NvmeRefusal>
-    ensures count { IfOk result (λ n. AreApart layout (stride_of layout) body blocks × (n ≡ blocks / stride_of layout)) }
+    ensures count { IfOk result (λ n. AreWideApart layout (stride_of layout) body blocks × (n ≡ blocks / stride_of layout)) }
     ensures refused { IfErr result (λ e. RefusedApart layout (stride_of layout) body blocks e) }
 {
     count_pieces(layout, layout.stride(), body, blocks)
@@ -68,15 +68,15 @@ fn fill(body: &[u8], blocks: &mut [u8], layout: NvmeLayout, i: usize, tags: Nvme
 
 /// Copies data to blocks that lie one after another, and makes each block's information as `generate` does. Of the
 /// metadata every other byte stays. Where the call is refused, all bytes stay.
-pub fn insert(
+pub fn insert_wide(
     body: &[u8],
     blocks: &mut [u8],
     layout: &NvmeLayout,
     tags: &NvmeTags,
 ) -> Result<(), NvmeRefusal>
-    ensures made { OnOk result (AreApart layout.now (stride_of layout.now) (length body.now) (length blocks.old) × (fits_storage layout.now tags.now.storage ≡ true)
+    ensures made { OnOk result (AreWideApart layout.now (stride_of layout.now) (length body.now) (length blocks.old) × (fits_storage layout.now tags.now.storage ≡ true)
         × (blocks.new ≡ inserted layout.now tags.now (length blocks.old / stride_of layout.now) body.now blocks.old)) }
-    ensures refused { IfErr result (λ e. NotDone (AreApart layout.now (stride_of layout.now) (length body.now) (length blocks.old))
+    ensures refused { IfErr result (λ e. NotDone (AreWideApart layout.now (stride_of layout.now) (length body.now) (length blocks.old))
         (RefusedApart layout.now (stride_of layout.now) (length body.now) (length blocks.old)) (fits_storage layout.now tags.now.storage) e × (blocks.new ≡ blocks.old)) }
 {
     let layout = *layout;

@@ -1,7 +1,7 @@
 //! Where blocks and their protection information lie.
 
 ghost use Rattle.std.specs.Prelude.{◌≡◌, ◌/◌, true, IfErr, IfOk};
-ghost use Rattle.wide_blocks.specs.Layouts.{AreBlocks, Refused, are_widths, covered_of, has_reference, info_at, is_good, reference_bits, stride_of};
+ghost use Rattle.wide_blocks.specs.Layouts.{AreWideBlocks, Refused, are_widths, covered_of, has_reference, info_at, is_good, reference_bits, stride_of};
 
 /// The layout of a block: its data, and its metadata with the sixteen bytes of protection information.
 #[repr(C)]
@@ -100,7 +100,7 @@ impl NvmeLayout {
 
     /// How many blocks with their metadata behind them so many bytes are.
     pub(crate) fn count(self, len: usize) -> Result<usize, NvmeRefusal>
-        ensures count { IfOk result (λ n. AreBlocks self len × (n ≡ len / stride_of self)) }
+        ensures count { IfOk result (λ n. AreWideBlocks self len × (n ≡ len / stride_of self)) }
         ensures refused { IfErr result (λ e. Refused self len e) }
     {
         if !self.is_good() {

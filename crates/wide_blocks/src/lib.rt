@@ -17,9 +17,9 @@ mod stripping;
 
 pub use apart::{generate_apart, verify_apart};
 pub use block::{NvmeFound, NvmeWant};
-pub use checking::verify;
-pub use inserting::insert;
+pub use checking::verify_wide;
+pub use inserting::insert_wide;
 pub use layout::{NvmeLayout, NvmeRefusal};
-pub use making::{NvmeTags, generate};
-pub use mapping::remap;
-pub use stripping::strip;
+pub use making::{NvmeTags, generate_wide};
+pub use mapping::remap_wide;
+pub use stripping::strip_wide;

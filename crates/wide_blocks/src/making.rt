@@ -4,7 +4,7 @@ ghost use Rattle.std.specs.Prelude.{◌≡◌, ◌+◌, ◌*◌, ◌/◌, ◌≤
 ghost use Rattle.pi_blocks.specs.Puts.{put_at};
 ghost use Rattle.wide_blocks.specs.Blocks.{guard_of, in_line};
 ghost use Rattle.wide_blocks.specs.Information.{info_bytes};
-ghost use Rattle.wide_blocks.specs.Layouts.{AreBlocks, NotDone, Refused, fits_storage, is_good, stride_of};
+ghost use Rattle.wide_blocks.specs.Layouts.{AreWideBlocks, NotDone, Refused, fits_storage, is_good, stride_of};
 ghost use Rattle.wide_blocks.specs.Made.{made_bytes, made_in_line, own_reference, place_in_line};
 
 use crate::block::{guard_of, reference_of};
@@ -73,10 +73,14 @@ pub(crate) fn make(blocks: &mut [u8], layout: NvmeLayout, i: usize, tags: NvmeTa
 /// Makes the information of blocks that lie one after another, each with its metadata behind its data: the guard, the
 /// application tag, the storage tag, and as reference tag `first_ref + i` for block `i`, modulo its width, in types 1 and
 /// 2, and 0 in type 3. Every other byte stays. Where the call is refused, all bytes stay.
-pub fn generate(blocks: &mut [u8], layout: &NvmeLayout, tags: &NvmeTags) -> Result<(), NvmeRefusal>
-    ensures made { OnOk result (AreBlocks layout.now (length blocks.old) × (fits_storage layout.now tags.now.storage ≡ true)
+pub fn generate_wide(
+    blocks: &mut [u8],
+    layout: &NvmeLayout,
+    tags: &NvmeTags,
+) -> Result<(), NvmeRefusal>
+    ensures made { OnOk result (AreWideBlocks layout.now (length blocks.old) × (fits_storage layout.now tags.now.storage ≡ true)
         × (blocks.new ≡ made_in_line layout.now tags.now (length blocks.old / stride_of layout.now) blocks.old)) }
-    ensures refused { IfErr result (λ e. NotDone (AreBlocks layout.now (length blocks.old)) (Refused layout.now (length blocks.old))
+    ensures refused { IfErr result (λ e. NotDone (AreWideBlocks layout.now (length blocks.old)) (Refused layout.now (length blocks.old))
         (fits_storage layout.now tags.now.storage) e × (blocks.new ≡ blocks.old)) }
 {
     let layout = *layout;

@@ -2,7 +2,7 @@
 
 ghost use Rattle.std.specs.Prelude.{◌≡◌, ◌+◌, ◌*◌, ◌/◌, ◌≤◌, length, true, take, drop, if◌then◌else◌, IfErr, OnOk};
 ghost use Rattle.pi_blocks.specs.Puts.{put_at};
-ghost use Rattle.wide_blocks.specs.Layouts.{AreBlocks, Refused, has_reference, is_good, stride_of};
+ghost use Rattle.wide_blocks.specs.Layouts.{AreWideBlocks, Refused, has_reference, is_good, stride_of};
 ghost use Rattle.wide_blocks.specs.Made.{place_in_line};
 ghost use Rattle.wide_blocks.specs.Mapped.{all_mapped, exchanged};
 
@@ -39,8 +39,13 @@ fn exchange_all(blocks: &mut [u8], layout: NvmeLayout, count: usize, from: u64, 
 /// Maps the reference tags of blocks that lie one after another, in types 1 and 2: the tag of block `i`, where it is
 /// `from + i`, becomes `to + i`, both modulo its width. Every other tag and every other byte stays. Where the call is
 /// refused, all bytes stay.
-pub fn remap(blocks: &mut [u8], layout: &NvmeLayout, from: u64, to: u64) -> Result<(), NvmeRefusal>
-    ensures mapped { OnOk result (AreBlocks layout.now (length blocks.old)
+pub fn remap_wide(
+    blocks: &mut [u8],
+    layout: &NvmeLayout,
+    from: u64,
+    to: u64,
+) -> Result<(), NvmeRefusal>
+    ensures mapped { OnOk result (AreWideBlocks layout.now (length blocks.old)
         × (blocks.new ≡ (if has_reference layout.now then all_mapped layout.now from to (length blocks.old / stride_of layout.now) blocks.old else blocks.old))) }
     ensures refused { IfErr result (λ e. Refused layout.now (length blocks.old) e × (blocks.new ≡ blocks.old)) }
 {

@@ -2,7 +2,7 @@
 
 ghost use Rattle.std.specs.Prelude.{◌≡◌, ◌+◌, ◌*◌, ◌/◌, ◌≤◌, length, true, IfErr, IfOk};
 ghost use Rattle.pi_blocks.specs.Puts.{put_at};
-ghost use Rattle.wide_blocks.specs.Apart.{AreApart, RefusedApart};
+ghost use Rattle.wide_blocks.specs.Apart.{AreWideApart, RefusedApart};
 ghost use Rattle.wide_blocks.specs.Blocks.{Checked, in_line};
 ghost use Rattle.wide_blocks.specs.Layouts.{NotDone, are_flags, is_good, stride_of};
 ghost use Rattle.wide_blocks.specs.Moved.{data_at, good_before, stripped, stripped_block};
@@ -25,16 +25,16 @@ fn copy(blocks: &[u8], body: &mut [u8], layout: NvmeLayout, i: usize)
 
 /// Checks blocks as `verify` does, and copies the data of each until one differs. Of that block on, the bytes of `body`
 /// stay. Where the call is refused, all bytes stay.
-pub fn strip(
+pub fn strip_wide(
     blocks: &[u8],
     body: &mut [u8],
     layout: &NvmeLayout,
     want: &NvmeWant,
 ) -> Result<Option<NvmeFound>, NvmeRefusal>
-    ensures checked { IfOk result (λ found. AreApart layout.now (stride_of layout.now) (length body.old) (length blocks.now) × (are_flags want.now.checks ≡ true)
+    ensures checked { IfOk result (λ found. AreWideApart layout.now (stride_of layout.now) (length body.old) (length blocks.now) × (are_flags want.now.checks ≡ true)
         × Checked layout.now want.now (in_line layout.now blocks.now) 0 (length blocks.now / stride_of layout.now) found
         × (body.new ≡ stripped layout.now (good_before (length blocks.now / stride_of layout.now) found) blocks.now body.old)) }
-    ensures refused { IfErr result (λ e. NotDone (AreApart layout.now (stride_of layout.now) (length body.old) (length blocks.now))
+    ensures refused { IfErr result (λ e. NotDone (AreWideApart layout.now (stride_of layout.now) (length body.old) (length blocks.now))
         (RefusedApart layout.now (stride_of layout.now) (length body.old) (length blocks.now)) (are_flags want.now.checks) e × (body.new ≡ body.old)) }
 {
     let layout = *layout;

@@ -87,7 +87,7 @@ fn after_few(start: u32, part: &[u8]) -> u32
 }
 
 /// The register after these bytes, sixteen at once as often as they have them.
-pub fn register_after(start: u32, part: &[u8]) -> u32
+pub fn reflected_after(start: u32, part: &[u8]) -> u32
     ensures { result ≡ register castagnoli start part.now }
 {
     let mut state = start;

@@ -87,7 +87,7 @@ fn after_few(start: u64, part: &[u8]) -> u64
 }
 
 /// The register after these bytes, sixteen at once as often as they have them.
-pub fn register_after(start: u64, part: &[u8]) -> u64
+pub fn reflected_after(start: u64, part: &[u8]) -> u64
     ensures { result ≡ register rocksoft start part.now }
 {
     let mut state = start;

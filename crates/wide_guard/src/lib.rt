@@ -18,26 +18,26 @@ pub use laws::{a_burst_of_32_bits_is_shown, a_burst_of_64_bits_is_shown};
 pub fn crc32c(bytes: &[u8]) -> u32
     ensures { result ≡ crc32c bytes.now }
 {
-    0xFFFF_FFFF - guard_32::register_after(0xFFFF_FFFF, bytes)
+    0xFFFF_FFFF - guard_32::reflected_after(0xFFFF_FFFF, bytes)
 }
 
 /// CRC-32C of bytes of which the first ones have this CRC, by those behind them.
 pub fn crc32c_after(guard: u32, bytes: &[u8]) -> u32
     ensures { (before : List ℕ) → guard ≡ crc32c before → result ≡ crc32c (before ++ bytes.now) }
 {
-    0xFFFF_FFFF - guard_32::register_after(0xFFFF_FFFF - guard, bytes)
+    0xFFFF_FFFF - guard_32::reflected_after(0xFFFF_FFFF - guard, bytes)
 }
 
 /// The CRC of 64 bits of NVMe of the bytes, of any number: as `crc32c`, by the polynomial AD93D23594C93659h.
 pub fn crc64(bytes: &[u8]) -> u64
     ensures { result ≡ crc64 bytes.now }
 {
-    0xFFFF_FFFF_FFFF_FFFF - guard_64::register_after(0xFFFF_FFFF_FFFF_FFFF, bytes)
+    0xFFFF_FFFF_FFFF_FFFF - guard_64::reflected_after(0xFFFF_FFFF_FFFF_FFFF, bytes)
 }
 
 /// The CRC of 64 bits of bytes of which the first ones have this CRC, by those behind them.
 pub fn crc64_after(guard: u64, bytes: &[u8]) -> u64
     ensures { (before : List ℕ) → guard ≡ crc64 before → result ≡ crc64 (before ++ bytes.now) }
 {
-    0xFFFF_FFFF_FFFF_FFFF - guard_64::register_after(0xFFFF_FFFF_FFFF_FFFF - guard, bytes)
+    0xFFFF_FFFF_FFFF_FFFF - guard_64::reflected_after(0xFFFF_FFFF_FFFF_FFFF - guard, bytes)
 }

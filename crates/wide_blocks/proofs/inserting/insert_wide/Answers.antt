@@ -3,7 +3,7 @@ use Rattle.wide_blocks.specs.Layouts.{is_good, stride_of}
 use Rattle.wide_blocks.specs.Moved.{block_at, inserted_block}
 use Rattle.wide_blocks.proofs.Moves.{inserts_more}
 use Rattle.pi_blocks.proofs.Puts.{puts_none}
-use Rattle.wide_blocks.proofs.inserting.insert.Goals as goal
+use Rattle.wide_blocks.proofs.inserting.insert_wide.Goals as goal
 
 pub loop-i-init : goal.loop-i-init
 loop-i-init c = puts_none (block_at c.args.layout.now) (inserted_block c.args.layout.now c.args.tags.now c.args.body.now c.args.blocks.now) (0 * stride_of c.args.layout.now) c.args.blocks.now

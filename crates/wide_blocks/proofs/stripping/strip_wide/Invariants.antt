@@ -1,6 +1,6 @@
 use Rattle.wide_blocks.specs.Blocks.{AreFineFrom, in_line}
 use Rattle.wide_blocks.proofs.Moves.{Strips}
-use Rattle.wide_blocks.proofs.stripping.strip.Given as goal
+use Rattle.wide_blocks.proofs.stripping.strip_wide.Given as goal
 
 abbrev pub invariant-loop-i : goal.invariant-loop-i
 invariant-loop-i l = record {

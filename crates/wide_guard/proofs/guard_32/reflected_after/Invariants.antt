@@ -1,6 +1,6 @@
 use Rattle.std.proofs.Common.{◌≡◌, length}
 use Rattle.wide_guard.specs.Registers.{castagnoli, register}
-use Rattle.wide_guard.proofs.guard_32.register_after.Given as goal
+use Rattle.wide_guard.proofs.guard_32.reflected_after.Given as goal
 
 abbrev pub invariant-loop-b : goal.invariant-loop-b
 invariant-loop-b l = register castagnoli l.state l.rest ≡ register castagnoli l.start l.part

@@ -1,6 +1,6 @@
 use Rattle.std.proofs.Common.{◌≡◌, length}
 use Rattle.wide_guard.specs.Registers.{rocksoft, register}
-use Rattle.wide_guard.proofs.guard_64.register_after.Given as goal
+use Rattle.wide_guard.proofs.guard_64.reflected_after.Given as goal
 
 abbrev pub invariant-loop-b : goal.invariant-loop-b
 invariant-loop-b l = register rocksoft l.state l.rest ≡ register rocksoft l.start l.part

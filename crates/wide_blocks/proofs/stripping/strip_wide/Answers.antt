@@ -5,7 +5,7 @@ use Rattle.wide_blocks.specs.Moved.{data_at, stripped_block}
 use Rattle.wide_blocks.proofs.Checks.{one_more}
 use Rattle.wide_blocks.proofs.Moves.{strips_more}
 use Rattle.pi_blocks.proofs.Puts.{puts_none}
-use Rattle.wide_blocks.proofs.stripping.strip.Goals as goal
+use Rattle.wide_blocks.proofs.stripping.strip_wide.Goals as goal
 
 pub loop-i-init : goal.loop-i-init
 loop-i-init c = record {

@@ -4,7 +4,7 @@ use Rattle.wide_blocks.specs.Layouts.{is_good, stride_of}
 use Rattle.wide_blocks.specs.Made.{made_bytes, place_in_line}
 use Rattle.wide_blocks.proofs.Makes.{makes_more}
 use Rattle.pi_blocks.proofs.Puts.{puts_none}
-use Rattle.wide_blocks.proofs.making.generate.Goals as goal
+use Rattle.wide_blocks.proofs.making.generate_wide.Goals as goal
 
 pub loop-i-init : goal.loop-i-init
 loop-i-init c = puts_none (place_in_line c.args.layout.now) (made_bytes c.args.layout.now c.args.tags.now (in_line c.args.layout.now c.args.blocks.now)) (0 * stride_of c.args.layout.now) c.args.blocks.now
