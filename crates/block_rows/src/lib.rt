@@ -9,6 +9,7 @@ mod in_line;
 mod moves;
 mod senses;
 mod single;
+mod wide;
 mod words;
 
 use pi_blocks::Layout;
@@ -79,6 +80,11 @@ impl Judge for Table {
             "protect_checks" => device::asked(alloc, &mut words),
             "sense_encode" => senses::encoded(alloc, &mut words),
             "sense_decode" => senses::decoded(alloc, words.rest()),
+            "crc32c" => wide::sum_of_32(alloc, &mut words),
+            "crc64" => wide::sum_of_64(alloc, &mut words),
+            "nvme_verify" => wide::verified(alloc, &mut words),
+            "nvme_generate" => wide::generated(alloc, &mut words),
+            "nvme_remap" => wide::remapped(alloc, &mut words),
             "sense_check" => senses::told(alloc, &mut words),
             _ => String::from_str(alloc, "no call"),
         }
