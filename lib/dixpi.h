@@ -318,7 +318,7 @@ uint64_t dixpi_status_text(uint32_t status, char *out, size_t size); /* of enum 
 /* block 7: guard wanted f684, has bdb6 */
 uint64_t dixpi_found_text(const struct dixpi_found *found, char *out, size_t size);
 
-uint32_t dixpi_version(void); /* 0x000200 is 0.2.0 */
+uint32_t dixpi_version(void); /* 0x000300 is 0.3.0 */
 
 #ifdef __cplusplus
 }

@@ -1218,7 +1218,7 @@ static void nvme_layouts(void) {
 }
 
 int main(void) {
-    IS(dixpi_version() == 0x000200);
+    IS(dixpi_version() == 0x000300);
     guards();
     tuples();
     senses();

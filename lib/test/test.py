@@ -161,7 +161,7 @@ def tell(found):
 
 
 NINE = b"123456789"
-holds("version", dixpi.dixpi_version() == 0x200)
+holds("version", dixpi.dixpi_version() == 0x300)
 holds("crc16", dixpi.dixpi_crc16(memory(NINE), 9) == 0xD0DB)
 holds("ip_sum", dixpi.dixpi_ip_sum(memory(b"\x00\x01\xf2\x03\xf4\xf5\xf6\xf7"), 8) == 0x220D)
 pieces, kept = parts(b"1", b"", b"2345", b"6789")

@@ -60,10 +60,10 @@ pub(crate) fn told(answer: Result<Option<Found>, Unchecked>, found: &mut Found) 
     }
 }
 
-/// The version of the library: 0.2.0, a byte for each number.
+/// The version of the library: 0.3.0, a byte for each number.
 #[unsafe(no_mangle)]
 pub extern "C" fn dixpi_version() -> u32
-    ensures { result ≡ 512 }
+    ensures { result ≡ 768 }
 {
-    0x0002_00
+    0x0003_00
 }
