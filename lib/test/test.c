@@ -60,14 +60,34 @@ static void is_true(int holds, int line, const char *what) {
 }
 #define IS(what) is_true(what, __LINE__, #what)
 
-/* Bytes that end where a page begins that can't be touched. They are never given back. */
+/* Memory that is mapped until the test that took it ends: valgrind counts its pieces. */
+static struct {
+    void *bytes;
+    size_t len;
+} taken[1 << 14];
+static size_t taken_count;
+
+static void give_back(void) {
+    while (taken_count) {
+        taken_count--;
+        munmap(taken[taken_count].bytes, taken[taken_count].len);
+    }
+}
+
+/* Bytes that end where a page begins that can't be touched, until they are given back. */
 static uint8_t *fenced(size_t size) {
     size_t pages = (size + 4095) / 4096 * 4096;
     uint8_t *bytes = mmap(NULL, pages + 4096, PROT_READ | PROT_WRITE, MAP_PRIVATE | MAP_ANONYMOUS, -1, 0);
-    if (bytes == MAP_FAILED || mprotect(bytes + pages, 4096, PROT_NONE))
+    if (bytes == MAP_FAILED || mprotect(bytes + pages, 4096, PROT_NONE) || taken_count == sizeof taken / sizeof *taken)
         exit(70);
+    taken[taken_count].bytes = bytes;
+    taken[taken_count++].len = pages + 4096;
     return bytes + pages - size;
 }
+
+/* Layouts that are tried: all, or with a word behind the program's name each seventh, as valgrind takes its time. */
+static unsigned every = 1, layouts;
+static int is_tried(void) { return layouts++ % every == 0; }
 
 /* A sequence of numbers that look random (xorshift), the same in each run. */
 static uint32_t drawn(void) {
@@ -1214,30 +1234,29 @@ static void nvme_layouts(void) {
         for (size_t k = 0; k < sizeof SIZES / sizeof *SIZES; k++)
             for (uint32_t type = 1; type <= 3; type++)
                 for (uint32_t at_end = 0; at_end <= 1; at_end++)
-                    nvme_blocks((struct dixpi_nvme_layout){SIZES[k][0], SIZES[k][1], at_end, STORAGE[i][0], type, STORAGE[i][1]});
+                    if (is_tried())
+                        nvme_blocks((struct dixpi_nvme_layout){SIZES[k][0], SIZES[k][1], at_end, STORAGE[i][0], type, STORAGE[i][1]});
 }
 
-int main(void) {
+int main(int count, char **words) {
+    (void)words;
+    every = count > 1 ? 7 : 1;
     IS(dixpi_version() == 0x000300);
-    guards();
-    tuples();
-    senses();
-    sent_senses();
-    described_senses();
-    texts();
-    commands();
-    empty_parts();
-    sent_commands();
-    drawn_commands();
-    wide_guards();
-    nvme_layouts();
+    void (*tests[])(void) = {guards,      tuples,        senses,         sent_senses, described_senses, texts, commands,
+                             empty_parts, sent_commands, drawn_commands, wide_guards, nvme_layouts};
+    for (size_t i = 0; i < sizeof tests / sizeof *tests; i++) {
+        tests[i]();
+        give_back();
+    }
     for (size_t i = 0; i < sizeof LAYOUTS / sizeof *LAYOUTS; i++)
         for (uint32_t type = 1; type <= 3; type++)
             for (uint32_t guard = DIXPI_CRC; guard <= DIXPI_IP; guard++) {
                 struct dixpi_layout l = LAYOUTS[i];
                 l.type = type;
                 l.guard = guard;
-                blocks_in_line(l);
+                if (is_tried())
+                    blocks_in_line(l);
+                give_back();
             }
     printf("test.c: %u passed, %u failed\n", passed, failed);
     return failed != 0;
