@@ -42,6 +42,11 @@ fn kind_of(alloc: Global, word: &str, amount: &str) -> Result<FaultKind, AllocEr
         let by = amount.parse::<i64>().unwrap_or(0);
         return Ok(FaultKind::Shift { by });
     }
+    if word == "keep" {
+        return Ok(FaultKind::Keep {
+            bytes: small(amount),
+        });
+    }
     let (off, bytes) = cut(amount);
     Ok(FaultKind::Flip {
         off: small(off),
@@ -49,7 +54,7 @@ fn kind_of(alloc: Global, word: &str, amount: &str) -> Result<FaultKind, AllocEr
     })
 }
 
-/// A line of a schedule: the kind, the op, the block, the crossing, and by how many blocks or which bytes.
+/// A line of a schedule: the kind, the op, the block, the crossing, and by how many blocks, which bytes or how many.
 fn line_of(alloc: Global, words: &str) -> Result<FaultLine, AllocError> {
     let (word, rest) = cut(words);
     let (op, rest) = cut(rest);
@@ -85,6 +90,7 @@ fn line_text(alloc: Global, line: &FaultLine) -> Result<String, AllocError> {
             format!(in alloc; "flip {op} {k} {at} {off} {bytes}")
         }
         FaultKind::Shift { by } => format!(in alloc; "shift {op} {k} {at} {by}"),
+        FaultKind::Keep { bytes } => format!(in alloc; "keep {op} {k} {at} {bytes}"),
     }
 }
 
@@ -119,6 +125,19 @@ fn shifted(alloc: Global, schedule: &str, words: &str) -> Result<String, AllocEr
     format!(in alloc; "{by}")
 }
 
+/// How many bytes of a block are stored, by the op and the block; `-` where no line says it.
+fn kept(alloc: Global, schedule: &str, words: &str) -> Result<String, AllocError> {
+    let (op, k) = cut(words);
+    let label = Label {
+        op: small(op),
+        k: small(k),
+    };
+    match tamper_of(alloc, schedule)?.keep(label) {
+        Some(bytes) => format!(in alloc; "{bytes}"),
+        None => String::from_str(alloc, "-"),
+    }
+}
+
 pub(crate) fn answer(alloc: Global, schedule: &str, words: &str) -> Result<String, AllocError> {
     let (call, rest) = cut(words);
     match call {
@@ -126,6 +145,7 @@ pub(crate) fn answer(alloc: Global, schedule: &str, words: &str) -> Result<Strin
         "copy" => copied(alloc, schedule),
         "cross" => crossed(alloc, schedule, rest),
         "shift" => shifted(alloc, schedule, rest),
+        "keep" => kept(alloc, schedule, rest),
         _ => none(alloc),
     }
 }

@@ -39,7 +39,8 @@ use Rattle.dix_adapter.proofs.Commands.{command-blocks}
 use Rattle.dix_adapter.proofs.GoingIn.{acts-in, ends-in, judged-in-long, judged_in, long-at, part-long, passed-long, sent-long-in, ways-in-are}
 use Rattle.dix_adapter.proofs.GoingOut.{take-long}
 use Rattle.dix_adapter.proofs.Puts.{cell-is, told-at}
-use Rattle.dix_adapter.proofs.Runs.{AllLong, Next, Run, cut-joined, front-joined, label-at, width-sent, width_for}
+use Rattle.dix_adapter.proofs.Labels.{label-at}
+use Rattle.dix_adapter.proofs.Runs.{AllLong, Next, Run, cut-joined, front-joined, width-sent, width_for}
 use Rattle.dix_adapter.proofs.WentOut.{first-shift}
 
 -- what is known of a read's command before its unit

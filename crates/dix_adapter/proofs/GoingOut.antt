@@ -1,6 +1,7 @@
 -- The blocks of a write at their unit: what it judges is how they end, and the moves of those that were done store them.
-use Rattle.std.proofs.Common.{◌≡◌, ◌<◌, ◌≤◌, ℕ, zero, suc, ◌+◌, ◌-◌, true, false, ltb, List, [], ◌∷◌, ◌++◌, length, map, take, get_or, set, replicate, refl, ap, sym, ◌∙◌, arith, ⊎_elim, Option, Some, None}
-use Rattle.std.specs.Prelude.{min, if◌then◌else◌, Result, Ok, Err}
+use Rattle.std.proofs.Common.{◌≡◌, ◌<◌, ◌≤◌, ℕ, zero, suc, ◌+◌, ◌-◌, true, false, ltb, List, [], ◌∷◌, ◌++◌, length, map, take, drop, get_or, set, replicate, refl, ap, sym, subst, ◌∙◌, arith, ⊎_elim, Option, Some, None}
+use Rattle.std.specs.Prelude.{min, if◌then◌else◌, Result, Ok, Err, slice_get}
+use Rattle.std.proofs.lemmas.List.{get_or-set_other}
 use Rattle.std.proofs.lemmas.Bool.{cases_Bool, or_parts, ltb-true}
 use Rattle.page_pool.specs.Cells.{gather, scatter}
 use Rattle.pi_tuple.specs.declared.checks.Check.{Check}
@@ -9,12 +10,15 @@ use Rattle.bio_core.specs.declared.fate.Fate.TheVariants.{Good, Bad, Untouched}
 use Rattle.bio_core.specs.declared.fate.Why.TheVariants.{Medium, Target}
 use Rattle.bio_core.specs.declared.request.Io.{Io}
 use Rattle.bio_core.specs.Bios.{Block}
-use Rattle.rig_api.specs.Passed.{to_medium, Stop, check_sense, first_sense, medium_sense, passed, write_end}
+use Rattle.fault_schedule.specs.Altered.{kept}
+use Rattle.fault_schedule.specs.declared.Label.{Label}
+use Rattle.rig_api.specs.Passed.{to_medium, Stop, check_sense, first_sense, kept_over, kept_under, medium_sense, passed, then_kept, write_end}
+use Rattle.rig_api.proofs.KeptLaws.{kept-passed}
 use Rattle.rig_api.specs.declared.units.UnitSpec.{UnitSpec}
 use Rattle.rig_api.proofs.Passed.{few_passed}
 use Rattle.rig_api.specs.declared.rig.Outcome.{Outcome}
 use Rattle.block_path.specs.Acts.{State, act}
-use Rattle.block_path.specs.Blocks.{Site, own_cell, stored_cell, written_by}
+use Rattle.block_path.specs.Blocks.{Site, own_cell, stored_cell, stored_over, written_by}
 use Rattle.block_path.specs.Moves.{carry_out}
 use Rattle.block_path.specs.Routes.{by_target, passage, target}
 use Rattle.block_path.specs.Serial.{plain}
@@ -22,11 +26,12 @@ use Rattle.block_path.specs.WayOut.{Refuses, Stores, WayOut, at_device, from_ada
 use Rattle.block_path.specs.declared.route.Route.{Route}
 use Rattle.dix_adapter.specs.declared.adapter.Adapter.{Adapter}
 use Rattle.dix_adapter.specs.Carried.{any_bad, frame_sent, is_bad, sends}
-use Rattle.dix_adapter.specs.Groups.{frame_cells, route_of}
+use Rattle.dix_adapter.specs.Groups.{frame_cells, label_of, route_of}
 use Rattle.dix_adapter.specs.Outcomes.{done_of, rest_of}
 use Rattle.block_path.specs.Senses.{why_ended}
 use Rattle.block_path.proofs.PathLaws.{check_named}
 use Rattle.dix_adapter.specs.Ways.{acts_out, cells_out, fates_out, frames_out, left_at, site_of, stopped_out, ways_out}
+use Rattle.dix_adapter.proofs.Labels.{label-at}
 use Rattle.dix_adapter.proofs.Puts.{puts, puts-more}
 use Rattle.small_laws.proofs.Tests.{ltb_suc}
 
@@ -171,40 +176,68 @@ ends-out (Some s) lba fs js e =
 -- ---- what is stored
 
 stores-one : (s : Site) (r : Route) (frame : List ℕ) (now : State) (carried stored : List ℕ) → goes_out s.faults s.device r (gather 0 frame now.bytes) ≡ Stores carried stored →
-    (act (carry_out s r frame) now).blocks ≡ set now.blocks (stored_cell s r) stored
+    (act (carry_out s r frame) now).blocks ≡ set now.blocks (stored_cell s r) (s.device.leaves r (get_or now.blocks (stored_cell s r) []) stored)
 stores-one s r frame now carried stored e =
-    ap (λ w. scatter (stored_cell s r ∷ []) (written_by r w [] (get_or (gather [] (own_cell s r ∷ []) now.logs) 0 [])).written.blocks now.blocks) e
+    ap (λ w. scatter (stored_cell s r ∷ []) (stored_over s r (get_or now.blocks (stored_cell s r) []) (written_by r w [] (get_or (gather [] (own_cell s r ∷ []) now.logs) 0 []))).written.blocks now.blocks) e
 
 -- the cells of blocks one after another
 abbrev pub InTurn : ℕ → List ℕ → Type 0
 InTurn c [] = Unit {0}
 InTurn c (x ∷ xs) = (x ≡ c) × InTurn (suc c) xs
 
-pub acts-out : (a : Adapter) (ios : List Io) (units : List UnitSpec) (cells : List ℕ) (bs : List Block) (n c : ℕ) (now : State) → any_bad (map (sends a ios cells) bs) ≡ false → now.bytes ≡ cells →
-    n ≤ length (passed (judged_out a ios cells bs)) → InTurn c (cells_out a ios units bs) →
-    (plain act (take n (acts_out a ios units bs)) now).blocks ≡ puts c (take n (passed (judged_out a ios cells bs))) now.blocks
-acts-out a ios units cells bs zero c now g b h i = refl
-acts-out a ios units cells [] (suc n) c now g b h i = absurd (omega arith)
-acts-out a ios units cells (x ∷ bs) (suc n) c now g b h i =
+-- From this cell on stand these.
+abbrev pub Stand : ℕ → List (List ℕ) → (blocks : List (List ℕ)) → Type 0
+Stand c [] blocks = Unit {0}
+Stand c (old ∷ olds) blocks = (get_or blocks c [] ≡ old) × Stand (suc c) olds blocks
+
+stand-behind : (c d : ℕ) (olds blocks : List (List ℕ)) (block : List ℕ) → c < d → Stand d olds blocks → Stand d olds (set blocks c block)
+stand-behind c d [] blocks block h s = tt
+stand-behind c d (old ∷ olds) blocks block h s = (get_or-set_other blocks c d block [] (λ e. omega (arith, e, h)) ∙ s.0, stand-behind c (suc d) olds blocks block (omega arith) s.1)
+
+pub acts-out : (a : Adapter) (ios : List Io) (units : List UnitSpec) (cells : List ℕ) (labels : List Label) (bs : List Block) (olds : List (List ℕ)) (n c k : ℕ) (now : State) → any_bad (map (sends a ios cells) bs) ≡ false → now.bytes ≡ cells →
+    n ≤ length (passed (judged_out a ios cells bs)) → InTurn c (cells_out a ios units bs) → drop k labels ≡ map label_of bs → length olds ≡ length bs → Stand c olds now.blocks →
+    (plain act (take n (acts_out a ios units bs)) now).blocks ≡ puts c (take n (passed (kept_over a.tamper labels k olds (judged_out a ios cells bs)))) now.blocks
+acts-out a ios units cells labels bs olds zero c k now g b h i d m s = refl
+acts-out a ios units cells labels [] olds (suc n) c k now g b h i d m s = absurd (omega arith)
+acts-out a ios units cells labels (x ∷ bs) [] (suc n) c k now g b h i d m s = absurd (omega arith)
+acts-out a ios units cells labels (x ∷ bs) (old ∷ olds) (suc n) c k now g b h i d m s =
     by (to_medium a.tamper (passage a.tamper (route_of a ios x)) (frame_sent (sends a ios cells x))) refl
-    (λ k. acts-out a ios units cells bs n (suc c) (act (carry_out (site_of a units) (route_of a ios x) (frame_cells ios x)) now) (or_parts (is_bad (sends a ios cells x)) (any_bad (map (sends a ios cells) bs)) g).1 b k i.1)
+    (λ l z. acts-out a ios units cells labels bs olds n (suc c) (k + 1) (act (carry_out (site_of a units) (route_of a ios x) (frame_cells ios x)) now) o.1 b l i.1 (ap (λ j. drop j labels) next ∙ here.1) (omega arith) z)
   where
     o : (is_bad (sends a ios cells x) ≡ false) × (any_bad (map (sends a ios cells) bs) ≡ false)
     o = or_parts (is_bad (sends a ios cells x)) (any_bad (map (sends a ios cells) bs)) g
 
+    next : k + 1 ≡ suc k
+    next = omega arith
+
+    here : (slice_get labels k ≡ Some (label_of x)) × (drop (suc k) labels ≡ map label_of bs)
+    here = label-at k labels (map label_of bs) (label_of x) d
+
+    after : State
+    after = act (carry_out (site_of a units) (route_of a ios x) (frame_cells ios x)) now
+
+    rest : List Judged
+    rest = kept_over a.tamper labels (k + 1) olds (judged_out a ios cells bs)
+
     by : (j : Judged) → to_medium a.tamper (passage a.tamper (route_of a ios x)) (frame_sent (sends a ios cells x)) ≡ j →
-        (n ≤ length (passed (judged_out a ios cells bs)) → (plain act (take n (acts_out a ios units bs)) (act (carry_out (site_of a units) (route_of a ios x) (frame_cells ios x)) now)).blocks ≡ puts (suc c) (take n (passed (judged_out a ios cells bs))) (act (carry_out (site_of a units) (route_of a ios x) (frame_cells ios x)) now).blocks) →
-        (plain act (take n (acts_out a ios units bs)) (act (carry_out (site_of a units) (route_of a ios x) (frame_cells ios x)) now)).blocks ≡ puts c (take (suc n) (passed (judged_out a ios cells (x ∷ bs)))) now.blocks
+        (n ≤ length (passed (judged_out a ios cells bs)) → Stand (suc c) olds after.blocks → (plain act (take n (acts_out a ios units bs)) after).blocks ≡ puts (suc c) (take n (passed rest)) after.blocks) →
+        (plain act (take n (acts_out a ios units bs)) after).blocks ≡ puts c (take (suc n) (passed (kept_over a.tamper labels k (old ∷ olds) (judged_out a ios cells (x ∷ bs))))) now.blocks
     by (Ok stored) e more =
         let w : goes_out a.tamper (target a.tamper) (route_of a ios x) (gather 0 (frame_cells ios x) now.bytes) ≡ Stores (frame_sent (sends a ios cells x)) stored =
         ap (λ z. goes_out a.tamper (target a.tamper) (route_of a ios x) (gather 0 (frame_cells ios x) z)) b
         ∙ way-by a (route_of a ios x) (sends a ios cells x) o.0 ∙ ap (λ j. at_device (frame_sent (sends a ios cells x)) (by_target j)) e in
         let q : passed (judged_out a ios cells (x ∷ bs)) ≡ stored ∷ passed (judged_out a ios cells bs) = ap (λ j. passed (j ∷ judged_out a ios cells bs)) e in
-        let k : n ≤ length (passed (judged_out a ios cells bs)) = omega (arith, h, ap length q) in
-        let p = stores-one (site_of a units) (route_of a ios x) (frame_cells ios x) now (frame_sent (sends a ios cells x)) stored w in
-        more k
-        ∙ ap (puts (suc c) (take n (passed (judged_out a ios cells bs)))) (p ∙ ap (λ k. set now.blocks k stored) i.0)
-        ∙ sym (ap (λ z. puts c (take (suc n) z) now.blocks) q)
+        let left : List ℕ = kept a.tamper (label_of x) old stored in
+        let r : passed (kept_over a.tamper labels k (old ∷ olds) (judged_out a ios cells (x ∷ bs))) ≡ left ∷ passed rest =
+        ap (λ j. passed (then_kept a.tamper (slice_get labels k) old j ∷ rest)) e ∙ ap (λ l. kept_under a.tamper l old stored ∷ passed rest) here.0 in
+        let l : n ≤ length (passed (judged_out a ios cells bs)) = omega (arith, h, ap length q) in
+        let p : after.blocks ≡ set now.blocks c left =
+        stores-one (site_of a units) (route_of a ios x) (frame_cells ios x) now (frame_sent (sends a ios cells x)) stored w
+        ∙ ap (λ j. set now.blocks j (kept a.tamper (label_of x) (get_or now.blocks j []) stored)) i.0
+        ∙ ap (λ t. set now.blocks c (kept a.tamper (label_of x) t stored)) s.0 in
+        more l (subst (Stand (suc c) olds) (sym p) (stand-behind c (suc c) olds now.blocks left (omega arith) s.1))
+        ∙ ap (puts (suc c) (take n (passed rest))) p
+        ∙ sym (ap (λ z. puts c (take (suc n) z) now.blocks) r)
     by (Err check) e more = absurd (let q : passed (judged_out a ios cells (x ∷ bs)) ≡ [] = ap (λ j. passed (j ∷ judged_out a ios cells bs)) e in let l : length (passed (judged_out a ios cells (x ∷ bs))) ≡ 0 = ap length q in omega (arith, h, l))
 
 -- the cell at this place
@@ -217,28 +250,35 @@ cells-long : (a : Adapter) (ios : List Io) (units : List UnitSpec) (bs : List Bl
 cells-long a ios units [] = refl
 cells-long a ios units (b ∷ bs) = ap suc (cells-long a ios units bs)
 
-stored-all : (a : Adapter) (ios : List Io) (units : List UnitSpec) (cells : List ℕ) (bs : List Block) (c : ℕ) (now : State) → any_bad (map (sends a ios cells) bs) ≡ false → now.bytes ≡ cells → InTurn c (cells_out a ios units bs) →
-    puts c (passed (judged_out a ios cells bs)) now.blocks ≡ (plain act (take (length (passed (judged_out a ios cells bs))) (acts_out a ios units bs)) now).blocks
-stored-all a ios units cells bs c now g b i =
-    sym (acts-out a ios units cells bs (length (passed (judged_out a ios cells bs))) c now g b (omega arith) i ∙ ap (λ z. puts c z now.blocks) (take-whole (passed (judged_out a ios cells bs))))
+stored-all : (a : Adapter) (ios : List Io) (units : List UnitSpec) (cells : List ℕ) (bs : List Block) (olds : List (List ℕ)) (c : ℕ) (now : State) → any_bad (map (sends a ios cells) bs) ≡ false → now.bytes ≡ cells → InTurn c (cells_out a ios units bs) →
+    length olds ≡ length bs → Stand c olds now.blocks →
+    puts c (passed (kept_over a.tamper (map label_of bs) 0 olds (judged_out a ios cells bs))) now.blocks ≡ (plain act (take (length (passed (judged_out a ios cells bs))) (acts_out a ios units bs)) now).blocks
+stored-all a ios units cells bs olds c now g b i m s =
+    let ks : List (Result (List ℕ) Check) = kept_over a.tamper (map label_of bs) 0 olds (judged_out a ios cells bs) in
+    let n : length (passed ks) ≡ length (passed (judged_out a ios cells bs)) = kept-passed a.tamper (map label_of bs) 0 olds (judged_out a ios cells bs) in
+    sym (acts-out a ios units cells (map label_of bs) bs olds (length (passed (judged_out a ios cells bs))) c 0 now g b (omega arith) i refl m s
+    ∙ ap (λ l. puts c (take l (passed ks)) now.blocks) (sym n) ∙ ap (λ z. puts c z now.blocks) (take-whole (passed ks)))
   where
     take-whole : (xs : List (List ℕ)) → take (length xs) xs ≡ xs
     take-whole [] = refl
     take-whole (x ∷ xs) = ap (λ z. x ∷ z) (take-whole xs)
 
 -- what is stored in the end
-pub stored-out : (a : Adapter) (ios : List Io) (units : List UnitSpec) (cells : List ℕ) (bs : List Block) (stop : Option Stop) (lba c : ℕ) (now : State) → any_bad (map (sends a ios cells) bs) ≡ false → now.bytes ≡ cells → InTurn c (cells_out a ios units bs) →
-    puts c (write_end lba (judged_out a ios cells bs) stop).frames now.blocks
+pub stored-out : (a : Adapter) (ios : List Io) (units : List UnitSpec) (cells : List ℕ) (bs : List Block) (olds : List (List ℕ)) (stop : Option Stop) (lba c : ℕ) (now : State) → any_bad (map (sends a ios cells) bs) ≡ false → now.bytes ≡ cells → InTurn c (cells_out a ios units bs) →
+    length olds ≡ length bs → Stand c olds now.blocks →
+    puts c (write_end lba (kept_over a.tamper (map label_of bs) 0 olds (judged_out a ios cells bs)) stop).frames now.blocks
     ≡ left_at stop (length (passed (judged_out a ios cells bs))) (cells_out a ios units bs) (plain act (take (write_end lba (judged_out a ios cells bs) stop).done (acts_out a ios units bs)) now).blocks
-stored-out a ios units cells bs None lba c now g b i = stored-all a ios units cells bs c now g b i
-stored-out a ios units cells bs (Some s) lba c now g b i =
+stored-out a ios units cells bs olds None lba c now g b i m s = stored-all a ios units cells bs olds c now g b i m s
+stored-out a ios units cells bs olds (Some s) lba c now g b i m o =
     let js = judged_out a ios cells bs in
+    let ks : List (Result (List ℕ) Check) = kept_over a.tamper (map label_of bs) 0 olds js in
+    let n : length (passed ks) ≡ length (passed js) = kept-passed a.tamper (map label_of bs) 0 olds js in
     ⊎_elim
     (λ (t : ltb s.at (length (passed js)) ≡ true).
     (let l = ltb-true s.at (length (passed js)) t in
     let k : s.at < length (cells_out a ios units bs) = (let x = few_passed js in let y = judged-long a ios cells bs in let z = cells-long a ios units bs in omega arith) in
-    let q : c + length (take s.at (passed js)) ≡ get_or (cells_out a ios units bs) s.at 0 = ap (λ m. c + m) (take-long s.at (passed js) (omega arith)) ∙ sym (turn-at c (cells_out a ios units bs) s.at i k) in
-    rw t (puts-more c (take s.at (passed js)) now.blocks s.left ∙ ap (λ m. set (puts c (take s.at (passed js)) now.blocks) m s.left) q
-    ∙ ap (λ z. set z (get_or (cells_out a ios units bs) s.at 0) s.left) (sym (acts-out a ios units cells bs s.at c now g b (omega arith) i)))))
-    (λ (t : ltb s.at (length (passed js)) ≡ false). rw t (stored-all a ios units cells bs c now g b i))
+    let q : c + length (take s.at (passed ks)) ≡ get_or (cells_out a ios units bs) s.at 0 = ap (λ m. c + m) (take-long s.at (passed ks) (omega (arith, n))) ∙ sym (turn-at c (cells_out a ios units bs) s.at i k) in
+    rw (n, t) (puts-more c (take s.at (passed ks)) now.blocks s.left ∙ ap (λ m. set (puts c (take s.at (passed ks)) now.blocks) m s.left) q
+    ∙ ap (λ z. set z (get_or (cells_out a ios units bs) s.at 0) s.left) (sym (acts-out a ios units cells (map label_of bs) bs olds s.at c 0 now g b (omega arith) i refl m o)))))
+    (λ (t : ltb s.at (length (passed js)) ≡ false). rw (n, t) (stored-all a ios units cells bs olds c now g b i m o))
     (cases_Bool (ltb s.at (length (passed js))))

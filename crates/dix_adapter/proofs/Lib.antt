@@ -10,6 +10,7 @@ pub mod OnTheWay
 pub mod Puts
 pub mod Asking
 pub mod GoingOut
+mod Labels
 pub mod Rooms
 pub mod Runs
 pub mod Units

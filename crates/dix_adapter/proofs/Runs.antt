@@ -30,6 +30,7 @@ use Rattle.dix_adapter.specs.Walking.{HasHost, Walkable, WalksTuples}
 use Rattle.dix_adapter.proofs.Asking.{address-more, alike-out, asked-alike, field_for, fields_of}
 use Rattle.dix_adapter.proofs.Blocks.{length-blocks}
 use Rattle.dix_adapter.proofs.GoingOut.{all_sent, judged_out}
+use Rattle.dix_adapter.proofs.Labels.{label-at}
 
 -- what is known of a block at this address
 pub record Next (a : Adapter) (ios : List Io) (device bytes : ℕ) (s t : ℤ) (address : ℕ) (b : Block) : Type 0 where
@@ -88,22 +89,6 @@ bios-run a pool ios bytes dev at dir s t (b ∷ bs) h c e =
 pub group-run : (a : Adapter) (pool : List (List ℕ)) (bytes : ℕ) (ios : List Io) (req : List Bio) (s t : ℤ) → IsCarriedGroup a pool bytes ios req →
     All (λ b. (shift_of a.tamper AdapterToTarget b.op ≡ s) × (shift_of a.tamper MediumToTarget b.op ≡ t)) req → Run a ios (first_of req).dev bytes s t (first_of req).lba (blocks_in req)
 group-run a pool bytes ios req s t g e = bios-run a pool ios bytes (first_of req).dev (first_of req).lba (first_of req).dir s t req g.bios g.chain e
-
--- ---- the label of a block of the command
-
-pub label-at : (k : ℕ) (ls rest : List Label) (l : Label) → drop k ls ≡ l ∷ rest → (slice_get ls k ≡ Some l) × (drop (suc k) ls ≡ rest)
-label-at zero [] rest l e = absurd (cc)
-label-at zero (m ∷ ls) rest l e = (ap head e, ap tail e)
-  where
-    head : List Label → Option Label
-    head [] = None
-    head (x ∷ xs) = Some x
-
-    tail : List Label → List Label
-    tail [] = []
-    tail (x ∷ xs) = xs
-label-at (suc k) [] rest l e = absurd (cc)
-label-at (suc k) (m ∷ ls) rest l e = label-at k ls rest l e
 
 -- ---- out
 

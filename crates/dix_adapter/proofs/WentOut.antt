@@ -1,7 +1,7 @@
 -- A write before a unit that is told.
-use Rattle.std.proofs.Common.{◌≡◌, ◌<◌, ◌≤◌, ℕ, suc, ◌+◌, ◌-◌, ◌*◌, true, false, not, ◌&&◌, eqb, List, [], ◌∷◌, ◌++◌, length, map, take, replicate, refl, ap, sym, subst, ◌∙◌, arith, Option, None}
+use Rattle.std.proofs.Common.{◌≡◌, ◌<◌, ◌≤◌, ℕ, zero, suc, ◌+◌, ◌-◌, ◌*◌, true, false, not, ◌&&◌, eqb, List, [], ◌∷◌, ◌++◌, length, map, take, drop, drop-cons, get_or, replicate, refl, ap, sym, subst, ◌∙◌, arith, Option, None}
 use Rattle.std.specs.Prelude.{min, ℤ, pos, ◌+ℤ◌, nat_abs, Result, Ok}
-use Rattle.std.proofs.lemmas.List.{append-nil}
+use Rattle.std.proofs.lemmas.List.{append-nil, length-drop, length-take}
 use Rattle.page_pool.specs.Cells.{flat}
 use Rattle.pi_tuple.specs.Finds.{is_zero}
 use Rattle.pi_tuple.specs.declared.checks.Check.{Check}
@@ -19,8 +19,9 @@ use Rattle.bio_core.specs.declared.request.Io.{Io}
 use Rattle.bio_core.specs.Bios.{Block}
 use Rattle.fault_schedule.specs.declared.Label.{Label}
 use Rattle.fault_schedule.specs.declared.fault.FaultLine.{FaultLine}
-use Rattle.rig_api.specs.Passed.{frames_of, joined, placed, sent_size, to_medium, is_foreign, request_of, Stop, Stored, answer_unless, bytes_of, carried_out, each, has_blocks, passage as passage_of, passed, refusal, shape_of, storing, target_answer, wire_address, write_end, written_by}
+use Rattle.rig_api.specs.Passed.{frames_of, joined, placed, sent_size, to_medium, is_foreign, request_of, Stop, Stored, answer_unless, bytes_of, carried_out, each, has_blocks, kept_over, passage as passage_of, passed, refusal, shape_of, stored_from, storing, target_answer, wire_address, write_end, written_by}
 use Rattle.rig_api.specs.declared.request.Request.TheVariants.{Write as Writes}
+use Rattle.rig_api.proofs.KeptLaws.{kept-end, kept-many}
 use Rattle.rig_api.proofs.Passed.{few_passed, few_written}
 use Rattle.rig_api.specs.Log.{entry_of, moved_by, moved_under}
 use Rattle.rig_api.specs.Telling.{IsAnswer, answer_of, unit_at, with_blocks}
@@ -36,8 +37,8 @@ use Rattle.dix_adapter.specs.Outcomes.{done_of, rest_of}
 use Rattle.dix_adapter.specs.Ways.{WentOut, acts_out, blocks_told, cell_in, cells_out, fates_out, frames_out, left_at, shapes_of, stopped_out, ways_out}
 use Rattle.dix_adapter.proofs.Asking.{address-more, asked-for, count-is, field_for, fields_of, lba-is, no-tuples-asked, not-refused-out, own-form, protect-is}
 use Rattle.dix_adapter.proofs.Commands.{command-blocks}
-use Rattle.dix_adapter.proofs.GoingOut.{InTurn, all_sent, ends-out, judged-long, judged_out, sent-long, stored-out, take-long, told, ways-are}
-use Rattle.dix_adapter.proofs.Puts.{before, cell-is, placed-puts, puts, puts-long, told-puts, told-shapes}
+use Rattle.dix_adapter.proofs.GoingOut.{InTurn, Stand, all_sent, ends-out, judged-long, judged_out, sent-long, stored-out, take-long, told, ways-are}
+use Rattle.dix_adapter.proofs.Puts.{before, cell-is, placed-puts, puts, puts-long, told-at, told-puts, told-shapes}
 use Rattle.dix_adapter.proofs.Runs.{AllLong, Run, asked-out, cut-joined, front-joined, joined-long, sent-wide, width-sent, width_for}
 
 -- the shift of the command is that of its blocks
@@ -64,11 +65,12 @@ pub record Before (a : Adapter) (ios : List Io) (unit : Stored) (device bytes ad
   pub here : pos address +ℤ s ≡ pos at
   pub within : has_blocks (shape_of unit) (pos at) n ≡ true
 
-storing-same : (unit : Stored) (c : Rw) (faults : List FaultLine) (labels : List Label) (out : List ℕ) (stop : Option Stop) (at : ℕ) (js : List (Result (List ℕ) Check)) → wire_address faults labels c ≡ pos at → written_by (shape_of unit) c at faults labels out ≡ js →
-    carried_out unit (Writes c) faults labels out stop ≡ storing (at - unit.first) unit.blocks (write_end at js stop)
-storing-same unit c faults labels out stop at js e j =
-    ap (λ (z : ℤ). storing (nat_abs z - unit.first) unit.blocks (write_end (nat_abs z) (written_by (shape_of unit) c (nat_abs z) faults labels out) stop)) e
-    ∙ ap (λ x. storing (at - unit.first) unit.blocks (write_end at x stop)) j
+storing-same : (unit : Stored) (c : Rw) (faults : List FaultLine) (labels : List Label) (out : List ℕ) (stop : Option Stop) (at n : ℕ) (js : List (Result (List ℕ) Check)) → wire_address faults labels c ≡ pos at → c.n ≡ n → written_by (shape_of unit) c at faults labels out ≡ js →
+    carried_out unit (Writes c) faults labels out stop ≡ storing (at - unit.first) unit.blocks (write_end at (kept_over faults labels 0 (stored_from unit at n) js) stop)
+storing-same unit c faults labels out stop at n js e m j =
+    ap (λ (z : ℤ). storing (nat_abs z - unit.first) unit.blocks (write_end (nat_abs z) (kept_over faults labels 0 (stored_from unit (nat_abs z) c.n) (written_by (shape_of unit) c (nat_abs z) faults labels out)) stop)) e
+    ∙ ap (λ x. storing (at - unit.first) unit.blocks (write_end at (kept_over faults labels 0 (stored_from unit at c.n) x) stop)) j
+    ∙ ap (λ x. storing (at - unit.first) unit.blocks (write_end at (kept_over faults labels 0 (stored_from unit at x) js) stop)) m
 
 answer-by : (unit : Stored) (cmd : Cdb) (faults : List FaultLine) (labels : List Label) (out : List ℕ) (stop : Option Stop) (c : Rw) → Fits cmd → request_of cmd ≡ Writes c → refusal (shape_of unit) (Ok cmd) faults labels (length out) 0 ≡ None →
     target_answer unit faults (form cmd) labels out 0 stop ≡ carried_out unit (Writes c) faults labels out stop
@@ -79,7 +81,7 @@ answer-by unit cmd faults labels out stop c f q r =
 
 pub answered-out : (a : Adapter) (ios : List Io) (unit : Stored) (device bytes address n at : ℕ) (s t : ℤ) (bs : List Block) (cells : List ℕ) (stop : Option Stop) → Before a ios unit device bytes address n at s t bs → any_bad (map (sends a ios cells) bs) ≡ false →
     target_answer unit a.tamper (form (command_for a Out address n)) (map label_of bs) (joined (all_sent a ios cells bs)) 0 stop
-    ≡ storing (at - unit.first) unit.blocks (write_end at (judged_out a ios cells bs) stop)
+    ≡ storing (at - unit.first) unit.blocks (write_end at (kept_over a.tamper (map label_of bs) 0 (stored_from unit at n) (judged_out a ios cells bs)) stop)
 answered-out a ios unit device bytes address n at s t bs cells stop k g =
     let c = fields_of a address n in
     let fs = all_sent a ios cells bs in
@@ -101,7 +103,7 @@ answered-out a ios unit device bytes address n at s t bs cells stop k g =
     (subst (λ z. (is_zero z && not (eqb c.protect 0)) ≡ false) (sym k.ty) (no-tuples-asked a address n))
     (ap (λ z. has_blocks (shape_of unit) z c.n) w ∙ ap (has_blocks (shape_of unit) (pos at)) (count-is a address n) ∙ k.within) v in
     answer-by unit (command_for a Out address n) a.tamper (map label_of bs) (joined fs) stop c k.fits (asked-for a Out address n) r
-    ∙ storing-same unit c a.tamper (map label_of bs) (joined fs) stop at (judged_out a ios cells bs) w j
+    ∙ storing-same unit c a.tamper (map label_of bs) (joined fs) stop at n (judged_out a ios cells bs) w (count-is a address n) j
 
 -- ---- the cells of the blocks
 
@@ -116,6 +118,19 @@ turn-out a ios us device bytes address at s t (b ∷ bs) k l p f r =
       ap (λ d. cell_in (shapes_of us) d (wire_lba a.tamper (route_of a ios b))) r.0.dev ∙ ap (cell_in (shapes_of us) device) w ∙ cell-is us device (at + k) l ∙ m,
       subst (λ c. InTurn c (cells_out a ios (shapes_of us) bs)) (sym n) (turn-out a ios us device bytes address at s t bs (suc k) l p f (subst (λ c. Run a ios device bytes s t c bs) q r.1)),
     )
+
+-- what stands in the unit from an address on stands among all from its cell on
+stand-told : (us : List Stored) (device i n : ℕ) → device < length us → i + n ≤ length (unit_at us device).blocks → Stand (before us device + i) (take n (drop i (unit_at us device).blocks)) (blocks_told us)
+stand-told us device i zero l h = tt
+stand-told us device i (suc n) l h =
+    let blocks : List (List ℕ) = (unit_at us device).blocks in
+    let more : take (suc n) (drop i blocks) ≡ get_or blocks i [] ∷ take n (drop (suc i) blocks) = ap (take (suc n)) (drop-cons blocks i [] (omega arith)) in
+    let next : before us device + suc i ≡ suc (before us device + i) = omega arith in
+    subst (λ olds. Stand (before us device + i) olds (blocks_told us)) (sym more)
+    (told-at us device i l (omega arith), subst (λ c. Stand c (take n (drop (suc i) blocks)) (blocks_told us)) next (stand-told us device (suc i) n l (omega arith)))
+
+few-taken : (i n : ℕ) (blocks : List (List ℕ)) → i + n ≤ length blocks → length (take n (drop i blocks)) ≡ n
+few-taken i n blocks h = simp (length-take, length-drop) (omega arith)
 
 -- ---- the record
 
@@ -149,7 +164,10 @@ went-by a ios req pool us stop fates old new bytes at width s t o k g l f e w an
     let cells = flat pool in
     let js = judged_out a ios cells bs in
     let fs = all_sent a ios cells bs in
-    let end = write_end at js stop in
+    let olds : List (List ℕ) = stored_from unit at (size req) in
+    let ks : List (Result (List ℕ) Check) = kept_over a.tamper (map label_of bs) 0 olds js in
+    let end = write_end at ks stop in
+    let same = kept-end a.tamper (map label_of bs) 0 at olds js stop in
     let ways = ways-are a ios cells bs g in
     let jn : length js ≡ size req = judged-long a ios cells bs ∙ k.count in
     let fn : length fs ≡ length js = sent-long a ios cells bs ∙ sym (judged-long a ios cells bs) in
@@ -157,27 +175,32 @@ went-by a ios req pool us stop fates old new bytes at width s t o k g l f e w an
     let ans = answered-out a ios unit (first_of req).dev bytes (first_of req).lba (size req) at s t bs cells stop k g in
     let isa = subst (λ x. IsAnswer x us (first_of req).dev o new.units [] []) ans answer in
     let pf = few_passed js in
-    let dn : end.done ≤ size req = (let x = ends.few in omega arith) in
-    let fr : frames_out (stopped_out stop (ways_out a ios cells bs)) ≡ take end.done fs = ap (λ z. frames_out (stopped_out stop z)) ways ∙ ends.frames in
+    let dn : end.done ≤ size req = (let x = ends.few in omega (arith, same.0)) in
+    let fr : frames_out (stopped_out stop (ways_out a ios cells bs)) ≡ take end.done fs = ap (λ z. frames_out (stopped_out stop z)) ways ∙ ends.frames ∙ ap (λ d. take d fs) (sym same.0) in
     let od : o.done ≡ end.done = ap (λ (x : Outcome). x.done) isa.outcome in
-    let fit : at - unit.first + length end.frames ≤ length unit.blocks = (let x = few_written at js stop in omega arith) in
+    let fit : at - unit.first + length end.frames ≤ length unit.blocks = (let x = few_written at ks stop in let y = kept-many a.tamper (map label_of bs) 0 olds js in omega arith) in
     let put : placed (at - unit.first) end.frames unit.blocks ≡ puts (at - unit.first) end.frames unit.blocks = placed-puts (at - unit.first) end.frames unit.blocks fit in
     let fc : length (frames_out (ways_out a ios cells bs)) ≡ length (passed js) = ap (λ z. length (frames_out z)) ways ∙ ap length (ends-out None at fs js fn).frames ∙ take-long (length (passed js)) fs (omega arith) in
-    let lf : length (frames_out (stopped_out stop (ways_out a ios cells bs))) ≡ end.done = ap length fr ∙ take-long end.done fs (let x = ends.few in omega arith) in
+    let lf : length (frames_out (stopped_out stop (ways_out a ios cells bs))) ≡ end.done = ap length fr ∙ take-long end.done fs (let x = ends.few in omega (arith, same.0)) in
     let c0 : ℕ = before us (first_of req).dev + (at - unit.first) in
     let za : (first_of req).lba ≡ (first_of req).lba + 0 = omega arith in
     let zc : c0 + 0 ≡ c0 = omega arith in
     let turn : InTurn c0 (cells_out a ios (shapes_of us) bs) =
     subst (λ x. InTurn x (cells_out a ios (shapes_of us) bs)) zc
     (turn-out a ios us (first_of req).dev bytes (first_of req).lba at s t bs 0 l k.here f (subst (λ x. Run a ios (first_of req).dev bytes s t x bs) za k.run)) in
+    let within : at - unit.first + size req ≤ length unit.blocks = omega (arith, f, e) in
+    let many : length olds ≡ length bs = few-taken (at - unit.first) (size req) unit.blocks within ∙ sym k.count in
+    let stand : Stand c0 olds (blocks_told us) = stand-told us (first_of req).dev (at - unit.first) (size req) l within in
     record {
-      fates_are = fate ∙ ap (told (size req)) isa.outcome ∙ ap (λ n. told n (record { done = end.done; sense = end.sense })) (sym jn) ∙ sym ends.fates ∙ ap (λ z. fates_out (stopped_out stop z)) (sym ways);
+      fates_are = fate ∙ ap (told (size req)) isa.outcome ∙ ap (λ n. told n (record { done = end.done; sense = end.sense })) (sym jn)
+          ∙ ap (λ d. told (length js) (record { done = d; sense = end.sense })) same.0 ∙ ap (λ x. told (length js) (record { done = (write_end at js stop).done; sense = x })) same.1 ∙ sym ends.fates ∙ ap (λ z. fates_out (stopped_out stop z)) (sym ways);
       units = with_blocks us (first_of req).dev (placed (at - unit.first) end.frames unit.blocks);
       told = isa.units;
       shapes = told-shapes us (first_of req).dev (placed (at - unit.first) end.frames unit.blocks) (ap length put ∙ puts-long (at - unit.first) end.frames unit.blocks);
       blocks = λ now b c.
           ap (λ z. blocks_told (with_blocks us (first_of req).dev z)) put ∙ told-puts us (first_of req).dev (at - unit.first) end.frames l fit ∙ ap (puts c0 end.frames) (sym c)
-          ∙ stored-out a ios (shapes_of us) cells bs stop at c0 now g b turn
+          ∙ stored-out a ios (shapes_of us) cells bs olds stop at c0 now g b turn many (subst (Stand c0 olds) (sym c) stand)
+          ∙ ap (λ n. left_at stop (length (passed js)) (cells_out a ios (shapes_of us) bs) (plain act (take n (acts_out a ios (shapes_of us) bs)) now).blocks) (sym same.0)
           ∙ ap (λ n. left_at stop n (cells_out a ios (shapes_of us) bs) (plain act (take end.done (acts_out a ios (shapes_of us) bs)) now).blocks) (sym fc)
           ∙ ap (λ n. left_at stop (length (frames_out (ways_out a ios cells bs))) (cells_out a ios (shapes_of us) bs) (plain act (take n (acts_out a ios (shapes_of us) bs)) now).blocks) (sym lf);
       entry = entry_of width (first_of req).dev (form (command_for a Out (first_of req).lba (size req))) (map label_of bs) o (out_of a ios req pool) [];

@@ -1,4 +1,4 @@
--- A block is altered, and an op shifted, by the lines of its op alone, and these stand between the first and the last of them.
+-- A block is altered and kept, and an op shifted, by the lines of its op alone, and these stand between the first and the last of them.
 use Rattle.std.proofs.Common.{◌≡◌, ℕ, suc, ◌+◌, ◌-◌, ◌%◌, ◌<◌, ◌≤◌, min, eqb, List, [], ◌∷◌, ◌++◌, length, get_or, set, take, drop, refl, sym, ap, ◌∙◌, arith, inl, inr, bit_xor, cond, unwrap_or, length-take, length-drop}
 use Rattle.std.proofs.lemmas.List.{append-nil, get_or-drop, get_or-take, get_or_default, get_or-set_other, get_or-set_same, take-append-drop}
 use Rattle.std.proofs.lemmas.List.Elements.{filter-append}
@@ -8,7 +8,8 @@ use Rattle.fault_schedule.specs.declared.Label.{Label}
 use Rattle.fault_schedule.specs.declared.fault.Crossing.{Crossing}
 use Rattle.fault_schedule.specs.declared.fault.FaultLine.{FaultLine}
 use Rattle.fault_schedule.specs.declared.tamper.Span.{Span}
-use Rattle.fault_schedule.specs.Altered.{altered, is_same, named, named_by, shift_by, shift_of}
+use Rattle.fault_schedule.specs.declared.fault.Crossing.TheVariants.{TargetToMedium}
+use Rattle.fault_schedule.specs.Altered.{altered, is_same, keep_by, keep_of, keep_or, named, named_by, shift_by, shift_of}
 use Rattle.fault_schedule.specs.AnyOrder.{xored-same}
 use Rattle.fault_schedule.specs.Spans.{IsAround, lines_of_op}
 use Rattle.small_laws.proofs.Tests.{second_no}
@@ -35,6 +36,17 @@ shift-by-op (line ∷ lines) at op = elim (eqb_tells line.op op) [
 -- and shift its address in the same way
 pub shift-same : (some lines : List FaultLine) (at : Crossing) (op : ℕ) → lines_of_op op some ≡ lines_of_op op lines → shift_of some at op ≡ shift_of lines at op
 shift-same some lines at op e = sym (shift-by-op some at op) ∙ (ap (λ t. shift_of t at op) e ∙ shift-by-op lines at op)
+
+keep-by-op : (lines : List FaultLine) (label : Label) → keep_of (lines_of_op label.op lines) label ≡ keep_of lines label
+keep-by-op [] label = refl
+keep-by-op (line ∷ lines) label = elim (eqb_tells line.op label.op) [
+  | inl e ↦ ap (λ b. keep_of (cond b (line ∷ lines_of_op label.op lines) (lines_of_op label.op lines)) label) e.0 ∙ ap (keep_or (keep_by line label)) (keep-by-op lines label)
+  | inr e ↦ rw (second_no (is_same line.at TargetToMedium) (eqb line.op label.op) (eqb line.k label.k) e.0, e.0, keep-by-op lines label) refl
+]
+
+-- and keep as many bytes of its block
+pub keep-same : (some lines : List FaultLine) (label : Label) → lines_of_op label.op some ≡ lines_of_op label.op lines → keep_of some label ≡ keep_of lines label
+keep-same some lines label e = sym (keep-by-op some label) ∙ (ap (λ t. keep_of t label) e ∙ keep-by-op lines label)
 
 none-of-op : (op : ℕ) (xs : List FaultLine) → ((k : ℕ) (d : FaultLine) → k < length xs → (get_or xs k d).op ≡ op → ⊥) → lines_of_op op xs ≡ []
 none-of-op op [] none = refl

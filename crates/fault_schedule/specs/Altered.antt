@@ -1,9 +1,9 @@
-use Rattle.std.specs.Prelude.{ℕ, ◌+◌, ◌-◌, Bool, true, false, ◌&&◌, eqb, leb, if◌then◌else◌, List, [], ◌∷◌, slice_index, ℤ, pos, Option, Some, None, unwrap_or, bit_xor}
+use Rattle.std.specs.Prelude.{ℕ, ◌+◌, ◌-◌, Bool, true, false, ◌&&◌, eqb, leb, if◌then◌else◌, List, [], ◌∷◌, slice_index, ℤ, pos, Option, Some, None, unwrap_or, bit_xor, ◌++◌, take, drop}
 use Rattle.fault_schedule.specs.declared.Label.{Label}
 use Rattle.fault_schedule.specs.declared.fault.Crossing.{Crossing}
 use Rattle.fault_schedule.specs.declared.fault.Crossing.TheVariants.{HostToAdapter, AdapterToTarget, TargetToMedium, MediumToTarget, TargetToAdapter, AdapterToHost}
 use Rattle.fault_schedule.specs.declared.fault.FaultKind.{FaultKind}
-use Rattle.fault_schedule.specs.declared.fault.FaultKind.TheVariants.{Flip, Shift}
+use Rattle.fault_schedule.specs.declared.fault.FaultKind.TheVariants.{Flip, Shift, Keep}
 use Rattle.fault_schedule.specs.declared.fault.FaultLine.{FaultLine}
 
 -- The two crossings are one.
@@ -28,6 +28,7 @@ byte_at off bytes i = if leb off i then slice_index bytes (i - off) else 0
 abbrev pub flip_at : FaultKind → ℕ → ℕ
 flip_at (Flip off bytes) i = byte_at off bytes i
 flip_at (Shift by) i = 0
+flip_at (Keep bytes) i = 0
 
 -- the byte that a line names for place i of the block of this label at this crossing
 abbrev pub named_by : FaultLine → Crossing → Label → ℕ → ℕ
@@ -51,6 +52,7 @@ altered lines at label block = xored_from (named lines at label) 0 block
 abbrev pub moved_by : FaultKind → Option ℤ
 moved_by (Flip off bytes) = None
 moved_by (Shift by) = Some by
+moved_by (Keep bytes) = None
 
 -- what a line moves the address of this op by, at this crossing
 abbrev pub shift_by : FaultLine → Crossing → ℕ → Option ℤ
@@ -60,3 +62,31 @@ shift_by line at op = if is_same line.at at && eqb line.op op then moved_by line
 abbrev pub shift_of : List FaultLine → Crossing → ℕ → ℤ
 shift_of [] at op = pos 0
 shift_of (line ∷ lines) at op = unwrap_or (shift_by line at op) (shift_of lines at op)
+
+-- how many bytes of a frame a fault lets the medium store
+abbrev pub kept_bytes : FaultKind → Option ℕ
+kept_bytes (Flip off bytes) = None
+kept_bytes (Shift by) = None
+kept_bytes (Keep bytes) = Some bytes
+
+-- how many of the block of this label a line lets it store
+abbrev pub keep_by : FaultLine → Label → Option ℕ
+keep_by line label = if is_line_of line TargetToMedium label then kept_bytes line.kind else None
+
+abbrev pub keep_or : Option ℕ → Option ℕ → Option ℕ
+keep_or None other = other
+keep_or (Some n) other = Some n
+
+-- how many the first such line of this block says, where there is one
+abbrev pub keep_of : List FaultLine → Label → Option ℕ
+keep_of [] label = None
+keep_of (line ∷ lines) label = keep_or (keep_by line label) (keep_of lines label)
+
+-- what is left of a stored block when so many bytes of a frame are stored over it
+abbrev pub kept_by : Option ℕ → (old frame : List ℕ) → List ℕ
+kept_by None old frame = frame
+kept_by (Some n) old frame = take n frame ++ drop n old
+
+-- what stands in the place of the block of this label when its frame is stored over an old one
+abbrev pub kept : List FaultLine → Label → (old frame : List ℕ) → List ℕ
+kept lines label old frame = kept_by (keep_of lines label) old frame

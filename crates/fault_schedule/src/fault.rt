@@ -32,6 +32,9 @@ pub enum FaultKind {
     Flip { off: u32, bytes: ShortBytes },
     /// Moves the address by so many blocks.
     Shift { by: i64 },
+    /// Of the frame that is stored, only so many bytes are, from its front; behind them stands what
+    /// stood there. The write is acknowledged as ever: a lost one keeps none, a torn one a part.
+    Keep { bytes: u32 },
 }
 
 impl FaultKind {
@@ -44,6 +47,7 @@ impl FaultKind {
                 bytes: bytes.copy(),
             },
             FaultKind::Shift { by } => FaultKind::Shift { by: *by },
+            FaultKind::Keep { bytes } => FaultKind::Keep { bytes: *bytes },
         }
     }
 }

@@ -1,7 +1,7 @@
 //! The faults of a schedule, as they act on what crosses.
 
 ghost use Rattle.std.specs.Prelude.{◌≡◌};
-ghost use Rattle.fault_schedule.specs.Altered.{altered, byte_at, is_line_of, named_by, shift_by, shift_of, xored_from};
+ghost use Rattle.fault_schedule.specs.Altered.{altered, byte_at, is_line_of, keep_by, keep_of, named_by, shift_by, shift_of, xored_from};
 ghost use Rattle.fault_schedule.specs.Spans.{AreWithin, lines_of_op};
 
 use crate::{Crossing, FaultKind, FaultLine, FaultList, Label};
@@ -81,6 +81,7 @@ impl FaultLine {
         match &self.kind {
             FaultKind::Flip { off, bytes } => xor_into(block, *off as usize, bytes.as_slice()),
             FaultKind::Shift { .. } => {}
+            FaultKind::Keep { .. } => {}
         }
     }
 
@@ -89,6 +90,18 @@ impl FaultLine {
     {
         match self.kind {
             FaultKind::Shift { by } if self.at == at && self.op == op => Some(by),
+            _ => None,
+        }
+    }
+
+    fn keep(&self, label: Label) -> Option<u32>
+        ensures { result ≡ keep_by self.now label }
+    {
+        if !self.is_at(Crossing::TargetToMedium, label) {
+            return None;
+        }
+        match self.kind {
+            FaultKind::Keep { bytes } => Some(bytes),
             _ => None,
         }
     }
@@ -140,5 +153,18 @@ impl Tamper {
             }
         }
         0
+    }
+
+    /// How many bytes of this block's frame the medium stores, where a line says so: what the first
+    /// such line says. Behind them stands what stood there.
+    pub fn keep(&self, label: Label) -> Option<u32>
+        ensures { result ≡ keep_of self.now label }
+    {
+        for line in self.lines_of(label.op) {
+            if let Some(bytes) = line.keep(label) {
+                return Some(bytes);
+            }
+        }
+        None
     }
 }

@@ -16,9 +16,10 @@ use Rattle.fault_schedule.specs.declared.fault.FaultLine.{FaultLine}
 use Rattle.rig_api.specs.Frames.{data_of, frames_of, joined, sent_size}
 use Rattle.rig_api.specs.Passing.{found_in, from_medium, to_medium, unless}
 use Rattle.rig_api.specs.Requests.{is_foreign, request_of}
-use Rattle.rig_api.specs.Target.{Answer, Stop, Stored, answer_unless, bytes_of, carried_out, check_sense, each, first_of, first_sense, has_blocks, illegal, medium_address, medium_sense, passage, passed, read_by, read_end, refusal, refusals_of, refused, shape_of, stored_from, target_answer, whole, wire_address, write_end, written_by}
+use Rattle.rig_api.specs.Target.{Answer, Stop, Stored, answer_unless, bytes_of, carried_out, check_sense, each, first_of, first_sense, has_blocks, illegal, kept_over, medium_address, medium_sense, passage, passed, read_by, read_end, refusal, refusals_of, refused, shape_of, stored_from, target_answer, whole, wire_address, write_end, written_by}
 use Rattle.rig_api.specs.declared.request.Request.TheVariants.{Read, Write}
 use Rattle.rig_api.specs.declared.units.UnitSpec.{UnitSpec}
+use Rattle.rig_api.proofs.KeptLaws.{kept-many}
 use Rattle.rig_api.proofs.FrameLaws.{frames_length, unless_crossed}
 use Rattle.rig_api.specs.declared.rig.Outcome.{Outcome}
 use Rattle.nvme_front.specs.Answers.{outcome_of}
@@ -205,8 +206,8 @@ write-ends unit cmd c armed out w stop a q l =
     let o = not (has_blocks (shape_of unit) (wire_address armed [] c) c.n) in
     let r = refusal-of-write (shape_of unit) cmd c armed (length out) 0 q a.own a.tuples (l ∙ ap (λ x. c.n * x) (sym a.width)) in
     let lba = nat_abs (wire_address armed [] c) in
-    let js = written_by (shape_of unit) c lba armed [] out in
-    let count : length js ≡ c.n = each-long (λ k frame. to_medium armed (passage (shape_of unit) c lba [] k) frame) 0 (frames_of (sent_size c.protect unit.size) c.n out) ∙ frames_length (sent_size c.protect unit.size) c.n out in
+    let js = kept_over armed [] 0 (stored_from unit lba c.n) (written_by (shape_of unit) c lba armed [] out) in
+    let count : length js ≡ c.n = kept-many armed [] 0 (stored_from unit lba c.n) (written_by (shape_of unit) c lba armed [] out) ∙ each-long (λ k frame. to_medium armed (passage (shape_of unit) c lba [] k) frame) 0 (frames_of (sent_size c.protect unit.size) c.n out) ∙ frames_length (sent_size c.protect unit.size) c.n out in
     ⊎_elim
     (λ (e : (if o then Some (illegal 0x21) else None) ≡ Some (illegal 0x21)). named-at c.n _ _ (of-refused unit cmd armed out 0 stop _ (illegal 0x21) a.fits r e) (refused-named c.n))
     (λ (e : (if o then Some (illegal 0x21) else None) ≡ None). named-at c.n _ _ (of-carried unit cmd armed out 0 stop _ a.fits r e ∙ ap (λ x. carried_out unit x armed [] out stop) q) (write-named c.n lba js stop count))

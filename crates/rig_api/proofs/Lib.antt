@@ -10,3 +10,4 @@ pub mod FreshBlocks
 pub mod FrameLaws
 pub mod FewFrames
 pub mod HeaderLaws
+pub mod KeptLaws

@@ -8,7 +8,7 @@ use Rattle.pi_tuple.specs.declared.checks.PiType.TheVariants.{Zero, One, Two, Th
 use Rattle.fault_schedule.specs.declared.Label.{Label}
 use Rattle.fault_schedule.specs.declared.fault.Crossing.{Crossing}
 use Rattle.fault_schedule.specs.declared.fault.Crossing.TheVariants.{AdapterToTarget, TargetToMedium, MediumToTarget, TargetToAdapter}
-use Rattle.fault_schedule.specs.declared.fault.FaultKind.TheVariants.{Flip, Shift}
+use Rattle.fault_schedule.specs.declared.fault.FaultKind.TheVariants.{Flip, Keep, Shift}
 use Rattle.fault_schedule.specs.declared.fault.FaultLine.{FaultLine}
 use Rattle.rig_api.specs.declared.units.UnitSpec.{UnitSpec}
 use Rattle.rig_api.specs.declared.units.Version.TheVariants.{First, Second}
@@ -66,6 +66,9 @@ flip op k at off byte = record { op = op; k = k; at = at; kind = Flip off (byte 
 
 abbrev shift : ℕ → Crossing → ℤ → FaultLine
 shift op at by = record { op = op; k = 0; at = at; kind = Shift by }
+
+abbrev keep : (op k : ℕ) → ℕ → FaultLine
+keep op k bytes = record { op = op; k = k; at = TargetToMedium; kind = Keep bytes }
 
 abbrev one : Stored
 one = unit_of One 0
@@ -443,6 +446,47 @@ pub flip_to_the_medium_stored : ask one (flip 7 0 TargetToMedium 519 1 ∷ []) (
     ≡ record { done = 1; sense = None; blocks = fresh One 512 0 ∷ fresh One 512 1 ∷ tagged 0 0 3 ∷ fresh One 512 3 ∷ []; sent = [] }
 unfolding refusal target_answer to_medium from_medium found_in crc
 flip_to_the_medium_stored = refl
+
+-- Of the block that is written the first byte is stored, the rest is that of the block that stood there.
+pub first_byte_stored : ask one (flip 7 0 TargetToMedium 0 1 ∷ keep 7 0 1 ∷ []) (ten 0x2A 1 2 1) (label 7 0 ∷ label 7 1 ∷ []) (tagged 0 0 2) 0
+    ≡ record { done = 1; sense = None; blocks = fresh One 512 0 ∷ fresh One 512 1 ∷ (1 ∷ replicate 511 0 ++ (0 ∷ 0 ∷ 0 ∷ 0 ∷ 0 ∷ 0 ∷ 0 ∷ 2 ∷ [])) ∷ fresh One 512 3 ∷ []; sent = [] }
+unfolding refusal target_answer to_medium from_medium found_in crc
+first_byte_stored = refl
+
+-- and 512: the data of the one, with the tuple of the other
+pub tuple_not_stored : ask one (keep 7 0 512 ∷ []) (ten 0x2A 1 2 1) (label 7 0 ∷ label 7 1 ∷ []) (tagged 0 0 2) 0
+    ≡ record { done = 1; sense = None; blocks = fresh One 512 0 ∷ fresh One 512 1 ∷ (one_last ++ (0 ∷ 0 ∷ 0 ∷ 0 ∷ 0 ∷ 0 ∷ 0 ∷ 2 ∷ [])) ∷ fresh One 512 3 ∷ []; sent = [] }
+unfolding refusal target_answer to_medium from_medium found_in crc
+tuple_not_stored = refl
+
+-- Of two blocks the first is lost, and both are done.
+pub first_lost : ask one (keep 7 0 0 ∷ []) (ten 0x2A 1 2 2) (label 7 0 ∷ label 7 1 ∷ []) (tagged 0 0 2 ++ tagged 0 0 3) 0
+    ≡ record { done = 2; sense = None; blocks = fresh One 512 0 ∷ fresh One 512 1 ∷ fresh One 512 2 ∷ tagged 0 0 3 ∷ []; sent = [] }
+unfolding refusal target_answer to_medium from_medium found_in crc
+first_lost = refl
+
+-- The first line of a block counts, and the flip comes before it.
+pub flip_behind_what_is_kept : ask one (flip 7 0 TargetToMedium 519 1 ∷ keep 7 0 519 ∷ keep 7 0 0 ∷ []) (ten 0x2A 1 2 1) (label 7 0 ∷ label 7 1 ∷ []) (tagged 0 0 2) 0
+    ≡ record { done = 1; sense = None; blocks = fresh One 512 0 ∷ fresh One 512 1 ∷ tagged 0 0 2 ∷ fresh One 512 3 ∷ []; sent = [] }
+unfolding refusal target_answer to_medium from_medium found_in crc
+flip_behind_what_is_kept = refl
+
+pub flip_before_what_is_kept : ask one (flip 7 0 TargetToMedium 511 1 ∷ keep 7 0 512 ∷ []) (ten 0x2A 1 2 1) (label 7 0 ∷ label 7 1 ∷ []) (tagged 0 0 2) 0
+    ≡ record { done = 1; sense = None; blocks = one.blocks; sent = [] }
+unfolding refusal target_answer to_medium from_medium found_in crc
+flip_before_what_is_kept = refl
+
+-- Without a label it is stored whole.
+pub nothing_kept_of_another : ask one (keep 7 0 0 ∷ []) (ten 0x2A 1 2 1) [] (tagged 0 0 2) 0
+    ≡ record { done = 1; sense = None; blocks = fresh One 512 0 ∷ fresh One 512 1 ∷ tagged 0 0 2 ∷ fresh One 512 3 ∷ []; sent = [] }
+unfolding refusal target_answer to_medium from_medium found_in crc
+nothing_kept_of_another = refl
+
+-- A store call that fails leaves what it left.
+pub lost_and_stopped : target_answer one (keep 7 0 0 ∷ []) (ten 0x2A 1 2 1) (label 7 0 ∷ []) (tagged 0 0 2) 0 (Some (record { at = 0; left = 1 ∷ 2 ∷ [] }))
+    ≡ record { done = 0; sense = Some (record { key = 3; asc = 12; ascq = 0; info = Some 2 }); blocks = fresh One 512 0 ∷ fresh One 512 1 ∷ (1 ∷ 2 ∷ []) ∷ fresh One 512 3 ∷ []; sent = [] }
+unfolding refusal target_answer to_medium from_medium found_in crc
+lost_and_stopped = refl
 
 pub flip_of_a_tuple_that_is_made : ask one (flip 7 0 TargetToMedium 519 1 ∷ flip 7 0 AdapterToTarget 519 1 ∷ []) (ten 0x2A 0 2 1) (label 7 0 ∷ label 7 1 ∷ []) one_last 0
     ≡ record { done = 1; sense = None; blocks = fresh One 512 0 ∷ fresh One 512 1 ∷ tagged 0 0 3 ∷ fresh One 512 3 ∷ []; sent = [] }

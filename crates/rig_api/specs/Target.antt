@@ -9,7 +9,7 @@ use Rattle.cdb_codec.specs.declared.command.Rw.{Rw}
 use Rattle.cdb_codec.specs.declared.command.Cdb.{Cdb}
 use Rattle.cdb_codec.specs.declared.command.CdbFault.{CdbFault}
 use Rattle.cdb_codec.specs.declared.command.CdbFault.TheVariants.{Opcode, Field, Length}
-use Rattle.fault_schedule.specs.Altered.{shift_of}
+use Rattle.fault_schedule.specs.Altered.{kept, shift_of}
 use Rattle.fault_schedule.specs.declared.Label.{Label}
 use Rattle.fault_schedule.specs.declared.fault.Crossing.{Crossing}
 use Rattle.fault_schedule.specs.declared.fault.Crossing.TheVariants.{AdapterToTarget, MediumToTarget}
@@ -208,6 +208,22 @@ written_by unit c lba faults labels out =
 abbrev pub read_by : UnitSpec → Rw → (lba : ℕ) → List FaultLine → List Label → List (List ℕ) → List (Result (List ℕ) Check)
 read_by unit c lba faults labels blocks = each (λ k frame. from_medium faults (passage unit c lba labels k) frame) 0 blocks
 
+-- what stands in a block's place when its frame is stored over an old one; without a label it is the frame
+abbrev pub kept_under : List FaultLine → Option Label → (old frame : List ℕ) → List ℕ
+kept_under faults None old frame = frame
+kept_under faults (Some label) old frame = kept faults label old frame
+
+-- of a block that isn't found bad, what stands in its place afterwards
+abbrev pub then_kept : List FaultLine → Option Label → (old : List ℕ) → Result (List ℕ) Check → Result (List ℕ) Check
+then_kept faults label old (Ok frame) = Ok (kept_under faults label old frame)
+then_kept faults label old (Err check) = Err check
+
+-- and of each block of a write; the first is block k of the command
+abbrev pub kept_over : List FaultLine → List Label → (k : ℕ) → (olds : List (List ℕ)) → List (Result (List ℕ) Check) → List (Result (List ℕ) Check)
+kept_over faults labels k olds [] = []
+kept_over faults labels k [] (judged ∷ rest) = judged ∷ rest
+kept_over faults labels k (old ∷ olds) (judged ∷ rest) = then_kept faults (slice_get labels k) old judged ∷ kept_over faults labels (k + 1) olds rest
+
 -- the blocks of the unit from this address on
 abbrev pub stored_from : Stored → ℕ → ℕ → List (List ℕ)
 stored_from unit lba n = take n (drop (lba - unit.first) unit.blocks)
@@ -230,7 +246,8 @@ carried_out unit (ReadCapacity len) faults labels out stop =
     record { done = 0; sense = None; blocks = unit.blocks; sent = take (min len 32) (capacity_data (shape_of unit)) ∷ [] }
 carried_out unit (Write c) faults labels out stop =
     let lba = nat_abs (wire_address faults labels c) in
-    storing (lba - unit.first) unit.blocks (write_end lba (written_by (shape_of unit) c lba faults labels out) stop)
+    let judged = kept_over faults labels 0 (stored_from unit lba c.n) (written_by (shape_of unit) c lba faults labels out) in
+    storing (lba - unit.first) unit.blocks (write_end lba judged stop)
 carried_out unit (Read c) faults labels out stop =
     let lba = nat_abs (wire_address faults labels c) in
     let fetched = stored_from unit (nat_abs (medium_address faults labels c)) c.n in

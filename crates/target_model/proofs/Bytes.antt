@@ -230,3 +230,35 @@ over_apart p n a xs e h =
     let rest : drop (p + n) (over p a xs) ≡ drop (p + n) xs =
     sym (drop_both n p (over p a xs)) ∙ ap (drop n) (over_behind p a xs (omega arith)) ∙ drop_at a (drop (p + length a) xs) n e ∙ ap (λ k. drop (p + k) xs) e in
     (over_length p a xs (omega (arith, e)), take_front p xs (a ++ drop (p + length a) xs) (omega arith), rest)
+
+-- what stands apart from a part of some bytes stands apart from them all
+pub apart_wider : (at n m : ℕ) (old new : List ℕ) → n ≤ m → Apart at n old new → Apart at m old new
+apart_wider at n m old new h a =
+    let e : at + n + (m - n) ≡ at + m = omega arith in
+    (a.0, a.1, ap (λ k. drop k new) (sym e) ∙ sym (drop_both (m - n) (at + n) new) ∙ ap (drop (m - n)) a.2 ∙ drop_both (m - n) (at + n) old ∙ ap (λ k. drop k old) e)
+
+-- bytes behind some that were put at their place
+pub behind_put : (place at wide : ℕ) (put was : List ℕ) → place ≤ length was → at ≡ place + wide → length put ≡ wide → drop at (over place put was) ≡ drop at was
+behind_put place at wide put was h e l =
+    ap (λ k. drop k (over place put was)) e ∙ sym (drop_both wide place (over place put was)) ∙ ap (drop wide) (over_behind place put was h) ∙ drop_at put (drop (place + length put) was) wide l
+    ∙ ap (λ k. drop (place + k) was) l ∙ ap (λ k. drop k was) (sym e)
+
+-- bytes that are put where they stand alter nothing
+put_again : (at m : ℕ) (xs : List ℕ) → at + m ≤ length xs → over at (take m (drop at xs)) xs ≡ xs
+put_again at m xs h =
+    let l : length (take m (drop at xs)) ≡ m = simp (length-take, length-drop) (omega arith) in
+    ap (λ k. take at xs ++ (take m (drop at xs) ++ drop (at + k) xs)) l ∙ sym (three at m xs h)
+
+drop_take : (n size : ℕ) (xs : List ℕ) → n ≤ size → drop n (take size xs) ≡ take (size - n) (drop n xs)
+drop_take n size xs h = same_lists _ _ (search (rules, places)) (λ i d l. grind (arith, places))
+
+-- so a front that is put is as good as the front with the old rest
+pub over_front : (at n size : ℕ) (frame was : List ℕ) → length frame ≡ size → n ≤ size → at + size ≤ length was → over at (take n frame) was ≡ over at (take n frame ++ drop n (take size (drop at was))) was
+over_front at n size frame was l h b =
+    let front : List ℕ = take n frame in
+    let put : List ℕ = over at front was in
+    let part : length front ≡ n = simp length-take (omega arith) in
+    let same : drop (at + n) put ≡ drop (at + n) was = behind_put at (at + n) n front was (omega arith) refl part in
+    let rest : drop n (take size (drop at was)) ≡ take (size - n) (drop (at + n) put) = drop_take n size (drop at was) h ∙ ap (take (size - n)) (drop_both n at was ∙ sym same) in
+    let long : length put ≡ length was = over_length at front was (omega (arith, part)) in
+    sym (put_again (at + n) (size - n) put (omega (arith, long))) ∙ ap (λ t. over (at + n) t put) (sym rest) ∙ over_next at (at + n) front (drop n (take size (drop at was))) was (omega arith) (ap (λ k. at + k) (sym part))

@@ -1,5 +1,5 @@
 -- From the blocks of a command to the answer of the unit.
-use Rattle.std.proofs.Common.{ℕ, zero, suc, ◌≡◌, ◌+◌, ◌*◌, ◌-◌, ◌<◌, ◌≤◌, Bool, true, false, List, [], ◌∷◌, ◌++◌, length, take, drop, Option, Some, None, Ok, Err, refl, sym, ap, subst, ◌^◌, ◌∙◌, arith, append-nil}
+use Rattle.std.proofs.Common.{ℕ, zero, suc, ◌≡◌, ◌+◌, ◌*◌, ◌-◌, ◌<◌, ◌≤◌, Bool, true, false, List, [], ◌∷◌, ◌++◌, length, take, drop, Option, Some, None, Result, Ok, Err, refl, sym, ap, subst, ◌^◌, ◌∙◌, arith, append-nil}
 use Rattle.std.specs.Prelude.{ℤ, pos, nat_abs, eqb, min, ◌≢◌}
 use Rattle.std.proofs.lemmas.List.{length-take, length-drop}
 use Rattle.dix_base.specs.Told.{Rose, over}
@@ -13,14 +13,16 @@ use Rattle.std.proofs.lemmas.Bool.Decides.{nat_tests}
 use Rattle.std.proofs.lemmas.Bool.{eqb-true}
 use Rattle.fault_schedule.specs.declared.Label.{Label}
 use Rattle.fault_schedule.specs.declared.fault.FaultLine.{FaultLine}
+use Rattle.pi_tuple.specs.declared.checks.Check.{Check}
 use Rattle.sense_codes.specs.declared.Sense.{Sense}
 use Rattle.rig_api.specs.Frames.{stored_size, sent_size, frames_of, joined, placed}
-use Rattle.rig_api.specs.Target.{Stored, Stop, Answer, answer_unless, asc_of, capacity_data, refusal, target_answer, carried_out, first_of, illegal, keeping, medium_address, read_by, read_end, refusals_of, sending, shape_of, storing, stored_from, wire_address, write_end, written_by}
+use Rattle.rig_api.specs.Target.{Stored, Stop, Answer, answer_unless, asc_of, capacity_data, refusal, target_answer, carried_out, first_of, illegal, keeping, kept_over, medium_address, read_by, read_end, refusals_of, sending, shape_of, storing, stored_from, wire_address, write_end, written_by}
 use Rattle.rig_api.specs.declared.request.Request.{Request}
 use Rattle.rig_api.specs.declared.request.Request.TheVariants.{Read, Write, Verify, ReadCapacity}
 use Rattle.rig_api.specs.declared.units.UnitSpec.{UnitSpec}
 use Rattle.rig_api.proofs.FrameLaws.{frames_length}
 use Rattle.rig_api.proofs.FewFrames.{few_written}
+use Rattle.rig_api.proofs.KeptLaws.{kept-many}
 use Rattle.rig_api.specs.Telling.{at_front, holding}
 use Rattle.rig_api.specs.declared.rig.Outcome.{Outcome}
 use Rattle.target_model.specs.declared.unit.LogicalUnit.{LogicalUnit}
@@ -90,19 +92,28 @@ taken_answer u bytes cdb request faults labels out room e stop = rw (shape_is u 
 pub many_written : (unit : UnitSpec) (c : Rw) (lba : ℕ) (faults : List FaultLine) (labels : List Label) (out : List ℕ) → length (written_by unit c lba faults labels out) ≡ c.n
 many_written unit c lba faults labels out = length_each _ 0 (frames_of (sent_size c.protect unit.size) c.n out) ∙ frames_length (sent_size c.protect unit.size) c.n out
 
-write_is : (u : LogicalUnit) (bytes : List ℕ) (c : Rw) (lba : ℕ) (faults : List FaultLine) (labels : List Label) (out : List ℕ) → wire_address faults labels c ≡ pos lba → (stop : Option Stop) →
-    carried_out (unit_in u bytes) (Write c) faults labels out stop ≡ storing (lba - u.first) (unit_in u bytes).blocks (write_end lba (written_by (shape_in u) c lba faults labels out) stop)
-write_is u bytes c lba faults labels out e stop =
-    ap (λ (z : ℤ). storing (nat_abs z - u.first) (unit_in u bytes).blocks (write_end (nat_abs z) (written_by (shape_in u) c (nat_abs z) faults labels out) stop)) e
+-- the blocks from an address on are those from their place on
+fetched_are : (u : LogicalUnit) (bytes : List ℕ) (from n place : ℕ) → HasBlocks (shape_in u) from n → place ≡ u.at + wide u * (from - u.first) →
+    stored_from (unit_in u bytes) from n ≡ frames_of (wide u) n (drop place bytes)
+fetched_are u bytes from n place b p =
+    frames_part (wide u) (from - u.first) n u.blocks (drop u.at bytes) (omega (arith, b.first, b.last))
+    ∙ ap (frames_of (wide u) n) (drop_both (wide u * (from - u.first)) u.at bytes ∙ ap (λ k. drop k bytes) (sym p))
+
+write_is : (u : LogicalUnit) (bytes : List ℕ) (c : Rw) (lba place : ℕ) (faults : List FaultLine) (labels : List Label) (out : List ℕ) → wire_address faults labels c ≡ pos lba → HasBlocks (shape_in u) lba c.n → place ≡ u.at + wide u * (lba - u.first) → (stop : Option Stop) →
+    carried_out (unit_in u bytes) (Write c) faults labels out stop ≡ storing (lba - u.first) (unit_in u bytes).blocks (write_end lba (kept_over faults labels 0 (frames_of (wide u) c.n (drop place bytes)) (written_by (shape_in u) c lba faults labels out)) stop)
+write_is u bytes c lba place faults labels out e b p stop =
+    ap (λ (z : ℤ). storing (nat_abs z - u.first) (unit_in u bytes).blocks (write_end (nat_abs z) (kept_over faults labels 0 (stored_from (unit_in u bytes) (nat_abs z) c.n) (written_by (shape_in u) c (nat_abs z) faults labels out)) stop)) e
+    ∙ ap (λ fs. storing (lba - u.first) (unit_in u bytes).blocks (write_end lba (kept_over faults labels 0 fs (written_by (shape_in u) c lba faults labels out)) stop)) (fetched_are u bytes lba c.n place b p)
 
 pub served_written : (u : LogicalUnit) (cdb : Cdb) (c : Rw) (lba place o n room : ℕ) (faults : List FaultLine) (labels : List Label) (out bytes into : List ℕ) (now : Option (List ℕ)) (result : Outcome) →
     u.at + wide u * u.blocks ≤ length bytes → first_of (refusals_of (shape_in u) cdb (Write c) faults labels (length out) room) ≡ None → wire_address faults labels c ≡ pos lba → HasBlocks (shape_in u) lba c.n →
-    place ≡ u.at + wide u * (lba - u.first) → AllWritten (write_end lba (written_by (shape_in u) c lba faults labels out)) (wide u) place o n bytes now result →
+    place ≡ u.at + wide u * (lba - u.first) → AllWritten (write_end lba (kept_over faults labels 0 (frames_of (wide u) c.n (drop place bytes)) (written_by (shape_in u) c lba faults labels out))) (wide u) place o n bytes now result →
     Served u (answer_to (unit_in u bytes) cdb (Write c) faults labels out room) o n bytes now result into into
 served_written u cdb c lba place o n room faults labels out bytes into now result h t e b p w =
-    let frames : List (List ℕ) = (write_end lba (written_by (shape_in u) c lba faults labels out) w.stop).frames in
-    let few = few_written lba (written_by (shape_in u) c lba faults labels out) w.stop in
-    let many = many_written (shape_in u) c lba faults labels out in
+    let judged : List (Result (List ℕ) Check) = kept_over faults labels 0 (frames_of (wide u) c.n (drop place bytes)) (written_by (shape_in u) c lba faults labels out) in
+    let frames : List (List ℕ) = (write_end lba judged w.stop).frames in
+    let few = few_written lba judged w.stop in
+    let many : length judged ≡ c.n = kept-many faults labels 0 (frames_of (wide u) c.n (drop place bytes)) (written_by (shape_in u) c lba faults labels out) ∙ many_written (shape_in u) c lba faults labels out in
     let within : lba - u.first + length frames ≤ u.blocks = omega (arith, few, many, b.first, b.last) in
     let same : with_unit u (placed (lba - u.first) frames (unit_in u bytes).blocks) bytes ≡ over place (joined frames) bytes = unit_over u.at (wide u) (lba - u.first) u.blocks frames bytes within w.whole h ∙ ap (λ k. over k (joined frames) bytes) (sym p) in
     let blocks : List (List ℕ) = (unit_in u bytes).blocks in
@@ -112,17 +123,11 @@ served_written u cdb c lba place o n room faults labels out bytes into now resul
     long_both (wide u) (take (lba - u.first) blocks) (frames ++ drop (lba - u.first + length frames) blocks) (long_take (wide u) (lba - u.first) blocks own)
     (long_both (wide u) frames (drop (lba - u.first + length frames) blocks) w.long (long_drop (wide u) (lba - u.first + length frames) blocks own)) in
     let many_still : length (placed (lba - u.first) frames blocks) ≡ u.blocks = placed_length (lba - u.first) frames blocks (omega (arith, within, number)) ∙ number in
-    served_as u _ (λ stop. storing (lba - u.first) (unit_in u bytes).blocks (write_end lba (written_by (shape_in u) c lba faults labels out) stop)) o n bytes now result into into
-    (λ stop. taken_answer u bytes cdb (Write c) faults labels out room t stop ∙ write_is u bytes c lba faults labels out e stop)
+    served_as u _ (λ stop. storing (lba - u.first) (unit_in u bytes).blocks (write_end lba judged stop)) o n bytes now result into into
+    (λ stop. taken_answer u bytes cdb (Write c) faults labels out room t stop ∙ write_is u bytes c lba place faults labels out e b p stop)
     (record { stop = w.stop; cause = w.cause; outcome = w.outcome; bytes = w.bytes ∙ ap (λ v. Some v) (sym same); back = stands_back u _ bytes long many_still h; into = refl })
 
--- the blocks that are fetched are those from their place on
-fetched_are : (u : LogicalUnit) (bytes : List ℕ) (from n place : ℕ) → HasBlocks (shape_in u) from n → place ≡ u.at + wide u * (from - u.first) →
-    stored_from (unit_in u bytes) from n ≡ frames_of (wide u) n (drop place bytes)
-fetched_are u bytes from n place b p =
-    frames_part (wide u) (from - u.first) n u.blocks (drop u.at bytes) (omega (arith, b.first, b.last))
-    ∙ ap (frames_of (wide u) n) (drop_both (wide u * (from - u.first)) u.at bytes ∙ ap (λ k. drop k bytes) (sym p))
-
+-- and so those that a read fetches
 fetched_at : (u : LogicalUnit) (bytes : List ℕ) (a : ℤ) (from n place : ℕ) → (0 < n → a ≡ pos from) → HasBlocks (shape_in u) from n → place ≡ u.at + wide u * (from - u.first) →
     stored_from (unit_in u bytes) (nat_abs a) n ≡ frames_of (wide u) n (drop place bytes)
 fetched_at u bytes a from zero place e b p = refl
@@ -201,7 +206,7 @@ refused_by u s bytes cdb request faults labels out room asc o now result into e 
 
 pub written_as : (u : LogicalUnit) (s : UnitSpec) (cdb : Cdb) (c : Rw) (lba place o n room : ℕ) (faults : List FaultLine) (labels : List Label) (out bytes into : List ℕ) (now : Option (List ℕ)) (result : Outcome) → s ≡ shape_in u →
     u.at + wide u * u.blocks ≤ length bytes → first_of (refusals_of s cdb (Write c) faults labels (length out) room) ≡ None → wire_address faults labels c ≡ pos lba → HasBlocks s lba c.n →
-    place ≡ u.at + wide u * (lba - u.first) → AllWritten (write_end lba (written_by s c lba faults labels out)) (block_bytes s) place o n bytes now result →
+    place ≡ u.at + wide u * (lba - u.first) → AllWritten (write_end lba (kept_over faults labels 0 (frames_of (block_bytes s) c.n (drop place bytes)) (written_by s c lba faults labels out))) (block_bytes s) place o n bytes now result →
     Served u (answer_to (unit_in u bytes) cdb (Write c) faults labels out room) o n bytes now result into into
 written_as u s cdb c lba place o n room faults labels out bytes into now result e h f a b p w =
     let f' = rw e at f in

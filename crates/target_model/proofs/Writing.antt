@@ -1,15 +1,19 @@
 -- One more block stored by a write, and where it ends.
 use Rattle.std.proofs.Common.{ℕ, ◌≡◌, ◌+◌, ◌*◌, ◌<◌, ◌≤◌, List, [], ◌∷◌, ◌++◌, length, take, drop, Option, Some, None, Result, Ok, Err, refl, sym, ap, subst, ◌∙◌, arith, append-nil, length-append}
+use Rattle.std.specs.Prelude.{slice_get}
 use Rattle.dix_base.specs.Told.{over}
 use Rattle.pi_tuple.specs.declared.checks.Check.{Check}
+use Rattle.fault_schedule.specs.declared.Label.{Label}
+use Rattle.fault_schedule.specs.declared.fault.FaultLine.{FaultLine}
 use Rattle.sense_codes.specs.declared.Sense.{Sense}
 use Rattle.rig_api.specs.Frames.{frames_of, joined}
-use Rattle.rig_api.specs.Target.{Stop, Ended, each, write_end}
+use Rattle.rig_api.specs.Target.{Stop, Ended, each, kept_over, then_kept, write_end}
 use Rattle.rig_api.proofs.FrameLaws.{joined_append}
 use Rattle.rig_api.specs.Telling.{HasCause}
 use Rattle.rig_api.specs.declared.rig.Outcome.{Outcome}
 use Rattle.target_model.specs.Served.{AllLong, AllWritten, BlockWritten}
-use Rattle.target_model.proofs.Bytes.{long_one, over_next, over_none, rise}
+use Rattle.target_model.proofs.Bytes.{behind_put, long_one, over_next, over_none, rise}
+use Rattle.target_model.proofs.Keeping.{kept_each, keeps}
 use Rattle.target_model.proofs.Ends.{Judge, Along, begins, goes_on, ends_found, ends_all, ends_unstored}
 
 -- what is known of a write that has stored its first k blocks
@@ -93,24 +97,29 @@ pub wrote_all : (judge : Judge) (lba len n size k place o f : ℕ) (rest all was
 wrote_all judge lba len n size k place o f rest all was now e w =
     all_written _ size place k o f was now None w.0 None tt (ends_all judge lba len n size k rest all w.0 e w.1) (w.1.bytes ∙ ap (λ v. size * v) (sym w.1.many)) w.1.long w.2
 
--- The same with the code's words for the block and its lengths.
-pub wrote_next : (judge : Judge) (lba len n size k place at o f : ℕ) (rest rest' all was : List ℕ) (now : Option (List ℕ)) (kept : List (List ℕ)) (r : Result (List ℕ) Check) (size' lba' : ℕ) → place ≤ length was → k < n → at ≡ place + size * k →
-    Along judge lba len n size k rest all kept → r ≡ judge k (take len rest) → size' ≡ size → lba' ≡ lba + k → rest' ≡ drop len rest → BlockWritten r size' at lba' o f (over place (joined kept) was) None now →
-    Wrote judge lba len n size (k + 1) rest' all place was now
-wrote_next judge lba len n size k place at o f rest rest' all was now kept r size' lba' h l e a er es el ed b =
-    let b' = rw (er, es, el) at b in
-    rw ed (wrote_more judge lba len n size k place at o f rest all was now kept h l e a b')
+-- The same with the code's words for the block and its lengths, and with what a line keeps from the store.
+pub wrote_next : (judge : Judge) (faults : List FaultLine) (labels : List Label) (lba len n size k place at o f : ℕ) (rest rest' all was : List ℕ) (now : Option (List ℕ)) (kept : List (List ℕ)) (r : Result (List ℕ) Check) (label : Option Label) (size' lba' : ℕ)
+    → place ≤ length was → k < n → at ≡ place + size * k → Along (keeps faults labels size place was judge) lba len n size k rest all kept → r ≡ judge k (take len rest) → label ≡ slice_get labels k → size' ≡ size → lba' ≡ lba + k → rest' ≡ drop len rest
+    → BlockWritten (then_kept faults label (take size' (drop at (over place (joined kept) was))) r) size' at lba' o f (over place (joined kept) was) None now
+    → Wrote (keeps faults labels size place was judge) lba len n size (k + 1) rest' all place was now
+wrote_next judge faults labels lba len n size k place at o f rest rest' all was now kept r label size' lba' h l e a er eb es el ed b =
+    let still : drop at (over place (joined kept) was) ≡ drop (place + size * k) was = behind_put place at (size * k) (joined kept) was h e a.bytes ∙ ap (λ m. drop m was) e in
+    let b' = rw (er, eb, es, el, still) at b in
+    rw ed (wrote_more (keeps faults labels size place was judge) lba len n size k place at o f rest all was now kept h l e a b')
 
-pub wrote_until : (judge : Judge) (lba len n size k place at o o' f : ℕ) (rest all was : List ℕ) (now : Option (List ℕ)) (kept : List (List ℕ)) (sense : Sense) (r : Result (List ℕ) Check) (size' lba' len₂ size₂ : ℕ) →
-    place ≤ length was → k < n → at ≡ place + size * k → o ≤ o' → Along judge lba len n size k rest all kept →
-    r ≡ judge k (take len rest) → size' ≡ size → lba' ≡ lba + k → len₂ ≡ len → size₂ ≡ size → BlockWritten r size' at lba' o' f (over place (joined kept) was) (Some sense) now →
-    AllWritten (write_end lba (each judge 0 (frames_of len₂ n all))) size₂ place o f was now (record { done = k; sense = Some sense })
-wrote_until judge lba len n size k place at o o' f rest all was now kept sense r size' lba' len₂ size₂ h l e c a er es el en ez b =
-    let b' = rw (er, es, el) at b in
-    rw (en, ez) (wrote_up_to judge lba len n size k place at o o' f rest all was now kept sense h l e c a b')
+pub wrote_until : (judge : Judge) (faults : List FaultLine) (labels : List Label) (lba len n size k place at o o' f : ℕ) (rest all was : List ℕ) (now : Option (List ℕ)) (kept : List (List ℕ)) (sense : Sense) (r : Result (List ℕ) Check) (label : Option Label) (size' lba' len₂ size₂ : ℕ)
+    → place ≤ length was → k < n → at ≡ place + size * k → o ≤ o' → Along (keeps faults labels size place was judge) lba len n size k rest all kept
+    → r ≡ judge k (take len rest) → label ≡ slice_get labels k → size' ≡ size → lba' ≡ lba + k → len₂ ≡ len → size₂ ≡ size
+    → BlockWritten (then_kept faults label (take size' (drop at (over place (joined kept) was))) r) size' at lba' o' f (over place (joined kept) was) (Some sense) now
+    → AllWritten (write_end lba (kept_over faults labels 0 (frames_of size₂ n (drop place was)) (each judge 0 (frames_of len₂ n all)))) size₂ place o f was now (record { done = k; sense = Some sense })
+wrote_until judge faults labels lba len n size k place at o o' f rest all was now kept sense r label size' lba' len₂ size₂ h l e c a er eb es el en ez b =
+    let still : drop at (over place (joined kept) was) ≡ drop (place + size * k) was = behind_put place at (size * k) (joined kept) was h e a.bytes ∙ ap (λ m. drop m was) e in
+    let b' = rw (er, eb, es, el, still) at b in
+    rw (en, ez, kept_each faults labels judge size place len n all was) (wrote_up_to (keeps faults labels size place was judge) lba len n size k place at o o' f rest all was now kept sense h l e c a b')
 
-pub wrote_whole : (judge : Judge) (lba len n size k place o f : ℕ) (rest all was : List ℕ) (now : Option (List ℕ)) (len₂ size₂ : ℕ) → k ≡ n → len₂ ≡ len → size₂ ≡ size → Wrote judge lba len n size k rest all place was now →
-    AllWritten (write_end lba (each judge 0 (frames_of len₂ n all))) size₂ place o f was now (record { done = n; sense = None })
-wrote_whole judge lba len n size k place o f rest all was now len₂ size₂ e en ez w =
-    rw (en, ez) (subst (λ d. AllWritten (write_end lba (each judge 0 (frames_of len n all))) size place o f was now (record { done = d; sense = None })) e
-    (wrote_all judge lba len n size k place o f rest all was now e w))
+pub wrote_whole : (judge : Judge) (faults : List FaultLine) (labels : List Label) (lba len n size k place o f : ℕ) (rest all was : List ℕ) (now : Option (List ℕ)) (len₂ size₂ : ℕ) → k ≡ n → len₂ ≡ len → size₂ ≡ size
+    → Wrote (keeps faults labels size place was judge) lba len n size k rest all place was now
+    → AllWritten (write_end lba (kept_over faults labels 0 (frames_of size₂ n (drop place was)) (each judge 0 (frames_of len₂ n all)))) size₂ place o f was now (record { done = n; sense = None })
+wrote_whole judge faults labels lba len n size k place o f rest all was now len₂ size₂ e en ez w =
+    rw (en, ez, kept_each faults labels judge size place len n all was) (subst (λ d. AllWritten (write_end lba (each (keeps faults labels size place was judge) 0 (frames_of len n all))) size place o f was now (record { done = d; sense = None })) e
+    (wrote_all (keeps faults labels size place was judge) lba len n size k place o f rest all was now e w))

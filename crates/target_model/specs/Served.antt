@@ -55,13 +55,13 @@ pub record Served (u : LogicalUnit) (answer : Option Stop → Answer) (old new :
   pub back : StandsBack u (answer stop).blocks was
   pub into : after ≡ at_front (joined (answer stop).sent) before
 
--- One accepted frame was stored at this place, or the store call failed and left other bytes there.
+-- This stands at the place of one accepted block, or the store call failed and left other bytes there.
 abbrev pub StoredOrFailed : List ℕ → (place lba old new : ℕ) → List ℕ → Option Sense → Option (List ℕ) → Type 0
 StoredOrFailed frame place lba old new was None now = now ≡ Some (over place frame was)
 StoredOrFailed frame place lba old new was (Some sense) now =
     Rose old new × (sense ≡ medium_sense WRITE_ERROR lba) × ((left : List ℕ) × (length left ≡ length frame) × (now ≡ Some (over place left was)))
 
--- how one block of a write ends, of which this came at the target
+-- how one block of a write ends, of which this stands in its place unless it is found bad
 abbrev pub BlockWritten : Result (List ℕ) Check → (size place lba old new : ℕ) → List ℕ → Option Sense → Option (List ℕ) → Type 0
 BlockWritten (Err check) size place lba old new was result now = (result ≡ Some (check_sense check lba)) × (now ≡ Some was)
 BlockWritten (Ok frame) size place lba old new was result now = (length frame ≡ size) × StoredOrFailed frame place lba old new was result now
@@ -90,17 +90,18 @@ pub record AllRead (end : Option Stop → Ended) (frame old new : ℕ) (result :
 
 -- ---- the same on a store that tells its bytes
 
-abbrev pub BlockWrittenOn : Result (List ℕ) Check → (size place lba : ℕ) → (old new : StoreState) → Option Sense → Type 0
-BlockWrittenOn judged size place lba old new result = (bytes : List ℕ) → old.bytes ≡ Some bytes → BlockWritten judged size place lba old.faults new.faults bytes result new.bytes
+-- what stands in the block's place hangs on what stood there
+abbrev pub BlockWrittenOn : (List ℕ → Result (List ℕ) Check) → (size place lba : ℕ) → (old new : StoreState) → Option Sense → Type 0
+BlockWrittenOn judged size place lba old new result = (bytes : List ℕ) → old.bytes ≡ Some bytes → BlockWritten (judged bytes) size place lba old.faults new.faults bytes result new.bytes
 
 -- what came at the target is read off the store's bytes
 abbrev pub BlockReadOn : (List ℕ → Result (List ℕ) Check) → (size lba : ℕ) → (old new : StoreState) → Option Sense → List ℕ → Type 0
 BlockReadOn judged size lba old new result frame = (bytes : List ℕ) → old.bytes ≡ Some bytes → BlockRead (judged bytes) size lba old.faults new.faults result frame
 
-abbrev pub AllWrittenOn : (Option Stop → Ended) → (frame place : ℕ) → (old new : StoreState) → Outcome → Type 0
-AllWrittenOn end frame place old new result = (bytes : List ℕ) → old.bytes ≡ Some bytes → AllWritten end frame place old.faults new.faults bytes new.bytes result
-
 -- the end is read off the store's bytes
+abbrev pub AllWrittenOn : (List ℕ → Option Stop → Ended) → (frame place : ℕ) → (old new : StoreState) → Outcome → Type 0
+AllWrittenOn end frame place old new result = (bytes : List ℕ) → old.bytes ≡ Some bytes → AllWritten (end bytes) frame place old.faults new.faults bytes new.bytes result
+
 abbrev pub AllReadOn : (List ℕ → Option Stop → Ended) → (frame : ℕ) → (old new : StoreState) → Outcome → (before after : List ℕ) → Type 0
 AllReadOn end frame old new result before after = (bytes : List ℕ) → old.bytes ≡ Some bytes → AllRead (end bytes) frame old.faults new.faults result before after
 

@@ -1,11 +1,12 @@
 //! One block of a command, over any store.
 
-ghost use Rattle.std.specs.Prelude.{◌≡◌, ◌+◌, ◌≤◌, ◌^◌, ◌<◌, length, take, drop, true};
-ghost use Rattle.dix_base.specs.Stores.{WasRead, WasWritten};
-ghost use Rattle.dix_base.specs.Told.{Rose};
+ghost use Rattle.std.specs.Prelude.{◌≡◌, ◌+◌, ◌++◌, ◌≤◌, ◌^◌, ◌<◌, List, OnErr, OnOk, length, take, drop, true, ℕ};
+ghost use Rattle.dix_base.specs.Stores.{IsCounted, WasRead, WasWritten};
+ghost use Rattle.dix_base.specs.Told.{Apart, Becomes, Rose, over};
 ghost use Rattle.rig_api.specs.Log.{IsMediumSense, has_key};
 ghost use Rattle.rig_api.specs.Frames.{sent_size, stored_size};
 ghost use Rattle.rig_api.specs.Passing.{from_medium, to_medium};
+ghost use Rattle.rig_api.specs.Target.{kept_under, then_kept};
 ghost use Rattle.target_model.specs.Served.{BlockReadOn, BlockWrittenOn};
 
 use crate::sense::{aborted, medium};
@@ -14,6 +15,36 @@ use fault_schedule::Tamper;
 use rig_api::Passage;
 use sense_codes::Sense;
 use sense_codes::codes::{UNRECOVERED_READ, WRITE_ERROR};
+
+/// How many bytes of a block's frame are stored, of so many: all of them, where no line says else.
+fn bytes_stored(block: Passage, tamper: &Tamper, all: usize) -> usize
+    ensures within { result ≤ all }
+    ensures front { (old frame : List ℕ) → length old ≡ all → length frame ≡ all
+        → kept_under tamper.now block.label old frame ≡ take result frame ++ drop result old }
+{
+    let label = match block.label {
+        None => return all,
+        Some(label) => label,
+    };
+    match tamper.keep(label) {
+        Some(bytes) => all.min(bytes as usize),
+        None => all,
+    }
+}
+
+/// Stores the front of a frame by one call of the store, and by none where it has no bytes.
+fn store_front<S: Store>(store: &mut S, place: u64, front: &[u8]) -> Result<(), Failed>
+    requires held { place + length front.now ≤ (S.state store.old).length }
+    ensures written { OnOk result (Becomes (λ old new. new ≡ over place front.now old) (S.state store.old).bytes (S.state store.new).bytes) }
+    ensures apart { OnErr result (Becomes (Apart place (length front.now)) (S.state store.old).bytes (S.state store.new).bytes) }
+    ensures stays { WasWritten (S.state store.old) (S.state store.new) }
+    ensures counted { IsCounted result (S.state store.old) (S.state store.new) }
+{
+    if front.is_empty() {
+        return Ok(());
+    }
+    store.write_at(place, front)
+}
 
 /// Takes a block from the host to its place in the store. `frame` is scratch of the length of a
 /// stored block. Where the block isn't stored, the answer is the sense.
@@ -29,7 +60,8 @@ pub(crate) fn write_block<S: Store>(
     requires sent { length sent.now ≡ sent_size block.protect block.size }
     requires fits { length sent.now ≤ length frame.old }
     requires held { place + length frame.old ≤ (S.state store.old).length }
-    ensures told { BlockWrittenOn (to_medium tamper.now block sent.now) (stored_size block.ty block.size) place block.lba (S.state store.old) (S.state store.new) result }
+    ensures told { BlockWrittenOn (λ bytes. then_kept tamper.now block.label (take (stored_size block.ty block.size) (drop place bytes)) (to_medium tamper.now block sent.now))
+        (stored_size block.ty block.size) place block.lba (S.state store.old) (S.state store.new) result }
     ensures medium { IsMediumSense result → Rose (S.state store.old).faults (S.state store.new).faults }
     ensures key { has_key result ≡ true }
     ensures frame { length frame.new ≡ length frame.old }
@@ -38,10 +70,13 @@ pub(crate) fn write_block<S: Store>(
     frame[..sent.len()].copy_from_slice(sent);
     match block.to_medium(tamper, frame) {
         Some(check) => Some(aborted(check, block.lba)),
-        None => match store.write_at(place, frame) {
-            Ok(()) => None,
-            Err(Failed) => Some(medium(WRITE_ERROR, block.lba)),
-        },
+        None => {
+            let stored = bytes_stored(block, tamper, frame.len());
+            match store_front(store, place, &frame[..stored]) {
+                Ok(()) => None,
+                Err(Failed) => Some(medium(WRITE_ERROR, block.lba)),
+            }
+        }
     }
 }
 

@@ -222,9 +222,9 @@ pub fn serve_command<S: Store>(
 /// Answers a command block: the outcome, with what is stored or sent.
 ///
 /// The first refusal comes before any block. Else the blocks are taken in order, each by one call
-/// of the store, up to the first that is found bad or whose call fails: those before it are stored
-/// or sent. Block `k` of a command has label `k`, whose faults alter it at its four crossings; the
-/// shifts are those of the first label's op. Places of `into` past what is sent stay.
+/// of the store at most, up to the first that is found bad or whose call fails: those before it are stored
+/// or sent. Block `k` of a command has label `k`, whose faults alter it at its four crossings, and
+/// may keep a part of it from the medium; the shifts are those of the first label's op. Places of `into` past what is sent stay.
 pub fn serve<S: Store>(
     store: &mut S,
     unit: &LogicalUnit,

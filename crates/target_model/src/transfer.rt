@@ -5,7 +5,7 @@ ghost use Rattle.dix_base.specs.Stores.{WasRead, WasWritten};
 ghost use Rattle.dix_base.specs.Told.{Rose, over};
 ghost use Rattle.rig_api.specs.Log.{IsMedium, has_key};
 ghost use Rattle.rig_api.specs.Frames.{frames_of, sent_size};
-ghost use Rattle.rig_api.specs.Target.{passage, read_by, read_end, write_end, written_by};
+ghost use Rattle.rig_api.specs.Target.{kept_over, passage, read_by, read_end, write_end, written_by};
 ghost use Rattle.target_model.specs.Served.{AllReadOn, AllVerifiedOn, AllWrittenOn, CanMove, block_bytes};
 
 use crate::block::{read_block, write_block};
@@ -54,7 +54,8 @@ fn ends_at(k: u32, sense: Sense) -> Outcome
 }
 
 /// Stores the blocks one after another from this place on, up to the first that isn't stored.
-/// Each goes through a buffer, where it is altered and gets its tuple.
+/// Each goes through a buffer, where it is altered and gets its tuple. A line may keep a part of it
+/// from the store, or all of it; it counts as stored.
 pub(crate) fn write_blocks<S: Store>(
     store: &mut S,
     place: u64,
@@ -65,7 +66,7 @@ pub(crate) fn write_blocks<S: Store>(
 ) -> Outcome
     requires can { CanMove blocks.unit blocks.fields blocks.lba place (S.state store.old).length }
     requires out { length out.now ≡ blocks.fields.n * sent_size blocks.fields.protect blocks.unit.size }
-    ensures told { AllWrittenOn (write_end blocks.lba (written_by blocks.unit blocks.fields blocks.lba tamper.now labels.now out.now))
+    ensures told { AllWrittenOn (λ held. write_end blocks.lba (kept_over tamper.now labels.now 0 (frames_of (block_bytes blocks.unit) blocks.fields.n (drop place held)) (written_by blocks.unit blocks.fields blocks.lba tamper.now labels.now out.now)))
         (block_bytes blocks.unit) place (S.state store.old) (S.state store.new) result }
     ensures medium { IsMedium result → Rose (S.state store.old).faults (S.state store.new).faults }
     ensures key { has_key result.sense ≡ true }

@@ -40,6 +40,19 @@ pub(crate) fn flip(words: &str) -> FaultLine {
     }
 }
 
+/// How much of a block is stored, by two words: the block's place in its command, and how many bytes.
+pub(crate) fn keep(words: &str) -> FaultLine {
+    let (k, bytes) = cut(words);
+    FaultLine {
+        op: 7,
+        k: small(k),
+        at: Crossing::TargetToMedium,
+        kind: FaultKind::Keep {
+            bytes: small(bytes),
+        },
+    }
+}
+
 /// A shift of the address, by two words: the crossing, and by how many blocks.
 pub(crate) fn shift(words: &str) -> FaultLine {
     let (at, by) = cut(words);

@@ -1,6 +1,6 @@
 //! The steps of a row.
 
-use crate::faults::{flip, shift};
+use crate::faults::{flip, keep, shift};
 use crate::outcomes::is_outcome;
 use crate::units::answered;
 use dix_base::MemStore;
@@ -69,6 +69,7 @@ impl Scene {
             "fails" => self.fails = number(rest),
             "flip" => self.lines.push(flip(rest))?,
             "shift" => self.lines.push(shift(rest))?,
+            "keep" => self.lines.push(keep(rest))?,
             "sent" => self.sent = bytes_of(alloc, rest)?,
             "room" => self.into = bytes_of(alloc, rest)?,
             _ => return Ok(false),
