@@ -4,6 +4,7 @@ pub mod Cells
 pub mod Change
 pub mod Given
 pub mod InTurn
+pub mod Leaves
 pub mod Passed
 pub mod PathLaws
 pub mod ReadMoves

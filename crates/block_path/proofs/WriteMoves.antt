@@ -1,5 +1,5 @@
 -- A write's maps and its carry are its act.
-use Rattle.std.proofs.Common.{◌≡◌, ◌≤◌, ◌^◌, ℕ, zero, suc, ◌+◌, Bool, true, false, ◌&&◌, ◌||◌, eqb, if◌then◌else◌, List, [], ◌∷◌, ◌++◌, length, drop, take, get_or, refl, sym, ap, ◌∙◌, arith}
+use Rattle.std.proofs.Common.{◌≡◌, ◌≤◌, ◌^◌, ℕ, zero, suc, ◌+◌, Bool, true, false, ◌&&◌, ◌||◌, eqb, if◌then◌else◌, List, [], ◌∷◌, ◌++◌, length, drop, take, get_or, map, refl, sym, ap, ◌∙◌, arith}
 use Rattle.std.specs.Int.{w32, to_be_bytes, from_be_bytes}
 use Rattle.std.specs.List.{All}
 use Rattle.std.proofs.lemmas.Nat.{from_be_bytes-to_be_bytes_4, mod_below}
@@ -153,6 +153,7 @@ module _ (s : Site) (r : Route) (frame : List ℕ) (now : State) (at : FrameAt r
       let place = own_cell s r ∷ [] in
       let back = tuple_after r (drop r.size seen) in
       let way = way_out s.faults s.device r seen in
+      let leaves = map (s.device.leaves r (get_or now.blocks (stored_cell s r) [])) in
       let same = ap (λ f. written_by r (goes_out s.faults s.device r f) [] log) (mapped_frame on) in
       let out = out_length r old old_size in
       let after = after_length r old old_size in
@@ -162,7 +163,7 @@ module _ (s : Site) (r : Route) (frame : List ℕ) (now : State) (at : FrameAt r
             ∙ scatter_twice tuple new (tuple_after r old) now.bytes (distinct tuple at.tuple.once) (omega (arith, out, after))
             ∙ ap (λ xs. scatter tuple (tuple_after r xs) now.bytes) (sym seen_tuple)
             ∙ ap (λ xs. scatter tuple xs now.bytes) (sym (back_bytes r way back log));
-        blocks = ap (λ e. scatter cell e.written.blocks now.blocks) same ∙ ap (λ xs. scatter cell xs now.blocks) (back_blocks r way back log);
+        blocks = ap (λ e. scatter cell (leaves e.written.blocks) now.blocks) same ∙ ap (λ xs. scatter cell (leaves xs) now.blocks) (back_blocks r way back log);
         logs = ap (λ e. scatter place e.written.logs now.logs) same ∙ ap (λ xs. scatter place xs now.logs) (back_logs r way back log);
         answer = ap (λ e. e.answer) same ∙ back_answer r way back log;
       }
@@ -194,12 +195,13 @@ module _ (s : Site) (r : Route) (app : ℕ) (body tuple : List ℕ) (now : State
       let seen = gather 0 (body ++ tuple) made.bytes in
       let back = tuple_after r (drop r.size seen) in
       let way = way_out s.faults s.device r (own_frame r app (gather 0 body now.bytes)) in
+      let leaves = map (s.device.leaves r (get_or now.blocks (stored_cell s r) [])) in
       let same_way = ap (way_out s.faults s.device r) made_frame in
       let behind : AllFrom n (drop r.size (body ++ tuple)) = rw (drop_over body tuple r.size 0 (omega (arith, whole))) (from n tuple h) in
       record {
         bytes = scatter_behind n (drop r.size (body ++ tuple)) (written_by r (way_out s.faults s.device r seen) back log).written.bytes made.bytes behind
             ∙ scatter_behind n tuple (tuple_bytes own) now.bytes (from n tuple h);
-        blocks = ap (λ w. scatter cell (written_by r w back log).written.blocks now.blocks) same_way ∙ ap (λ xs. scatter cell xs now.blocks) (sym (back_blocks r way back log));
+        blocks = ap (λ w. scatter cell (leaves (written_by r w back log).written.blocks) now.blocks) same_way ∙ ap (λ xs. scatter cell (leaves xs) now.blocks) (sym (back_blocks r way back log));
         logs = ap (λ w. scatter place (written_by r w back log).written.logs now.logs) same_way ∙ ap (λ xs. scatter place xs now.logs) (sym (back_logs r way back log));
         answer = ap (λ w. (written_by r w back log).answer) same_way ∙ sym (back_answer r way back log);
       }
@@ -215,6 +217,6 @@ pub bare_write : (s : Site) (r : Route) (app : ℕ) (body : List ℕ) (now : Sta
     (act (carry_out s r body) now ≡ act (write_block s r app body) now) × (tell (carry_out s r body) now ≡ tell (write_block s r app body) now)
 bare_write s r app body now off =
     let same = ap (λ w. written_by r w [] (get_or now.logs (own_cell s r) [])) (bare_way s r app (gather 0 body now.bytes) off) in (
-      same_cells _ _ _ _ _ _ _ _ refl (ap (λ e. scatter (stored_cell s r ∷ []) e.written.blocks now.blocks) same) (ap (λ e. scatter (own_cell s r ∷ []) e.written.logs now.logs) same) refl,
+      same_cells _ _ _ _ _ _ _ _ refl (ap (λ e. scatter (stored_cell s r ∷ []) (map (s.device.leaves r (get_or now.blocks (stored_cell s r) [])) e.written.blocks) now.blocks) same) (ap (λ e. scatter (own_cell s r ∷ []) e.written.logs now.logs) same) refl,
       ap (λ e. e.answer) same,
     )

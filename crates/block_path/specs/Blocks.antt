@@ -1,4 +1,4 @@
-use Rattle.std.specs.Prelude.{ℕ, ◌&&◌, ◌||◌, eqb, if◌then◌else◌, List, [], ◌∷◌, ◌++◌, length, take, drop, get_or, replicate, Option, Some, None, Result, Ok, Err}
+use Rattle.std.specs.Prelude.{ℕ, ◌&&◌, ◌||◌, eqb, if◌then◌else◌, List, [], ◌∷◌, ◌++◌, length, take, drop, get_or, map, replicate, Option, Some, None, Result, Ok, Err}
 use Rattle.std.specs.Int.{w32, from_be_bytes, to_be_bytes}
 use Rattle.pi_guard.specs.Guards.{guard_of}
 use Rattle.pi_tuple.specs.Finds.{has_ref_tag, own_tag}
@@ -87,6 +87,10 @@ written_by r (Stores carried stored) back log = record {
   answer = record silent { of = write_of r; sent = sent_of r Write (Ok carried) (length log) };
 }
 
+-- In the cell of a block that is stored stands what the device leaves of what stood there.
+abbrev pub stored_over : Site → Route → (old : List ℕ) → Effect ActAnswer → Effect ActAnswer
+stored_over s r old e = record { written = record e.written { blocks = map (s.device.leaves r old) e.written.blocks }; answer = e.answer }
+
 -- the tuple that the block layer makes for these data
 abbrev pub own_tuple : Route → ℕ → List ℕ → Tuple
 own_tuple r app body = record { guard = guard_of r.mode.kind body; app = app; rtag = own_tag (host_type r.ty) r.virt }
@@ -98,10 +102,10 @@ own_frame r app body = if r.mode.dix then frame_of body (own_tuple r app body) e
 abbrev pub write_block : Site → Route → ℕ → List ℕ → Act ActAnswer
 write_block s r app body = record {
   bytes = record { reads = body; writes = [] };
-  blocks = record { reads = []; writes = stored_cell s r ∷ [] };
+  blocks = record { reads = stored_cell s r ∷ []; writes = stored_cell s r ∷ [] };
   logs = record { reads = own_cell s r ∷ []; writes = own_cell s r ∷ [] };
   fates = untouched;
-  compute = λ seen. written_by r (way_out s.faults s.device r (own_frame r app seen.bytes)) [] (get_or seen.logs 0 []);
+  compute = λ seen. stored_over s r (get_or seen.blocks 0 []) (written_by r (way_out s.faults s.device r (own_frame r app seen.bytes)) [] (get_or seen.logs 0 []));
 }
 
 -- After its write a tag that was the virtual block's or that of the address is the virtual block's, in host types 1 and 2; any other stays.
@@ -117,10 +121,10 @@ tuple_after r tuple = take 4 tuple ++ tag_after r (drop 4 tuple)
 abbrev pub write_block_of_app : Site → Route → List ℕ → Act ActAnswer
 write_block_of_app s r frame = record {
   bytes = record { reads = frame; writes = drop r.size frame };
-  blocks = record { reads = []; writes = stored_cell s r ∷ [] };
+  blocks = record { reads = stored_cell s r ∷ []; writes = stored_cell s r ∷ [] };
   logs = record { reads = own_cell s r ∷ []; writes = own_cell s r ∷ [] };
   fates = untouched;
-  compute = λ seen. written_by r (way_out s.faults s.device r seen.bytes) (tuple_after r (drop r.size seen.bytes)) (get_or seen.logs 0 []);
+  compute = λ seen. stored_over s r (get_or seen.blocks 0 []) (written_by r (way_out s.faults s.device r seen.bytes) (tuple_after r (drop r.size seen.bytes)) (get_or seen.logs 0 []));
 }
 
 -- A block that isn't delivered leaves zeros.

@@ -8,7 +8,7 @@ use Rattle.bio_core.specs.declared.fate.Why.{Why}
 use Rattle.bio_core.specs.declared.request.Dir.TheVariants.{Read}
 use Rattle.block_path.specs.declared.route.Route.{Route}
 use Rattle.block_path.specs.Acts.{Act, Effect, State}
-use Rattle.block_path.specs.Blocks.{ActAnswer, Site, fetched_cell, nothing_written, own_cell, own_tuple, read_of, sent_of, silent, stored_cell, untouched, written_by}
+use Rattle.block_path.specs.Blocks.{ActAnswer, Site, fetched_cell, stored_over, nothing_written, own_cell, own_tuple, read_of, sent_of, silent, stored_cell, untouched, written_by}
 use Rattle.block_path.specs.Routes.{host_type}
 use Rattle.block_path.specs.WayIn.{Delivers, Spoils, Stops, WayIn, comes_in, mapped_back, verified}
 use Rattle.block_path.specs.WayOut.{goes_out}
@@ -42,10 +42,10 @@ map_back r tuple = on_bytes tuple tuple (remapped_bytes (host_type r.ty) r.lba r
 abbrev pub carry_out : Site → Route → List ℕ → Act ActAnswer
 carry_out s r frame = record {
   bytes = record { reads = frame; writes = [] };
-  blocks = record { reads = []; writes = stored_cell s r ∷ [] };
+  blocks = record { reads = stored_cell s r ∷ []; writes = stored_cell s r ∷ [] };
   logs = record { reads = own_cell s r ∷ []; writes = own_cell s r ∷ [] };
   fates = untouched;
-  compute = λ seen. written_by r (goes_out s.faults s.device r seen.bytes) [] (get_or seen.logs 0 []);
+  compute = λ seen. stored_over s r (get_or seen.blocks 0 []) (written_by r (goes_out s.faults s.device r seen.bytes) [] (get_or seen.logs 0 []));
 }
 
 -- what a block leaves that is carried in: a good one lands in the pages, and of each it is kept what was found

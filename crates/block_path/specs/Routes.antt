@@ -8,7 +8,7 @@ use Rattle.pi_tuple.specs.Finds.{finding, is_zero}
 use Rattle.pi_tuple.specs.declared.checks.PiType.{PiType}
 use Rattle.pi_tuple.specs.declared.checks.PiType.TheVariants.{Zero, One, Two, Three}
 use Rattle.pi_tuple.specs.declared.checks.Check.{Check}
-use Rattle.fault_schedule.specs.Altered.{shift_of}
+use Rattle.fault_schedule.specs.Altered.{kept, shift_of}
 use Rattle.fault_schedule.specs.declared.Label.{Label}
 use Rattle.fault_schedule.specs.declared.fault.Crossing.TheVariants.{AdapterToTarget, MediumToTarget}
 use Rattle.fault_schedule.specs.declared.fault.FaultLine.{FaultLine}
@@ -96,10 +96,11 @@ passage faults r = record {
   label = Some r.label;
 }
 
--- What is behind the adapter: what it stores of a frame that it is sent, and what it sends of a stored block, or why it doesn't.
+-- What is behind the adapter: what it stores of a frame that it is sent, and what it sends of a stored block, or why it doesn't; and what is left where it stores a frame over an old one.
 pub record Device : Type 0 where
   pub stores : Route → List ℕ → Result (List ℕ) Why
   pub sends : Route → List ℕ → Result (List ℕ) Why
+  pub leaves : Route → (old frame : List ℕ) → List ℕ
 
 abbrev pub by_target : Result (List ℕ) Check → Result (List ℕ) Why
 by_target (Ok frame) = Ok frame
@@ -110,6 +111,7 @@ abbrev pub target : List FaultLine → Device
 target faults = record {
   stores = λ r frame. by_target (to_medium faults (passage faults r) frame);
   sends = λ r stored. by_target (from_medium faults (passage faults r) stored);
+  leaves = λ r old frame. kept faults r.label old frame;
 }
 
 -- any device of which it is known what came of each block
@@ -117,4 +119,5 @@ abbrev pub told_by : (Label → Result (List ℕ) Why) → Device
 told_by came = record {
   stores = λ r frame. came r.label;
   sends = λ r stored. came r.label;
+  leaves = λ r old frame. frame;
 }

@@ -7,6 +7,7 @@ use Rattle.pi_tuple.specs.Tuples.{ref_tag}
 use Rattle.pi_tuple.specs.declared.checks.Check.{Check}
 use Rattle.pi_tuple.specs.declared.checks.PiType.TheVariants.{One}
 use Rattle.page_pool.specs.Cells.{gather}
+use Rattle.fault_schedule.specs.Altered.{keep_of}
 use Rattle.fault_schedule.specs.declared.fault.Crossing.{Crossing}
 use Rattle.fault_schedule.specs.declared.fault.Crossing.TheVariants.{TargetToMedium}
 use Rattle.fault_schedule.specs.declared.fault.FaultLine.{FaultLine}
@@ -27,7 +28,7 @@ use Rattle.walk_laws.specs.Steps.{Reads, Step, Writes, WritesPi}
 use Rattle.walk_laws.specs.UnderMap.{home}
 use Rattle.lab_laws.proofs.Flipped.{IsOne, IsSeenFlip, Whole}
 use Rattle.lab_laws.proofs.Ways.{in_by, out_by, target_finds}
-use Rattle.lab_laws.proofs.OneLine.{Alike, IsOwn, as_written, m0, m1, none_shifted, one_line, reads_alike, same_fetched, same_stored}
+use Rattle.lab_laws.proofs.OneLine.{Alike, IsOwn, as_kept, as_written, m0, m1, none_shifted, one_line, reads_alike, same_fetched, same_stored, whole_kept}
 use Rattle.lab_laws.proofs.Marked.{StoredWrong, in_why, medium_out, out_why}
 use Rattle.lab_laws.proofs.Walking.{Holds, app_supplied, comes, fetched_is, goes, home_is, inside, own_supplied, read_why, written_why}
 use Rattle.lab_laws.proofs.Beside.{IsListed, Marks, MayBeListed, WasGood, spoilt}
@@ -162,9 +163,10 @@ module _ (m' : Setting) (even : m'.size % 2 ≡ 0) (image : List (List ℕ)) (li
         ∙ ap (λ way. tell (as_written r d own reads writes way back) s) w.with_flip
         ∙ sym (ap (λ way. tell (as_written r d own reads writes way back) s) without_is)
 
-    pub does_so : acted (stored_cell (second).site r) (way_out line (second).site.device r f) ≡ spoilt m' even image lies TargetToMedium op k off byte check b.virt within w.stored w.whole w.bad (acted d (way_out [] (first).site.device r f))
+    pub does_so : act (as_kept (keep_of line r.label) r (stored_cell (second).site r) own reads writes (way_out line (second).site.device r f) back) s ≡ spoilt m' even image lies TargetToMedium op k off byte check b.virt within w.stored w.whole w.bad (acted d (way_out [] (first).site.device r f))
     does_so =
-        ap (λ d. acted d (way_out line (second).site.device r f)) (same_stored m' TargetToMedium op k off byte b)
+        ap (λ keep. act (as_kept keep r (stored_cell (second).site r) own reads writes (way_out line (second).site.device r f) back) s) (whole_kept m' TargetToMedium op k off byte b)
+        ∙ ap (λ d. acted d (way_out line (second).site.device r f)) (same_stored m' TargetToMedium op k off byte b)
         ∙ ap (acted d) w.with_flip
         ∙ ap (λ (bs : List (List ℕ)). record (acted d (Stores w.carried w.carried)) { blocks = bs })
         (ap (λ i. set s.blocks i w.stored) at_home ∙ sym (ap (λ i. set (set s.blocks i w.carried) place w.stored) at_home ∙ set-set s.blocks place w.carried w.stored))

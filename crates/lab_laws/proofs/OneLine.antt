@@ -1,16 +1,16 @@
 -- A run with one flip beside the run without: all other blocks are done alike, and what becomes of the flipped one.
-use Rattle.std.proofs.Common.{◌≡◌, ℕ, ◌-◌, Bool, true, false, eqb, ◌&&◌, if◌then◌else◌, List, [], ◌∷◌, length, drop, get_or, None, refl, sym, ap, ◌∙◌, arith}
+use Rattle.std.proofs.Common.{◌≡◌, ℕ, ◌-◌, Bool, true, false, eqb, ◌&&◌, if◌then◌else◌, List, [], ◌∷◌, length, drop, get_or, map, Option, None, refl, sym, ap, ◌∙◌, arith}
 use Rattle.std.specs.Prelude.{ℤ, bit_xor, leb, pos, slice_index, unwrap_or}
 use Rattle.std.specs.Int.Bits.{xor_zero_r}
 use Rattle.std.proofs.lemmas.Bool.{eqb-true, eq-eqb, le-leb}
 use Rattle.page_pool.specs.Cells.{gather}
-use Rattle.fault_schedule.specs.Altered.{byte_at, is_line_of, is_same, named, shift_of}
+use Rattle.fault_schedule.specs.Altered.{byte_at, is_line_of, is_same, keep_of, keep_or, kept_by, named, shift_of}
 use Rattle.fault_schedule.specs.declared.fault.Crossing.{Crossing}
 use Rattle.fault_schedule.specs.declared.fault.Crossing.TheVariants.{AdapterToHost, AdapterToTarget, HostToAdapter, MediumToTarget, TargetToAdapter, TargetToMedium}
 use Rattle.fault_schedule.specs.declared.fault.FaultKind.TheVariants.{Flip}
 use Rattle.fault_schedule.specs.declared.fault.FaultLine.{FaultLine}
 use Rattle.integrity_payload.specs.declared.payload.Owner.{Owner}
-use Rattle.block_path.specs.Acts.{Act, State, act, tell}
+use Rattle.block_path.specs.Acts.{Act, Effect, State, act, tell}
 use Rattle.block_path.specs.Blocks.{ActAnswer, fetched_cell, own_cell, own_frame, read_by, stored_cell, tuple_after, untouched, written_by}
 use Rattle.block_path.specs.WayIn.{WayIn, way_in}
 use Rattle.block_path.specs.WayOut.{WayOut, way_out}
@@ -29,15 +29,23 @@ one_line at op k off byte = record { op = op; k = k; at = at; kind = Flip off (b
 
 -- ---- acts, by what becomes of their blocks
 
+-- of what is stored so many bytes are, or all of them
+abbrev pub kept_over : Option ℕ → (old : List ℕ) → Effect ActAnswer → Effect ActAnswer
+kept_over keep old e = record { written = record e.written { blocks = map (kept_by keep old) e.written.blocks }; answer = e.answer }
+
 -- a block of a write: where it is stored, what it reads and writes of the pages, and how it ends
-abbrev pub as_written : Route → (cell own : ℕ) → (reads writes : List ℕ) → WayOut → (back : List ℕ) → Act ActAnswer
-as_written r cell own reads writes w back = record {
+abbrev pub as_kept : Option ℕ → Route → (cell own : ℕ) → (reads writes : List ℕ) → WayOut → (back : List ℕ) → Act ActAnswer
+as_kept keep r cell own reads writes w back = record {
   bytes = record { reads = reads; writes = writes };
-  blocks = record { reads = []; writes = cell ∷ [] };
+  blocks = record { reads = cell ∷ []; writes = cell ∷ [] };
   logs = record { reads = own ∷ []; writes = own ∷ [] };
   fates = untouched;
-  compute = λ seen. written_by r w back (get_or seen.logs 0 []);
+  compute = λ seen. kept_over keep (get_or seen.blocks 0 []) (written_by r w back (get_or seen.logs 0 []));
 }
+
+-- the same, stored whole
+abbrev pub as_written : Route → (cell own : ℕ) → (reads writes : List ℕ) → WayOut → (back : List ℕ) → Act ActAnswer
+as_written r cell own reads writes w back = as_kept None r cell own reads writes w back
 
 abbrev pub as_read : Route → Owner → (cell own : ℕ) → (to : List ℕ) → WayIn → Act ActAnswer
 as_read r owner cell own to w = record {
@@ -103,6 +111,14 @@ module _ (m' : Setting) (at : Crossing) (op k off byte : ℕ) where
   one_shifted c o = by (is_same at c && eqb op o)
     where
       by : (t : Bool) → ◌≡◌ {A = ℤ} (unwrap_or (if t then None else None) (pos 0)) (pos 0)
+      by true = refl
+      by false = refl
+
+  -- it lets each block be stored whole
+  pub whole_kept : (b : Block) → keep_of lines (route m1 b).label ≡ None
+  whole_kept b = by (is_line_of (one_line at op k off byte) TargetToMedium (route m1 b).label)
+    where
+      by : (t : Bool) → ◌≡◌ {A = Option ℕ} (keep_or (if t then None else None) None) None
       by true = refl
       by false = refl
 
@@ -186,7 +202,7 @@ module _ (m' : Setting) (at : Crossing) (op k off byte : ℕ) where
       let f = own_frame r app (gather 0 body s.bytes) in
       let w = way_out lines m1.site.device (route m1 b) f in
       record {
-        does = ap (λ c. act (as_written r c own body [] w []) s) (same_stored b) ∙ ap (λ w. act (as_written r c own body [] w []) s) e;
+        does = ap (λ keep. act (as_kept keep r (stored_cell m1.site r) own body [] w []) s) (whole_kept b) ∙ ap (λ c. act (as_written r c own body [] w []) s) (same_stored b) ∙ ap (λ w. act (as_written r c own body [] w []) s) e;
         answers = ap (λ c. tell (as_written r c own body [] w []) s) (same_stored b) ∙ ap (λ w. tell (as_written r c own body [] w []) s) e;
       }
 
@@ -200,7 +216,7 @@ module _ (m' : Setting) (at : Crossing) (op k off byte : ℕ) where
       let to = drop r.size frame in
       let w = way_out lines m1.site.device (route m1 b) x in
       record {
-        does = ap (λ c. act (as_written r c own frame to w back) s) (same_stored b) ∙ ap (λ w. act (as_written r c own frame to w back) s) e;
+        does = ap (λ keep. act (as_kept keep r (stored_cell m1.site r) own frame to w back) s) (whole_kept b) ∙ ap (λ c. act (as_written r c own frame to w back) s) (same_stored b) ∙ ap (λ w. act (as_written r c own frame to w back) s) e;
         answers = ap (λ c. tell (as_written r c own frame to w back) s) (same_stored b) ∙ ap (λ w. tell (as_written r c own frame to w back) s) e;
       }
 

@@ -29,7 +29,7 @@ use Rattle.run_laws.proofs.Along.{set_cases}
 use Rattle.run_premises.proofs.Ways.{OfBytes, comes_bytes}
 use Rattle.lab_laws.proofs.Flipped.{Whole}
 use Rattle.lab_laws.proofs.Ways.{fetched_home, in_by, out_by, out_of, stored_home, target_finds}
-use Rattle.lab_laws.proofs.OneLine.{m0, none_altered, none_shifted, quiet_in, quiet_out}
+use Rattle.lab_laws.proofs.OneLine.{kept_over, m0, none_altered, none_shifted, quiet_in, quiet_out}
 use Rattle.lab_laws.proofs.Marked.{in_why, mapped_whole, no_bytes, out_why, sent_whole, to_fine}
 
 module _ (m' : Setting) (even : m'.size % 2 ≡ 0) (image : List (List ℕ)) (lies : LiesInImage (m0 m' TargetToMedium 0 0 0 0) (volume_len m'.entries) image) where
@@ -134,13 +134,13 @@ module _ (m' : Setting) (even : m'.size % 2 ≡ 0) (image : List (List ℕ)) (li
       subst Kept (sym (goes b f)) (kept_of (adapter_finds_out (route m b) x) (target_finds m' [] none_shifted b y) y (sent_whole m' even b x (mapped_whole m' even b f h)))
 
   written_sizes : (b : Block) (w : WayOut) (back : List ℕ) (log : List (List ℕ)) (s : State) → Holds s → b.virt < count → Kept w →
-      map length (scatter (stored_cell m.site (route m b) ∷ []) (written_by (route m b) w back log).written.blocks s.blocks) ≡ map length s.blocks
+      map length (scatter (stored_cell m.site (route m b) ∷ []) (kept_over None [] (written_by (route m b) w back log)).written.blocks s.blocks) ≡ map length s.blocks
   written_sizes b (Fails why) back log s h l k = refl
   written_sizes b (Refuses why) back log s h l k = refl
   written_sizes b (Stores carried x) back log s h l k = ap (λ c. map length (set s.blocks c x)) (home_is b) ∙ same_sizes s h b.virt l x k
 
   written_each : (b : Block) (w : WayOut) (back : List ℕ) (log : List (List ℕ)) (s : State) → Holds s → b.virt < count → Kept w →
-      (u : ℕ) → u < count → Whole n (get_or (scatter (stored_cell m.site (route m b) ∷ []) (written_by (route m b) w back log).written.blocks s.blocks) (home m u) [])
+      (u : ℕ) → u < count → Whole n (get_or (scatter (stored_cell m.site (route m b) ∷ []) (kept_over None [] (written_by (route m b) w back log)).written.blocks s.blocks) (home m u) [])
   written_each b (Fails why) back log s h l k = h.each
   written_each b (Refuses why) back log s h l k = h.each
   written_each b (Stores carried x) back log s h l k = λ u g. subst (λ c. Whole n (get_or (set s.blocks c x) (home m u) [])) (sym (home_is b)) (stored b.virt l x k s h u g)

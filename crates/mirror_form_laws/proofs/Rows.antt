@@ -4,7 +4,7 @@ use Rattle.pi_guard.specs.Guards.{crc}
 use Rattle.pi_guard.specs.declared.GuardKind.TheVariants.{Crc, Ip}
 use Rattle.fault_schedule.specs.declared.fault.Crossing.{Crossing}
 use Rattle.fault_schedule.specs.declared.fault.Crossing.TheVariants.{AdapterToTarget, HostToAdapter, MediumToTarget, TargetToAdapter, TargetToMedium}
-use Rattle.fault_schedule.specs.declared.fault.FaultKind.TheVariants.{Flip, Shift}
+use Rattle.fault_schedule.specs.declared.fault.FaultKind.TheVariants.{Flip, Shift, Keep}
 use Rattle.fault_schedule.specs.declared.fault.FaultLine.{FaultLine}
 use Rattle.rig_api.specs.declared.change.Change.TheVariants.{Copy}
 use Rattle.stack_ops.specs.declared.op.Op.{Op}
@@ -57,6 +57,10 @@ undone = refl
 not_undone : shows_on_legs Crc 512 4 (line 3 1 TargetToMedium ∷ line 2 1 MediumToTarget ∷ []) ops ≡ true
 unfolding crc
 not_undone = refl
+
+-- A write that is lost on a leg.
+lost : shows_on_legs Crc 512 4 (record { op = 1; k = 0; at = TargetToMedium; kind = Keep 0 } ∷ []) ops ≡ false
+lost = refl
 
 -- A shift, and an overwrite.
 shifted : shows_on_legs Crc 512 4 (record { op = 1; k = 0; at = AdapterToTarget; kind = Shift (pos 1) } ∷ []) ops ≡ false

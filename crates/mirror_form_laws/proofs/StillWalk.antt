@@ -113,7 +113,7 @@ module _ (m' : Setting) (p : ℕ) (some : eqb p 0 ≡ false) (half : ℕ) (count
     by false q = subst (Passes m' (address_of m' v)) (sym (get_or-set_other blocks (stored_cell m1.site (route m1 b)) (home m' v) stored [] (eqb-false (home m' v) (stored_cell m1.site (route m1 b)) q))) (all v l)
 
   written-pass : (b : Block) (w : WayOut) (log : List (List ℕ)) (blocks : List (List ℕ)) → b.virt < len → Kept m' b w → AllPass blocks
-      → AllPass (scatter (stored_cell m1.site (route m1 b) ∷ []) (written_by (route m1 b) w [] log).written.blocks blocks)
+      → AllPass (scatter (stored_cell m1.site (route m1 b) ∷ []) (map (λ frame. frame) (written_by (route m1 b) w [] log).written.blocks) blocks)
   written-pass b (Fails why) log blocks l k all = all
   written-pass b (Refuses why) log blocks l k all = all
   written-pass b (Stores carried stored) log blocks l k all = stored-pass b stored blocks l k all
@@ -151,13 +151,13 @@ module _ (m' : Setting) (p : ℕ) (some : eqb p 0 ≡ false) (half : ℕ) (count
       record {
         state = ap (λ (w : State). record {
           bytes = scatter [] w.bytes s.bytes;
-          blocks = scatter (stored_cell m1.site (route m1 b) ∷ []) w.blocks s.blocks;
+          blocks = scatter (stored_cell m1.site (route m1 b) ∷ []) (map (λ frame. frame) w.blocks) s.blocks;
           logs = scatter (own_cell m1.site (route m1 b) ∷ []) w.logs s.logs;
           fates = scatter [] w.fates s.fates;
         })
             (ap (λ (w : WayOut). (written_by (route mp b) w [] log).written) ep ∙ written-state b (calm_out m' b f) log ∙ sym (ap (λ (w : WayOut). (written_by (route m1 b) w [] log).written) e1));
         why = ap (λ (w : WayOut). (written_by (route mp b) w [] log).answer.why) ep ∙ written-why b (calm_out m' b f) log ∙ sym (ap (λ (w : WayOut). (written_by (route m1 b) w [] log).answer.why) e1);
-        pass = subst (λ (w : WayOut). AllPass (scatter (stored_cell m1.site (route m1 b) ∷ []) (written_by (route m1 b) w [] log).written.blocks s.blocks)) (sym e1)
+        pass = subst (λ (w : WayOut). AllPass (scatter (stored_cell m1.site (route m1 b) ∷ []) (map (λ frame. frame) (written_by (route m1 b) w [] log).written.blocks) s.blocks)) (sym e1)
             (written-pass b (calm_out m' b f) log s.blocks fit.0 (kept-out m' b f l) all);
       }
   one-step (WritesPi b frame) s fit all = absurd fit

@@ -24,6 +24,7 @@ use Rattle.block_path.specs.Serial.{plain}
 use Rattle.block_path.specs.WayIn.{delivered_of, delivered_unless, from_device, from_wire, mapped_back, owner_finds, verified, at_host}
 use Rattle.block_path.specs.WayOut.{from_adapter, mapped_out, stored_of, to_wire, at_device}
 use Rattle.block_path.proofs.Cells.{gather_length}
+use Rattle.block_path.proofs.Leaves.{kept_length}
 use Rattle.block_path.proofs.Sizes.{in_size, mapped_sizes, out_size}
 use Rattle.block_path.proofs.InTurn.{plain_append}
 use Rattle.walk_laws.specs.Past.{Brought, brought_by, steps_from}
@@ -119,10 +120,16 @@ module _ (m : Setting) (half : ℕ) (opening : List (List ℕ)) (legs : HasLegs 
       omega (arith, k, least)
 
   -- what is accepted is as long as what was there
-  store_keeps : (b : Block) (e : Brought) (blocks : List (List ℕ)) → b.virt < volume_len m.entries → length e.body ≡ m.size → KeepsSizes opening blocks → KeepsSizes opening (stored_at (stored_cell m.site (route m b)) (writing m b e) blocks)
+  store_keeps : (b : Block) (e : Brought) (blocks : List (List ℕ)) → b.virt < volume_len m.entries → length e.body ≡ m.size → KeepsSizes opening blocks → KeepsSizes opening (stored_at (stored_cell m.site (route m b)) (m.site.device.leaves (route m b)) (writing m b e) blocks)
   store_keeps b e blocks l k h = by (writing m b e) (writing_size b e k) where
-    by : (came : Result (List ℕ) Why) → IfOk came (λ stored. length stored ≡ stored_size m.ty m.size) → KeepsSizes opening (stored_at (stored_cell m.site (route m b)) came blocks)
-    by (Ok stored) q = set_keeps opening blocks (stored_cell m.site (route m b)) stored h (q ∙ sym (sizes.stored b.virt l) ∙ ap (λ c. length (get_or opening c [])) (sym (stored_home m half legs b)))
+    by : (came : Result (List ℕ) Why) → IfOk came (λ stored. length stored ≡ stored_size m.ty m.size) → KeepsSizes opening (stored_at (stored_cell m.site (route m b)) (m.site.device.leaves (route m b)) came blocks)
+    by (Ok stored) q =
+        let cell = stored_cell m.site (route m b) in
+        let old = get_or blocks cell [] in
+        let own : length (get_or opening cell []) ≡ stored_size m.ty m.size = ap (λ c. length (get_or opening c [])) (stored_home m half legs b) ∙ sizes.stored b.virt l in
+        set_keeps opening blocks cell (m.site.device.leaves (route m b) old stored) h
+        (subst (λ (d : Device). length (d.leaves (route m b) old stored) ≡ length (get_or opening cell [])) (sym sizes.device)
+        (kept_length m.site.faults (route m b).label old stored (length (get_or opening cell [])) (h cell) (q ∙ sym own)))
     by (Err why) q = h
 
   module _ (count : ℕ → ℕ) where
@@ -182,7 +189,7 @@ module _ (m : Setting) (half : ℕ) (opening : List (List ℕ)) (legs : HasLegs 
   -- a block that is repaired
   mended_keeps : (u : ℕ) (b : Block) (mark : Bool → Marks → Marks) (e : Brought) (r : WalkedRepair) → b.virt < volume_len m.entries → length e.body ≡ m.size → KeepsSizes opening r.blocks → KeepsSizes opening (mended m u b mark (writing m b e) r).blocks
   mended_keeps u b mark e r l k h = by (writing m b e) (store_keeps b e r.blocks l k h) where
-    by : (came : Result (List ℕ) Why) → KeepsSizes opening (stored_at (stored_cell m.site (route m b)) came r.blocks) → KeepsSizes opening (mended m u b mark came r).blocks
+    by : (came : Result (List ℕ) Why) → KeepsSizes opening (stored_at (stored_cell m.site (route m b)) (m.site.device.leaves (route m b)) came r.blocks) → KeepsSizes opening (mended m u b mark came r).blocks
     by (Ok stored) q = q
     by (Err why) q = q
 

@@ -22,7 +22,7 @@ use Rattle.block_path.specs.Serial.{plain}
 use Rattle.block_path.specs.WayOut.{Fails, Refuses, Stores, WayOut, way_out}
 use Rattle.block_path.proofs.Cells.{gather_length}
 use Rattle.walk_laws.specs.Detectable.{detectable, shows_out, step_shows}
-use Rattle.walk_laws.specs.FirstLayer.{is_hit}
+use Rattle.walk_laws.specs.FirstLayer.{is_hit, is_stored_whole}
 use Rattle.walk_laws.specs.Past.{Event, events_of, past_after}
 use Rattle.walk_laws.specs.PlainMap.{as_expected}
 use Rattle.walk_laws.specs.ScriptWalk.{act_of}
@@ -150,8 +150,13 @@ module _ (m' : Setting) (opening : State) (half : ℕ) (count : ℕ → ℕ) (st
 
     both : (shows_out m b (own_frame (route m b) app (gather 0 body s.bytes)) ≡ true) × (shows_out m (twin_of b) (own_frame (route m (twin_of b)) app (gather 0 body s.bytes)) ≡ true)
     both =
-        let p = and_parts (shows_out m b (own_frame (route m b) app (gather 0 body s.bytes))) (detectable m (Writes (twin_of b) app body ∷ []) (act (act_of m (Writes b app body)) s)) d in
-        (p.0, (and_parts (shows_out m (twin_of b) (own_frame (route m (twin_of b)) app (gather 0 body s.bytes))) true p.1).0)
+        let first = step_shows m (Writes b app body) s in
+        let next = act (act_of m (Writes b app body)) s in
+        let p = and_parts first (detectable m (Writes (twin_of b) app body ∷ []) next) d in
+        let q = and_parts (step_shows m (Writes (twin_of b) app body) next) true p.1 in (
+          (and_parts (is_stored_whole m b) (shows_out m b (own_frame (route m b) app (gather 0 body s.bytes))) p.0).1,
+          (and_parts (is_stored_whole m (twin_of b)) (shows_out m (twin_of b) (own_frame (route m (twin_of b)) app (gather 0 body s.bytes))) q.0).1,
+        )
 
     by : (leg : Bool) → IsUnnamed m (on_leg leg b (twin_of b)) →
         Follows m' opening half count still leg (tell (act_of m (Writes b app body)) s).why (tell (act_of m (Writes (twin_of b) app body)) (act (act_of m (Writes b app body)) s)).why

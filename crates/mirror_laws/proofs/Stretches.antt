@@ -40,8 +40,8 @@ module _ (m : Setting) (half : ℕ) (legs : HasLegs m half) where
     mended_same : (b : Block) (mark : Bool → Marks → Marks) (came : Result (List ℕ) Why) (r : WalkedRepair) → b.virt < half + half → (b.virt ≡ w → ⊥) → (b.virt ≡ half + w → ⊥) → Same w r (mended m u b mark came r)
     mended_same b mark (Ok stored) r l p q = record {
       marks = get_or-set_other r.marks u w (mark true (marks_of r.marks u)) fresh (λ e. off (sym e));
-      on0 = get_or-set_other r.blocks (stored_cell m.site (route m b)) (home m w) stored [] (λ e. homes_apart m half legs b.virt w l (omega (arith, lw)) p (sym (stored_home m half legs b) ∙ sym e));
-      on1 = get_or-set_other r.blocks (stored_cell m.site (route m b)) (home m (half + w)) stored [] (λ e. homes_apart m half legs b.virt (half + w) l (omega (arith, lw)) q (sym (stored_home m half legs b) ∙ sym e));
+      on0 = get_or-set_other r.blocks (stored_cell m.site (route m b)) (home m w) (m.site.device.leaves (route m b) (get_or r.blocks (stored_cell m.site (route m b)) []) stored) [] (λ e. homes_apart m half legs b.virt w l (omega (arith, lw)) p (sym (stored_home m half legs b) ∙ sym e));
+      on1 = get_or-set_other r.blocks (stored_cell m.site (route m b)) (home m (half + w)) (m.site.device.leaves (route m b) (get_or r.blocks (stored_cell m.site (route m b)) []) stored) [] (λ e. homes_apart m half legs b.virt (half + w) l (omega (arith, lw)) q (sym (stored_home m half legs b) ∙ sym e));
     }
     mended_same b mark (Err why) r l p q = record { marks = get_or-set_other r.marks u w (mark false (marks_of r.marks u)) fresh (λ e. off (sym e)); on0 = refl; on1 = refl }
 
@@ -89,13 +89,13 @@ module _ (m : Setting) (half : ℕ) where
   mended_then : (u : ℕ) (ns : List Need) (b : Block) (mark : Bool → Marks → Marks) (came : Result (List ℕ) Why) (r : WalkedRepair) →
       after_due m half (suc u) ns (mended m u b mark came r)
       ≡ record {
-        blocks = written m (due half (suc u) ns) (due_data ns) (stored_at (stored_cell m.site (route m b)) came r.blocks);
+        blocks = written m (due half (suc u) ns) (due_data ns) (stored_at (stored_cell m.site (route m b)) (m.site.device.leaves (route m b)) came r.blocks);
         marks = marks_mended (suc u) ns (whys_due m half (suc u) ns) (set r.marks u (mark (is_none (why_of came)) (marks_of r.marks u)));
         repaired = r.repaired + accepted_of (why_of came ∷ whys_due m half (suc u) ns);
         lost = r.lost + lost_of ns;
       }
   mended_then u ns b mark (Ok stored) r =
-      counted (written m (due half (suc u) ns) (due_data ns) (set r.blocks (stored_cell m.site (route m b)) stored))
+      counted (written m (due half (suc u) ns) (due_data ns) (set r.blocks (stored_cell m.site (route m b)) (m.site.device.leaves (route m b) (get_or r.blocks (stored_cell m.site (route m b)) []) stored)))
       (marks_mended (suc u) ns (whys_due m half (suc u) ns) (set r.marks u (mark true (marks_of r.marks u))))
       (suc r.repaired + accepted_of (whys_due m half (suc u) ns)) (r.repaired + suc (accepted_of (whys_due m half (suc u) ns))) (r.lost + lost_of ns) (r.lost + lost_of ns) (omega arith) refl
   mended_then u ns b mark (Err why) r = refl

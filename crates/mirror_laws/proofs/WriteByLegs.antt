@@ -1,7 +1,7 @@
 -- A write leg by leg. What is found of a block doesn't depend on what is stored, and blocks that have cells of their own can be stored in any order.
 use Rattle.std.proofs.Common.{◌≡◌, ◌<◌, ◌≤◌, ℕ, zero, suc, ◌+◌, ◌*◌, List, [], ◌∷◌, map, get_or, set, take, drop, Option, refl, sym, ap, ◌∙◌, arith}
 use Rattle.std.specs.Prelude.{nat_abs, Result, Ok, Err}
-use Rattle.std.proofs.lemmas.List.{set_comm}
+use Rattle.std.proofs.lemmas.List.{get_or-set_other, set_comm}
 use Rattle.page_pool.specs.declared.segs.Seg.{Seg}
 use Rattle.page_pool.specs.Cells.{gather, scatter}
 use Rattle.fault_schedule.specs.Altered.{shift_of}
@@ -46,44 +46,53 @@ gather_drop (suc n) [] cells = refl
 gather_drop (suc n) (i ∷ at) cells = gather_drop n at cells
 
 -- of one block
-stores : (c : ℕ) (r : Route) (w : WayOut) (log blocks : List (List ℕ)) → scatter (c ∷ []) (written_by r w [] log).written.blocks blocks ≡ stored_at c (stored_of w) blocks
-stores c r (Fails why) log blocks = refl
-stores c r (Refuses why) log blocks = refl
-stores c r (Stores carried stored) log blocks = refl
+stores : (c : ℕ) (leaves : List ℕ → List ℕ → List ℕ) (r : Route) (w : WayOut) (log blocks : List (List ℕ)) → scatter (c ∷ []) (map (leaves (get_or blocks c [])) (written_by r w [] log).written.blocks) blocks ≡ stored_at c leaves (stored_of w) blocks
+stores c leaves r (Fails why) log blocks = refl
+stores c leaves r (Refuses why) log blocks = refl
+stores c leaves r (Stores carried stored) log blocks = refl
 
 finds : (r : Route) (w : WayOut) (log : List (List ℕ)) → (written_by r w [] log).answer.why ≡ why_of (stored_of w)
 finds r (Fails why) log = refl
 finds r (Refuses why) log = refl
 finds r (Stores carried stored) log = refl
 
-pub stored_turned : (c d : ℕ) (x y : Result (List ℕ) Why) (blocks : List (List ℕ)) → (c ≡ d → ⊥) → stored_at c x (stored_at d y blocks) ≡ stored_at d y (stored_at c x blocks)
-stored_turned c d (Ok stored) (Ok other) blocks h = set_comm blocks d c other stored (λ e. h (sym e))
-stored_turned c d (Ok stored) (Err why) blocks h = refl
-stored_turned c d (Err why) (Ok other) blocks h = refl
-stored_turned c d (Err why) (Err again) blocks h = refl
+pub stored_turned : (c d : ℕ) (leaves others : List ℕ → List ℕ → List ℕ) (x y : Result (List ℕ) Why) (blocks : List (List ℕ)) → (c ≡ d → ⊥) →
+    stored_at c leaves x (stored_at d others y blocks) ≡ stored_at d others y (stored_at c leaves x blocks)
+stored_turned c d leaves others (Ok stored) (Ok other) blocks h =
+    let here = leaves (get_or blocks c []) stored in
+    let there = others (get_or blocks d []) other in
+    ap (λ old. set (set blocks d there) c (leaves old stored)) (get_or-set_other blocks d c there [] h)
+    ∙ set_comm blocks d c there here (λ e. h (sym e))
+    ∙ ap (λ old. set (set blocks c here) d (others old other)) (sym (get_or-set_other blocks c d here [] (λ e. h (sym e))))
+stored_turned c d leaves others (Ok stored) (Err why) blocks h = refl
+stored_turned c d leaves others (Err why) (Ok other) blocks h = refl
+stored_turned c d leaves others (Err why) (Err again) blocks h = refl
 
 module _ (m : Setting) where
   abbrev pub cell_of : Block → ℕ
   cell_of b = stored_cell m.site (route m b)
 
+  abbrev pub leaves_of : Block → List ℕ → List ℕ → List ℕ
+  leaves_of b = m.site.device.leaves (route m b)
+
   abbrev with_tag : (app : ℕ) → List ℕ → List ℕ → Brought
   with_tag app at bytes = record { body = gather 0 at bytes; app = app }
 
-  pub write_stores : (b : Block) (app : ℕ) (at : List ℕ) (s : State) → (act (act_of m (Writes b app at)) s).blocks ≡ stored_at (cell_of b) (writing m b (with_tag app at s.bytes)) s.blocks
+  pub write_stores : (b : Block) (app : ℕ) (at : List ℕ) (s : State) → (act (act_of m (Writes b app at)) s).blocks ≡ stored_at (cell_of b) (leaves_of b) (writing m b (with_tag app at s.bytes)) s.blocks
   write_stores b app at s =
-      stores (cell_of b) (route m b) (way_out m.site.faults m.site.device (route m b) (own_frame (route m b) app (gather 0 at s.bytes))) (get_or s.logs (own_cell m.site (route m b)) []) s.blocks
+      stores (cell_of b) (leaves_of b) (route m b) (way_out m.site.faults m.site.device (route m b) (own_frame (route m b) app (gather 0 at s.bytes))) (get_or s.logs (own_cell m.site (route m b)) []) s.blocks
 
   write_finds : (b : Block) (app : ℕ) (at : List ℕ) (s : State) → (tell (act_of m (Writes b app at)) s).why ≡ why_of (writing m b (with_tag app at s.bytes))
   write_finds b app at s =
       finds (route m b) (way_out m.site.faults m.site.device (route m b) (own_frame (route m b) app (gather 0 at s.bytes))) (get_or s.logs (own_cell m.site (route m b)) [])
 
   -- blocks that are stored elsewhere
-  pub written_past : (b : ℕ → Block) (e : ℕ → Brought) (c : ℕ) (x : Result (List ℕ) Why) (j r : ℕ) (blocks : List (List ℕ)) → ((l : ℕ) → j ≤ l → l < j + r → cell_of (b l) ≡ c → ⊥) →
-      written m (each_from j r b) (each_from j r e) (stored_at c x blocks) ≡ stored_at c x (written m (each_from j r b) (each_from j r e) blocks)
-  written_past b e c x j zero blocks h = refl
-  written_past b e c x j (suc r) blocks h =
-      ap (written m (each_from (suc j) r b) (each_from (suc j) r e)) (stored_turned (cell_of (b j)) c (writing m (b j) (e j)) x blocks (h j (omega arith) (omega arith)))
-      ∙ written_past b e c x (suc j) r (stored_at (cell_of (b j)) (writing m (b j) (e j)) blocks) (λ l k g. h l (omega (arith, k)) (omega (arith, g)))
+  pub written_past : (b : ℕ → Block) (e : ℕ → Brought) (c : ℕ) (leaves : List ℕ → List ℕ → List ℕ) (x : Result (List ℕ) Why) (j r : ℕ) (blocks : List (List ℕ)) → ((l : ℕ) → j ≤ l → l < j + r → cell_of (b l) ≡ c → ⊥) →
+      written m (each_from j r b) (each_from j r e) (stored_at c leaves x blocks) ≡ stored_at c leaves x (written m (each_from j r b) (each_from j r e) blocks)
+  written_past b e c leaves x j zero blocks h = refl
+  written_past b e c leaves x j (suc r) blocks h =
+      ap (written m (each_from (suc j) r b) (each_from (suc j) r e)) (stored_turned (cell_of (b j)) c (leaves_of (b j)) leaves (writing m (b j) (e j)) x blocks (h j (omega arith) (omega arith)))
+      ∙ written_past b e c leaves x (suc j) r (stored_at (cell_of (b j)) (leaves_of (b j)) (writing m (b j) (e j)) blocks) (λ l k g. h l (omega (arith, k)) (omega (arith, g)))
 
 module _ (m : Setting) (half : ℕ) (legs : HasLegs m half) where
   pub stored_home : (b : Block) → stored_cell m.site (route m b) ≡ home m b.virt
@@ -124,10 +133,10 @@ module _ (m : Setting) (half : ℕ) (legs : HasLegs m half) where
     why1 bytes k = why_of (writing m (twin m half count (block_of i v k)) (record { body = gather 0 (at k) bytes; app = app }))
 
     one_stores : (k : ℕ) (s : Mirror) →
-        (done m half count (f k) s).state.blocks ≡ stored_at (cell_of m (on1 k)) (writing m (on1 k) (e s.state.bytes k)) (stored_at (cell_of m (on0 k)) (writing m (on0 k) (e s.state.bytes k)) s.state.blocks)
+        (done m half count (f k) s).state.blocks ≡ stored_at (cell_of m (on1 k)) (leaves_of m (on1 k)) (writing m (on1 k) (e s.state.bytes k)) (stored_at (cell_of m (on0 k)) (leaves_of m (on0 k)) (writing m (on0 k) (e s.state.bytes k)) s.state.blocks)
     one_stores k s =
         write_stores m (on1 k) app (at k) (act (act_of m (f k)) s.state)
-        ∙ ap (stored_at (cell_of m (on1 k)) (writing m (on1 k) (e s.state.bytes k))) (write_stores m (on0 k) app (at k) s.state)
+        ∙ ap (stored_at (cell_of m (on1 k)) (leaves_of m (on1 k)) (writing m (on1 k) (e s.state.bytes k))) (write_stores m (on0 k) app (at k) s.state)
 
     one_found : (k : ℕ) (s : Mirror) → (done m half count (f k) s).marks ≡ set s.marks (v + k) (marked (why0 s.state.bytes k) (why1 s.state.bytes k) (marks_of s.marks (v + k)))
     one_found k s =
@@ -153,7 +162,7 @@ module _ (m : Setting) (half : ℕ) (legs : HasLegs m half) where
         all_stored (suc j) r (done m half count (f j) s) (omega (arith, l))
         ∙ ap (λ x. written m (each_from (suc j) r on1) es (written m (each_from (suc j) r on0) es x)) (one_stores j s)
         ∙ ap (written m (each_from (suc j) r on1) es)
-        (written_past m on0 (e s.state.bytes) (cell_of m (on1 j)) (writing m (on1 j) (e s.state.bytes j)) (suc j) r (stored_at (cell_of m (on0 j)) (writing m (on0 j) (e s.state.bytes j)) s.state.blocks)
+        (written_past m on0 (e s.state.bytes) (cell_of m (on1 j)) (leaves_of m (on1 j)) (writing m (on1 j) (e s.state.bytes j)) (suc j) r (stored_at (cell_of m (on0 j)) (leaves_of m (on0 j)) (writing m (on0 j) (e s.state.bytes j)) s.state.blocks)
         (λ k g h q. stored_apart (on0 k) (on1 j) (omega (arith, l, h)) (omega (arith, l)) (λ x. omega (arith, l, h, x)) q))
 
     all_marked : (j r : ℕ) (s : Mirror) →

@@ -1,4 +1,4 @@
-use Rattle.std.specs.Prelude.{ℕ, ◌+◌, ◌*◌, Bool, true, false, if◌then◌else◌, List, [], ◌∷◌, ◌++◌, drop, map, replicate, set, take, Option, Some, None, Result, Ok, Err}
+use Rattle.std.specs.Prelude.{ℕ, ◌+◌, ◌*◌, Bool, true, false, if◌then◌else◌, List, [], ◌∷◌, ◌++◌, drop, get_or, map, replicate, set, take, Option, Some, None, Result, Ok, Err}
 use Rattle.bio_core.specs.declared.fate.Why.{Why}
 use Rattle.block_path.specs.Blocks.{stored_cell}
 use Rattle.walk_laws.specs.Past.{Brought}
@@ -23,10 +23,10 @@ abbrev pub why_of : Result (List ℕ) Why → Option Why
 why_of (Ok frame) = None
 why_of (Err why) = Some why
 
--- what is stored where it is accepted
-abbrev pub stored_at : (cell : ℕ) → Result (List ℕ) Why → List (List ℕ) → List (List ℕ)
-stored_at c (Ok stored) blocks = set blocks c stored
-stored_at c (Err why) blocks = blocks
+-- where a frame is accepted, there stands what the device leaves of it over what stood there
+abbrev pub stored_at : (cell : ℕ) → (leaves : List ℕ → List ℕ → List ℕ) → Result (List ℕ) Why → List (List ℕ) → List (List ℕ)
+stored_at c leaves (Ok stored) blocks = set blocks c (leaves (get_or blocks c []) stored)
+stored_at c leaves (Err why) blocks = blocks
 
 -- the data that a read lands: of the frame those of the block, and zeros where none is delivered
 abbrev pub landed_by : (size : ℕ) → Result (List ℕ) Why → List ℕ
@@ -43,7 +43,7 @@ module _ (m : Setting) where
   abbrev pub written : List Block → List Brought → List (List ℕ) → List (List ℕ)
   written [] es blocks = blocks
   written (b ∷ bs) [] blocks = blocks
-  written (b ∷ bs) (e ∷ es) blocks = written bs es (stored_at (stored_cell m.site (route m b)) (writing m b e) blocks)
+  written (b ∷ bs) (e ∷ es) blocks = written bs es (stored_at (stored_cell m.site (route m b)) (m.site.device.leaves (route m b)) (writing m b e) blocks)
 
   -- The blocks are read one after another: what is found of each, and the data that land. A read changes nothing that is stored.
   abbrev pub whys_read : List Block → List (List ℕ) → List (Option Why)

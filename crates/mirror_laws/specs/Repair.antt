@@ -47,7 +47,7 @@ module _ (m : Setting) where
   -- A write that is accepted repairs the block; one that isn't leaves its leg stale, and the block is neither repaired nor lost.
   abbrev pub mended : (u : ℕ) → Block → (Bool → Marks → Marks) → Result (List ℕ) Why → WalkedRepair → WalkedRepair
   mended u b mark (Ok stored) r = record {
-    blocks = set r.blocks (stored_cell m.site (route m b)) stored;
+    blocks = set r.blocks (stored_cell m.site (route m b)) (m.site.device.leaves (route m b) (get_or r.blocks (stored_cell m.site (route m b)) []) stored);
     marks = set r.marks u (mark true (marks_of r.marks u));
     repaired = suc r.repaired;
     lost = r.lost;

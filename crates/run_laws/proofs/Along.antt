@@ -1,5 +1,5 @@
 -- Along the steps of a run: what each cell of the volume's devices holds, by what is past.
-use Rattle.std.proofs.Common.{◌≡◌, ◌<◌, ◌^◌, ℕ, ◌+◌, Bool, true, false, eqb, ◌||◌, not, List, [], ◌∷◌, ◌++◌, length, get_or, set, drop, Option, Some, None, refl, sym, ap, subst, ◌∙◌, arith, length-append}
+use Rattle.std.proofs.Common.{◌≡◌, ◌<◌, ◌^◌, ℕ, ◌+◌, Bool, true, false, eqb, ◌||◌, not, List, [], ◌∷◌, ◌++◌, length, get_or, map, set, drop, Option, Some, None, refl, sym, ap, subst, ◌∙◌, arith, length-append}
 use Rattle.std.proofs.lemmas.Bool.{eqb-true, eqb-false, eq-eqb, ne_eqb, and_parts, or_parts, not-true, false≢true, cond-true, cond-false}
 use Rattle.std.proofs.lemmas.List.{length-set, get_or-set_same, get_or-set_other}
 use Rattle.pi_guard.specs.Guards.{crc}
@@ -15,8 +15,9 @@ use Rattle.fault_schedule.specs.declared.fault.Crossing.TheVariants.{TargetToMed
 use Rattle.integrity_payload.specs.declared.payload.Owner.{Owner}
 use Rattle.walk_laws.specs.Passed.{data_of, tuple_of, State, act, tell, fetched_cell, own_cell, own_frame, own_tuple, read_by, stored_cell, tuple_after, written_by, medium_lba, wire_lba, plain, Delivers, Spoils, Stops, WayIn, way_in, Fails, Refuses, Stores, WayOut, way_out, place_in, volume_len, DeviceInfo, Why, Adapter, App, Block as ByOwner, TheVariantsMedium as Medium, Refused, Short, Target}
 use Rattle.walk_laws.proofs.Passed.{gather_length}
-use Rattle.walk_laws.specs.Detectable.{bears, detectable, found, is_spoilt, shows_in, step_shows}
-use Rattle.walk_laws.specs.FirstLayer.{Layer, first_layer, has_flip, is_hit, last_accepted}
+use Rattle.walk_laws.proofs.Leaves.{leaves_whole}
+use Rattle.walk_laws.specs.Detectable.{bears, detectable, found, is_spoilt, shows_in, shows_out, step_shows}
+use Rattle.walk_laws.specs.FirstLayer.{Layer, first_layer, has_flip, is_hit, is_stored_whole, last_accepted}
 use Rattle.walk_laws.specs.Past.{Accepted, Brought, Event, Overwritten, brought_by, event_of, events_of, past_after}
 use Rattle.walk_laws.specs.ScriptWalk.{act_of, changed, source_of}
 use Rattle.walk_laws.specs.Settings.{Block, Setting, route}
@@ -164,11 +165,12 @@ module _ (m' : Setting) (devices : List DeviceInfo) (lies : LiesOn (checked m') 
   not_stored b e past blocks (Refused key asc ascq) h = h
   not_stored b e past blocks Short h = h
 
-  after_write : (b : Block) (e : Brought) (f back : List ℕ) (log : List (List ℕ)) (past : List Event) (blocks : List (List ℕ)) (w : WayOut) → b.virt < count → Outcome m' b f w → brought_by n f ≡ e → Marks past blocks →
-      Marks (event_of (written_by (route m b) w back log).answer.why b e ++ past) (scatter (stored_cell m.site (route m b) ∷ []) (written_by (route m b) w back log).written.blocks blocks)
-  after_write b e f back log past blocks (Fails why) v o brought h = not_stored b e past blocks why h
-  after_write b e f back log past blocks (Refuses why) v o brought h = not_stored b e past blocks why h
-  after_write b e f back log past blocks (Stores carried stored) v o brought h = accepted b e f stored past blocks v o.0 o.1 brought h
+  after_write : (b : Block) (e : Brought) (f back old : List ℕ) (log : List (List ℕ)) (past : List Event) (blocks : List (List ℕ)) (w : WayOut) → is_stored_whole m b ≡ true → b.virt < count → Outcome m' b f w → brought_by n f ≡ e → Marks past blocks →
+      Marks (event_of (written_by (route m b) w back log).answer.why b e ++ past) (scatter (stored_cell m.site (route m b) ∷ []) (map (m.site.device.leaves (route m b) old) (written_by (route m b) w back log).written.blocks) blocks)
+  after_write b e f back old log past blocks (Fails why) all v o brought h = not_stored b e past blocks why h
+  after_write b e f back old log past blocks (Refuses why) all v o brought h = not_stored b e past blocks why h
+  after_write b e f back old log past blocks (Stores carried stored) all v o brought h =
+      subst (λ x. Marks (Accepted b e ∷ past) (set blocks (stored_cell m.site (route m b)) x)) (sym (leaves_whole m b all old stored)) (accepted b e f stored past blocks v o.0 o.1 brought h)
 
   -- an overwrite alters a block
   altered : (dev lba : ℕ) (x : List ℕ) (past : List Event) (blocks : List (List ℕ)) → HasBlock m devices dev lba → is_spoilt m lba (get_or (set blocks (cell dev lba) x) (cell dev lba) []) ≡ true →
@@ -217,14 +219,18 @@ module _ (m' : Setting) (devices : List DeviceInfo) (lies : LiesOn (checked m') 
       let x = gather 0 body s.bytes in
       let l = gather_length 0 body s.bytes ∙ f.1.1.1 in
       let frame = own_frame (route m b) app x in
-      after_write b (record { body = x; app = app }) frame [] (get_or s.logs (own_cell m.site (route m b)) []) past s.blocks (way_out m'.site.faults m.site.device (route m b) frame) f.0
-      (goes_out m' b frame f.1.0 (own_bare b app x l f.1.1.0 (e refl)) d)
+      let p = and_parts (is_stored_whole m b) (shows_out m b frame) d in
+      after_write b (record { body = x; app = app }) frame [] (get_or s.blocks (stored_cell m.site (route m b)) []) (get_or s.logs (own_cell m.site (route m b)) []) past s.blocks
+      (way_out m'.site.faults m.site.device (route m b) frame) p.0 f.0
+      (goes_out m' b frame f.1.0 (own_bare b app x l f.1.1.0 (e refl)) p.1)
       (own_brought b app x l f.1.1.0) h
   marks_after (WritesPi b frame) past s f e d h =
       let x = gather 0 frame s.bytes in
       let bare : IsBare n x = record { size = gather_length 0 frame s.bytes ∙ f.1.1; escape = e } in
-      after_write b (brought_by n x) x (tuple_after (route m b) (drop n x)) (get_or s.logs (own_cell m.site (route m b)) []) past s.blocks (way_out m'.site.faults m.site.device (route m b) x) f.0
-      (goes_out m' b x f.1.0 bare d) refl h
+      let p = and_parts (is_stored_whole m b) (shows_out m b x) d in
+      after_write b (brought_by n x) x (tuple_after (route m b) (drop n x)) (get_or s.blocks (stored_cell m.site (route m b)) []) (get_or s.logs (own_cell m.site (route m b)) []) past s.blocks
+      (way_out m'.site.faults m.site.device (route m b) x) p.0 f.0
+      (goes_out m' b x f.1.0 bare p.1) refl h
   marks_after (Alters dev lba change) past s f e d h = altered dev lba (changed change (get_or s.blocks (source_of m.site dev lba change) [])) past s.blocks f d h
 
   pub why_read : (b : Block) (owner : Owner) (w : WayIn) (size after : ℕ) → (read_by (route m b) owner w size after).answer.why ≡ why_ended w

@@ -9,12 +9,13 @@ use Rattle.pi_tuple.specs.Tuples.{tuple_bytes}
 use Rattle.pi_tuple.specs.declared.checks.Check.{Check}
 use Rattle.pi_tuple.specs.declared.checks.PiType.{PiType}
 use Rattle.pi_tuple.specs.declared.checks.PiType.TheVariants.{Zero, One, Two, Three}
+use Rattle.fault_schedule.specs.Altered.{kept}
 use Rattle.fault_schedule.specs.declared.Label.{Label}
 use Rattle.fault_schedule.specs.declared.fault.Crossing.{Crossing}
 use Rattle.fault_schedule.specs.declared.fault.Crossing.TheVariants.{AdapterToTarget, MediumToTarget, TargetToAdapter, TargetToMedium}
 use Rattle.fault_schedule.specs.declared.fault.FaultLine.{FaultLine}
 use Rattle.walk_laws.specs.Passed.{data_of, stored_size, accepted, crossed, found_in, from_medium, released, then_crossed, to_medium, unless, with_own_tuple, Passage, fetched_cell, stored_cell, Device, by_target, passage, passes_tuples, target, told_by, wire_size, Route, Why}
-use Rattle.walk_laws.proofs.Passed.{stored_least, unless_length, crossed_length}
+use Rattle.walk_laws.proofs.Passed.{kept_length, stored_least, unless_length, crossed_length}
 use Rattle.walk_laws.specs.Settings.{Block, Setting, route}
 use Rattle.run_laws.specs.BoundRun.{Suits}
 use Rattle.run_laws.specs.Suited.{IsAtTarget, keeps_size}
@@ -99,6 +100,9 @@ suits_target m opening b h =
     record {
       stores = λ frame e. subst (λ (d : Device). IfOk (d.stores r frame) (λ x. keeps_size opening (stored_cell m.site r) x ≡ true)) (sym h.device)
           (is_fine ((target m.site.faults).stores r frame) (stored_size m.ty m.size) (length (get_or opening (stored_cell m.site r) [])) (sym h.stored) (stores_length m.site.faults r h.protect frame e));
+      leaves = λ old frame o f. subst (λ (d : Device). keeps_size opening (stored_cell m.site r) (d.leaves r old frame) ≡ true) (sym h.device)
+          (let size = length (get_or opening (stored_cell m.site r) []) in
+          eq-eqb (length (kept m.site.faults r.label old frame)) size (kept_length m.site.faults r.label old frame size (eqb-true (length old) size o) (eqb-true (length frame) size f)));
       sends = λ stored e. subst (λ (d : Device). IfOk (d.sends r stored) (λ x. length x ≡ wire_size r)) (sym h.device)
           (sends_length m.site.faults r h.protect stored (eqb-true (length stored) (length (get_or opening (fetched_cell m.site r) [])) e ∙ h.fetched));
     }
@@ -112,5 +116,6 @@ suits_record m came b h k =
     let r = route m b in
     record {
       stores = λ frame e. subst (λ (d : Device). IfOk (d.stores r frame) (λ x. true ≡ true)) (sym h) (fine_always (came r.label));
+      leaves = λ old frame o f. refl;
       sends = λ stored e. subst (λ (d : Device). IfOk (d.sends r stored) (λ x. length x ≡ wire_size r)) (sym h) k;
     }

@@ -43,9 +43,12 @@ module _ (m : Setting) where
       (stored_cell m.site (route m b) ≡ stored_cell m.site (route m c) → ⊥) → (home m b.virt ≡ home m c.virt → ⊥) → AreClear (write_reach m b reads writes) (write_reach m c reads' writes')
   write_clear b c reads writes reads' writes' p q r h k =
       let one = one_apart (home m b.virt) (home m c.virt) k in
+      let there = stored_cell m.site (route m b) in
+      let yonder = stored_cell m.site (route m c) in
+      let stored = one_apart there yonder h in
       record {
         bytes = clear (record { reads = reads; writes = writes }) (record { reads = reads'; writes = writes' }) p q r;
-        blocks = clear (write_reach m b reads writes).blocks (write_reach m c reads' writes').blocks refl refl (one_apart (stored_cell m.site (route m b)) (stored_cell m.site (route m c)) h);
+        blocks = clear (write_reach m b reads writes).blocks (write_reach m c reads' writes').blocks stored (one_apart yonder there (λ e. h (sym e))) stored;
         logs = clear (write_reach m b reads writes).logs (write_reach m c reads' writes').logs one (one_apart (home m c.virt) (home m b.virt) (λ e. k (sym e))) one;
         fates = refl;
       }

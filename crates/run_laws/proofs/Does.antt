@@ -1,5 +1,5 @@
 -- The moves of one block do what its act does to what is seen.
-use Rattle.std.proofs.Common.{◌≡◌, ◌<◌, ◌≤◌, ℕ, zero, suc, ◌+◌, Bool, true, false, if◌then◌else◌, List, [], ◌∷◌, ◌++◌, length, take, drop, get_or, set, refl, sym, ap, subst, ◌∙◌, arith, length-append}
+use Rattle.std.proofs.Common.{◌≡◌, ◌<◌, ◌≤◌, ℕ, zero, suc, ◌+◌, Bool, true, false, if◌then◌else◌, List, [], ◌∷◌, ◌++◌, length, take, drop, get_or, map, set, refl, sym, ap, subst, ◌∙◌, arith, length-append}
 use Rattle.std.specs.Prelude.{IfOk, Result, Ok, Err}
 use Rattle.std.proofs.lemmas.List.{drop_at, take_at}
 use Rattle.pi_tuple.specs.declared.checks.Check.{Check}
@@ -75,11 +75,12 @@ module _ (m : Setting) (fine : ℕ → List ℕ → Bool) (n : ℕ) (opening : S
       let x = mapped_out (route m b) frame in
       from_adapter_fine b suits (to_wire m.site.faults (route m b) x) (out_size m.site.faults (route m b) x (mapped_sizes (route m b) frame l).0)
 
-  written_fine : (b : Block) (w : WayOut) (back : List ℕ) (log : List (List ℕ)) (blocks : List (List ℕ)) → StoresFine b w → ((c : ℕ) → fine c (get_or blocks c []) ≡ true) →
-      (c : ℕ) → fine c (get_or (scatter (stored_cell m.site (route m b) ∷ []) (written_by (route m b) w back log).written.blocks blocks) c []) ≡ true
-  written_fine b (Fails why) back log blocks h all c = all c
-  written_fine b (Refuses why) back log blocks h all c = all c
-  written_fine b (Stores carried stored) back log blocks h all c = set_fine fine (stored_cell m.site (route m b)) stored blocks h all c
+  written_fine : (b : Block) (old : List ℕ) (w : WayOut) (back : List ℕ) (log : List (List ℕ)) (blocks : List (List ℕ)) → Suits m fine b → fine (stored_cell m.site (route m b)) old ≡ true → StoresFine b w → ((c : ℕ) → fine c (get_or blocks c []) ≡ true) →
+      (c : ℕ) → fine c (get_or (scatter (stored_cell m.site (route m b) ∷ []) (map (m.site.device.leaves (route m b) old) (written_by (route m b) w back log).written.blocks) blocks) c []) ≡ true
+  written_fine b old (Fails why) back log blocks suits o h all c = all c
+  written_fine b old (Refuses why) back log blocks suits o h all c = all c
+  written_fine b old (Stores carried stored) back log blocks suits o h all c =
+      set_fine fine (stored_cell m.site (route m b)) (m.site.device.leaves (route m b) old stored) blocks (suits.leaves old stored o h) all c
 
   own_length : (b : Block) (app : ℕ) (x : List ℕ) → length x ≡ m.size → length (own_frame (route m b) app x) ≡ host_size (route m b)
   own_length b app x l = by m.mode.dix where
@@ -126,13 +127,15 @@ module _ (m : Setting) (fine : ℕ → List ℕ → Bool) (n : ℕ) (opening : S
   written_after b app body s l suits p c =
       let x = gather 0 body (take n s.bytes) in
       let frame = own_frame (route m b) app x in
-      written_fine b (way_out m.site.faults m.site.device (route m b) frame) [] (get_or s.logs (own_cell m.site (route m b)) []) s.blocks
+      let at = stored_cell m.site (route m b) in
+      written_fine b (get_or s.blocks at []) (way_out m.site.faults m.site.device (route m b) frame) [] (get_or s.logs (own_cell m.site (route m b)) []) s.blocks suits (p.all_fine at)
       (way_fine b frame suits (own_length b app x (gather_length 0 body (take n s.bytes) ∙ l))) p.all_fine c
 
   app_written_after : (b : Block) (at : List ℕ) (s : State) → length at ≡ m.size + 8 → m.mode.dix ≡ true → Suits m fine b → IsShaped s → (c : ℕ) → fine c (get_or (act (act_of m (WritesPi b at)) (hidden n s)).blocks c []) ≡ true
   app_written_after b at s l on suits p c =
       let x = gather 0 at (take n s.bytes) in
-      written_fine b (way_out m.site.faults m.site.device (route m b) x) (tuple_after (route m b) (drop m.size x)) (get_or s.logs (own_cell m.site (route m b)) []) s.blocks
+      let there = stored_cell m.site (route m b) in
+      written_fine b (get_or s.blocks there []) (way_out m.site.faults m.site.device (route m b) x) (tuple_after (route m b) (drop m.size x)) (get_or s.logs (own_cell m.site (route m b)) []) s.blocks suits (p.all_fine there)
       (way_fine b x suits (gather_length 0 at (take n s.bytes) ∙ l ∙ sym (ap (λ c. if c then m.size + 8 else m.size) on))) p.all_fine c
 
   -- a block with the application's tuple

@@ -75,7 +75,7 @@ module _ (left : List ℕ) (a : Act ActAnswer) (s : State) where
       (ap (λ at. scatter at (leaving left e).written.blocks s.blocks) there ∙ ap (λ x. scatter (cell ∷ []) x s.blocks) (spill_is e.answer.why left e empty))
 
 -- over a device whose calls fail nothing is stored
-stores_nothing : (r : Route) (came : Result (List ℕ) Check) (back : List ℕ) (log : List (List ℕ)) → (written_by r (from_adapter failing r came) back log).written.blocks ≡ []
+stores_nothing : (r : Route) (came : Result (List ℕ) Check) (back : List ℕ) (log : List (List ℕ)) → map (λ frame. frame) (written_by r (from_adapter failing r came) back log).written.blocks ≡ []
 stores_nothing r (Ok carried) back log = refl
 stores_nothing r (Err check) back log = refl
 
@@ -93,7 +93,7 @@ module _ (m : Setting) (fine : ℕ → List ℕ → Bool) (n : ℕ) (opening : S
   own_same own p = record { eight = p.eight; behind = p.behind; once = p.once; within = p.within }
 
   suits_failing : (b : Block) → Suits M fine b
-  suits_failing b = record { stores = λ frame e. tt; sends = λ stored e. tt }
+  suits_failing b = record { stores = λ frame e. tt; leaves = λ old frame o f. f; sends = λ stored e. tt }
 
   -- a block of a write: its moves and its act leave the same in its cell
   fallen_write : (left : List ℕ) (cell : ℕ) (moves : List (Act ActAnswer)) (whole : Act ActAnswer) (join : List ActAnswer → ActAnswer) → fine cell left ≡ true → Does M fine n opening moves whole join →

@@ -1,5 +1,5 @@
 -- A walk in which store calls fail: what is stored for a block that isn't lost.
-use Rattle.std.proofs.Common.{◌≡◌, ◌<◌, ◌^◌, ℕ, suc, ◌+◌, Bool, true, false, eqb, if◌then◌else◌, List, [], ◌∷◌, ◌++◌, length, get_or, set, drop, Option, Some, None, refl, sym, ap, subst, ◌∙◌, ◌⊎◌, inl, inr, arith, length-append}
+use Rattle.std.proofs.Common.{◌≡◌, ◌<◌, ◌^◌, ℕ, suc, ◌+◌, Bool, true, false, eqb, if◌then◌else◌, List, [], ◌∷◌, ◌++◌, length, get_or, map, set, drop, Option, Some, None, refl, sym, ap, subst, ◌∙◌, ◌⊎◌, inl, inr, arith, length-append}
 use Rattle.std.specs.Prelude.{Result, Ok, Err}
 use Rattle.std.proofs.lemmas.Bool.{cond-false, cond-true, eqb-false, eqb-true, false≢true}
 use Rattle.std.proofs.lemmas.List.{get_or-set_other, get_or-set_same, length-set}
@@ -14,7 +14,7 @@ use Rattle.pi_tuple.specs.declared.checks.Check.TheVariants.{AppTag}
 use Rattle.pi_tuple.proofs.TupleLaws.{tag_below}
 use Rattle.page_pool.specs.Cells.{gather, scatter}
 use Rattle.integrity_payload.specs.declared.payload.Owner.{Owner}
-use Rattle.walk_laws.specs.Passed.{Op, data_of, frame_of, stored_size, tuple_of, Route, Act, State, act, conflict, tell, ActAnswer, fetched_cell, own_cell, own_frame, own_tuple, read_by, stored_cell, tuple_after, written_by, host_type, target, Fails, Refuses, Stores, WayOut, from_adapter, mapped_out, to_wire, way_out, volume_len, Why, Adapter, App, Block as ByOwner, TheVariantsMedium as Medium, Refused, Short, Target}
+use Rattle.walk_laws.specs.Passed.{Op, data_of, frame_of, stored_size, tuple_of, Route, Act, State, act, conflict, tell, ActAnswer, fetched_cell, own_cell, own_frame, own_tuple, read_by, stored_cell, stored_over, tuple_after, written_by, host_type, target, Fails, Refuses, Stores, WayOut, from_adapter, mapped_out, to_wire, way_out, volume_len, Why, Adapter, App, Block as ByOwner, TheVariantsMedium as Medium, Refused, Short, Target}
 use Rattle.walk_laws.proofs.Passed.{gather_length}
 use Rattle.walk_laws.specs.CalmRun.{AllFit, LiesInImage}
 use Rattle.walk_laws.specs.FirstLayer.{last_accepted}
@@ -28,7 +28,7 @@ use Rattle.walk_laws.proofs.CalmRuns.{op_meets, silent_form}
 use Rattle.walk_laws.proofs.CalmWays.{is_right, quiet, read_same, wire_same}
 use Rattle.walk_laws.proofs.PlainSteps.{AllMeet, Meets}
 use Rattle.walk_laws.proofs.TupleFrames.{Small, data_is, tuple_is}
-use Rattle.run_laws.specs.StoreFaults.{IsFallingRun, IsServed, LandsAs, events_when, failing, fallen, falling_past, falling_walk, is_lost, leaving, may_fall, or_fallen}
+use Rattle.run_laws.specs.StoreFaults.{IsFallingRun, IsServed, LandsAs, events_when, failing, fallen, falling_past, falling_walk, is_lost, leaving, may_fall, or_fallen, over_failing}
 use Rattle.run_laws.proofs.Framed.{retag}
 use Rattle.run_laws.proofs.Passing.{Kept, Passes, retagged}
 use Rattle.run_laws.proofs.QuietWays.{Goes, comes_in, out_bare, out_tuple, out_with_tuple, sent_bare, sent_on}
@@ -118,19 +118,19 @@ module _ (m' : Setting) (opening : State) (falls : Block → Option (List ℕ)) 
   not_stored b e past blocks Short h = h
 
   after_write : (b : Block) (own : Type 0) (e : Brought) (back : List ℕ) (log : List (List ℕ)) (past : List Event) (blocks : List (List ℕ)) (w : WayOut) → b.virt < count → GoesAs b own e w → Marks past blocks →
-      Marks (event_of (written_by (route m b) w back log).answer.why b e ++ past) (scatter (goes_to b ∷ []) (written_by (route m b) w back log).written.blocks blocks)
+      Marks (event_of (written_by (route m b) w back log).answer.why b e ++ past) (scatter (goes_to b ∷ []) (map (λ frame. frame) (written_by (route m b) w back log).written.blocks) blocks)
   after_write b own e back log past blocks (Fails why) v o h = not_stored b e past blocks why h
   after_write b own e back log past blocks (Refuses why) v o h = not_stored b e past blocks why h
   after_write b own e back log past blocks (Stores carried stored) v o h = accepted b e stored past blocks v o h
 
-  abbrev Fallen : Block → Brought → (back : List ℕ) → (log : List (List ℕ)) → List ℕ → List Event → List (List ℕ) → WayOut → Type 0
-  Fallen b e back log left past blocks w =
-      let eff = leaving left (written_by (route m b) w back log) in Marks (event_of eff.answer.why b e ++ past) (scatter (goes_to b ∷ []) eff.written.blocks blocks)
+  abbrev Fallen : Block → Brought → (back old : List ℕ) → (log : List (List ℕ)) → List ℕ → List Event → List (List ℕ) → WayOut → Type 0
+  Fallen b e back old log left past blocks w =
+      let eff = leaving left (stored_over (over_failing m).site (route m b) old (written_by (route m b) w back log)) in Marks (event_of eff.answer.why b e ++ past) (scatter (goes_to b ∷ []) eff.written.blocks blocks)
 
-  after_fall : (b : Block) (e : Brought) (f back : List ℕ) (log : List (List ℕ)) (left : List ℕ) (past : List Event) (blocks : List (List ℕ)) → b.virt < count → Marks past blocks →
-      Fallen b e back log left past blocks (way_out m.site.faults failing (route m b) f)
-  after_fall b e f back log left past blocks v h =
-      failing_rule (Fallen b e back log left past blocks) (route m b) (to_wire m.site.faults (route m b) (mapped_out (route m b) f)) (λ c. h)
+  after_fall : (b : Block) (e : Brought) (f back old : List ℕ) (log : List (List ℕ)) (left : List ℕ) (past : List Event) (blocks : List (List ℕ)) → b.virt < count → Marks past blocks →
+      Fallen b e back old log left past blocks (way_out m.site.faults failing (route m b) f)
+  after_fall b e f back old log left past blocks v h =
+      failing_rule (Fallen b e back old log left past blocks) (route m b) (to_wire m.site.faults (route m b) (mapped_out (route m b) f)) (λ c. h)
       (lost_one b past blocks (set blocks (goes_to b) left) (length-set blocks (goes_to b) left) (λ a l q. elsewhere a b left blocks l v q) h)
 
   -- the block layer's own tuple passes where the plain map accepts it
@@ -215,7 +215,7 @@ module _ (m' : Setting) (opening : State) (falls : Block → Option (List ℕ)) 
         (own_goes m'.mode.dix b app x loose (gather_length 0 body s.bytes ∙ f.1.0) f.1.1) h
     by (Some left) =
         let x = gather 0 body s.bytes in
-        after_fall b (record { body = x; app = app }) (own_frame (route m b) app x) [] (get_or s.logs (place b) []) left past s.blocks f.0 h
+        after_fall b (record { body = x; app = app }) (own_frame (route m b) app x) [] (get_or s.blocks (goes_to b) []) (get_or s.logs (place b) []) left past s.blocks f.0 h
   step_marks (WritesPi b frame) past s f h = by (falls b) where
     by : (o : Option (List ℕ)) → let a = or_fallen m (WritesPi b frame) o in Marks (events_when m (tell a s).why (WritesPi b frame) s ++ past) (act a s).blocks
     by None =
@@ -224,7 +224,7 @@ module _ (m' : Setting) (opening : State) (falls : Block → Option (List ℕ)) 
         (pi_goes m'.mode.dix b x f.1.1 loose (gather_length 0 frame s.bytes ∙ f.1.0)) h
     by (Some left) =
         let x = gather 0 frame s.bytes in
-        after_fall b (brought_by n x) x (tuple_after (route m b) (drop n x)) (get_or s.logs (place b) []) left past s.blocks f.0 h
+        after_fall b (brought_by n x) x (tuple_after (route m b) (drop n x)) (get_or s.blocks (goes_to b) []) (get_or s.logs (place b) []) left past s.blocks f.0 h
 
   accepts : (b : Block) (own : Type 0) (e : Brought) (back : List ℕ) (log : List (List ℕ)) (w : WayOut) → GoesAs b own e w → own → (written_by (route m b) w back log).answer.why ≡ None
   accepts b own e back log (Fails why) o k = absurd (o k)
@@ -267,7 +267,7 @@ module _ (m' : Setting) (opening : State) (falls : Block → Option (List ℕ)) 
     by : (o : Option (List ℕ)) → finds_plainly m' app ≡ None → let why = (tell (or_fallen m (Writes b app body) o) s).why in (why ≡ Some Medium) ⊎ (why ≡ None)
     by None own = inr (accepts b (finds_plainly m' app ≡ None) (record { body = x; app = app }) [] (get_or s.logs (place b) []) (way_out m.site.faults m.site.device (route m b) (own_frame (route m b) app x))
         (own_goes m'.mode.dix b app x loose l f.1.1) own)
-    by (Some left) own = inl (ap (λ w. (leaving left (written_by (route m b) w [] (get_or s.logs (place b) []))).answer.why) (own_falls m'.mode.dix b app x l f.1.1 own))
+    by (Some left) own = inl (ap (λ w. (leaving left (stored_over (over_failing m).site (route m b) (get_or s.blocks (goes_to b) []) (written_by (route m b) w [] (get_or s.logs (place b) [])))).answer.why) (own_falls m'.mode.dix b app x l f.1.1 own))
   served (WritesPi b frame) past s f h = λ own. by (falls b) own where
     x : List ℕ
     x = gather 0 frame s.bytes
@@ -278,7 +278,7 @@ module _ (m' : Setting) (opening : State) (falls : Block → Option (List ℕ)) 
     by : (o : Option (List ℕ)) → finds_of_app m b (data_of n x) (tuple_of n x) ≡ None → let why = (tell (or_fallen m (WritesPi b frame) o) s).why in (why ≡ Some Medium) ⊎ (why ≡ None)
     by None own = inr (accepts b (finds_of_app m b (data_of n x) (tuple_of n x) ≡ None) (brought_by n x) (tuple_after (route m b) (drop n x)) (get_or s.logs (place b) []) (way_out m.site.faults m.site.device (route m b) x)
         (pi_goes m'.mode.dix b x f.1.1 loose l) own)
-    by (Some left) own = inl (ap (λ w. (leaving left (written_by (route m b) w (tuple_after (route m b) (drop n x)) (get_or s.logs (place b) []))).answer.why) (pi_falls m'.mode.dix b x f.1.1 l own))
+    by (Some left) own = inl (ap (λ w. (leaving left (stored_over (over_failing m).site (route m b) (get_or s.blocks (goes_to b) []) (written_by (route m b) w (tuple_after (route m b) (drop n x)) (get_or s.logs (place b) [])))).answer.why) (pi_falls m'.mode.dix b x f.1.1 l own))
 
   served_along : (earlier later : List Step) (step : Step) (past : List Event) (s : State) → AllMeet m count (earlier ++ (step ∷ later)) → Marks past s.blocks →
       IsServed m opening (falling_past m falls earlier s past) falls step (falling_walk m falls earlier s)

@@ -61,7 +61,7 @@ op_reach m from fate op =
     let found = in_turn fate (fates_of op) in
     record {
       bytes = with_own (cells_touched op) (in_turn from (room_of m op));
-      blocks = record { reads = map (home m) homes.reads; writes = map (home m) homes.writes };
+      blocks = record { reads = map (home m) homes.reads ++ map (home m) homes.writes; writes = map (home m) homes.writes };
       logs = record { reads = map (home m) homes.reads ++ map (home m) homes.writes; writes = map (home m) homes.writes };
       fates = record { reads = found; writes = found };
     }
@@ -85,7 +85,7 @@ module _ (m : Setting) where
   write_covered : (b : Block) (reads writes : List ℕ) (bytes homes : Cells) (found : List ℕ) → is_shifted m b.op ≡ false → is_in b.virt homes.writes ≡ true → Within (record { reads = reads; writes = writes }) bytes →
       Covers (record {
         bytes = bytes;
-        blocks = record { reads = map (home m) homes.reads; writes = map (home m) homes.writes };
+        blocks = record { reads = map (home m) homes.reads ++ map (home m) homes.writes; writes = map (home m) homes.writes };
         logs = record { reads = map (home m) homes.reads ++ map (home m) homes.writes; writes = map (home m) homes.writes };
         fates = record { reads = found; writes = found };
       }) (write_reach m b reads writes)
@@ -93,7 +93,7 @@ module _ (m : Setting) where
       let at = in_map (home m) b.virt homes.writes v in
       record {
         bytes = w;
-        blocks = record { reads = none_within (map (home m) homes.reads); writes = in_one (stored_cell m.site (route m b)) (map (home m) homes.writes) (rw (stored_home m b s) at) };
+        blocks = record { reads = rw (stored_home m b s) (in_second (home m b.virt) (map (home m) homes.reads) (map (home m) homes.writes) at); writes = in_one (stored_cell m.site (route m b)) (map (home m) homes.writes) (rw (stored_home m b s) at) };
         logs = record { reads = in_second (home m b.virt) (map (home m) homes.reads) (map (home m) homes.writes) at; writes = in_one (home m b.virt) (map (home m) homes.writes) at };
         fates = record { reads = none_within found; writes = none_within found };
       }
@@ -101,7 +101,7 @@ module _ (m : Setting) where
   read_covered : (b : Block) (at : List ℕ) (fate : ℕ) (bytes homes : Cells) (found : List ℕ) → is_shifted m b.op ≡ false → is_in b.virt homes.reads ≡ true → is_in fate found ≡ true → Within (record { reads = at; writes = at }) bytes →
       Covers (record {
         bytes = bytes;
-        blocks = record { reads = map (home m) homes.reads; writes = map (home m) homes.writes };
+        blocks = record { reads = map (home m) homes.reads ++ map (home m) homes.writes; writes = map (home m) homes.writes };
         logs = record { reads = map (home m) homes.reads ++ map (home m) homes.writes; writes = map (home m) homes.writes };
         fates = record { reads = found; writes = found };
       }) (read_reach m b at fate)
@@ -110,7 +110,7 @@ module _ (m : Setting) where
       let seen = map (home m) homes.reads in
       record {
         bytes = w;
-        blocks = record { reads = in_one (fetched_cell m.site (route m b)) seen (rw (fetched_home m b s) here); writes = none_within (map (home m) homes.writes) };
+        blocks = record { reads = in_both (fetched_cell m.site (route m b) ∷ []) seen (seen ++ map (home m) homes.writes) (in_one (fetched_cell m.site (route m b)) seen (rw (fetched_home m b s) here)) (in_left seen (map (home m) homes.writes)); writes = none_within (map (home m) homes.writes) };
         logs = record { reads = in_both (home m b.virt ∷ []) seen (seen ++ map (home m) homes.writes) (in_one (home m b.virt) seen here) (in_left seen (map (home m) homes.writes)); writes = none_within (map (home m) homes.writes) };
         fates = record { reads = in_one fate found k; writes = in_one fate found k };
       }

@@ -84,7 +84,7 @@ ops_apart m bytes from fate i next later j op other one p q l r k apart =
           (from_less next bytes (in_turn next (room_of m other)) (omega (arith, l, r)) (turn_from next (room_of m other)))
           (turn_below from (room_of m op) next r)
           (turn_from next (room_of m other));
-      blocks = clear big.blocks large.blocks x y z;
+      blocks = clear big.blocks large.blocks (share_left mr mw yw x z) (share_left yr yw mw y (share_back mw yw z)) z;
       logs = clear big.logs large.logs (share_left mr mw yw x z) (share_left yr yw mw y (share_back mw yw z)) z;
       fates = clear big.fates large.fates found (share_back (in_turn fate (fates_of op)) (in_turn later (fates_of other)) found) found;
     })

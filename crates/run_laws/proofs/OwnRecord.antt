@@ -8,7 +8,7 @@ use Rattle.pi_tuple.specs.declared.checks.Check.{Check}
 use Rattle.fault_schedule.specs.declared.Label.{Label}
 use Rattle.fault_schedule.specs.declared.fault.FaultLine.{FaultLine}
 use Rattle.integrity_payload.specs.declared.payload.Owner.{Owner}
-use Rattle.walk_laws.specs.Passed.{Op, Act, Effect, State, act, effect, tell, ActAnswer, Sent, fetched_cell, own_cell, own_frame, read_by, tuple_after, written_by, Route, Device, told_by, plain, plain_tells, at_host, delivered_unless, from_device, from_wire, mapped_back, owner_finds, verified, at_device, from_adapter, mapped_out, to_wire, Why}
+use Rattle.walk_laws.specs.Passed.{Op, Act, Effect, State, act, effect, tell, ActAnswer, Sent, fetched_cell, own_cell, own_frame, read_by, stored_cell, stored_over, tuple_after, written_by, Route, Site, Device, told_by, plain, plain_tells, at_host, delivered_unless, from_device, from_wire, mapped_back, owner_finds, verified, at_device, from_adapter, mapped_out, to_wire, Why}
 use Rattle.walk_laws.proofs.Passed.{same_cells}
 use Rattle.walk_laws.specs.Past.{steps_from}
 use Rattle.walk_laws.specs.ScriptWalk.{act_of, acts_from, acts_of, replies_by, reply_of, script_replies, script_walk}
@@ -75,6 +75,10 @@ by_effects a otherwise s x h = record {
   state = same_cells _ _ _ _ _ _ _ _ (ap (λ v. scatter a.bytes.writes v s.bytes) h.bytes) refl (ap (λ v. scatter a.logs.writes v s.logs) h.logs) (ap (λ v. scatter a.fates.writes v s.fates) h.fates);
 }
 
+-- what stands in a cell afterwards is a matter of stored blocks alone
+over_alike : (s t : Site) (r : Route) (old other_old : List ℕ) (one other : Effect ActAnswer) → Alike one other → Alike (stored_over s r old one) (stored_over t r other_old other)
+over_alike s t r old other_old one other h = record { bytes = h.bytes; logs = h.logs; fates = h.fates; answer = h.answer }
+
 module _ (m : Setting) (es : List Sent) where
   abbrev over : Setting
   over = told m es
@@ -86,12 +90,22 @@ module _ (m : Setting) (es : List Sent) where
   step_alike (Alters dev lba change) s x f = record { tells = refl; state = refl }
   step_alike (Writes b app body) s x f =
       let r = route m b in
+      let sends = to_wire m.site.faults r (mapped_out r (own_frame r app (gather 0 body s.bytes))) in
+      let log = get_or s.logs (own_cell m.site r) [] in
+      let cell = stored_cell m.site r in
       by_effects (act_of m (Writes b app body)) (act_of over (Writes b app body)).compute s x
-      (out_alike es m.site.device r (to_wire m.site.faults r (mapped_out r (own_frame r app (gather 0 body s.bytes)))) [] (get_or s.logs (own_cell m.site r) []) f)
+      (over_alike m.site over.site r (get_or s.blocks cell []) (get_or x cell []) (written_by r (from_adapter m.site.device r sends) [] log) (written_by r (from_adapter over.site.device r sends) [] log)
+      (out_alike es m.site.device r sends [] log f))
   step_alike (WritesPi b frame) s x f =
       let r = route m b in
+      let seen = gather 0 frame s.bytes in
+      let sends = to_wire m.site.faults r (mapped_out r seen) in
+      let back = tuple_after r (drop m.size seen) in
+      let log = get_or s.logs (own_cell m.site r) [] in
+      let cell = stored_cell m.site r in
       by_effects (act_of m (WritesPi b frame)) (act_of over (WritesPi b frame)).compute s x
-      (out_alike es m.site.device r (to_wire m.site.faults r (mapped_out r (gather 0 frame s.bytes))) (tuple_after r (drop m.size (gather 0 frame s.bytes))) (get_or s.logs (own_cell m.site r) []) f)
+      (over_alike m.site over.site r (get_or s.blocks cell []) (get_or x cell []) (written_by r (from_adapter m.site.device r sends) back log) (written_by r (from_adapter over.site.device r sends) back log)
+      (out_alike es m.site.device r sends back log f))
   step_alike (Reads b owner to) s x f =
       let r = route m b in
       let after = length (get_or s.logs (own_cell m.site r) []) in

@@ -124,7 +124,7 @@ pages_alone reads writes = record { bytes = record { reads = reads; writes = wri
 abbrev pub write_reach : Setting → Block → (reads writes : List ℕ) → Reach
 write_reach m b reads writes = record {
   bytes = record { reads = reads; writes = writes };
-  blocks = record { reads = []; writes = stored_cell m.site (route m b) ∷ [] };
+  blocks = record { reads = stored_cell m.site (route m b) ∷ []; writes = stored_cell m.site (route m b) ∷ [] };
   logs = record { reads = own_cell m.site (route m b) ∷ []; writes = own_cell m.site (route m b) ∷ [] };
   fates = untouched;
 }

@@ -11,9 +11,10 @@ use Rattle.pi_tuple.specs.declared.TheConstants.{TUPLE}
 -- What is asked of a script so that its moves come to its walk.
 
 -- `fine` says of a cell and a block whether it may be stored there: over a target by its length, over a device that is told by its record always.
--- A frame of the wire's size that is stored is fine where it is stored, and of a fine block a frame of the wire's size is sent.
+-- A frame of the wire's size that is stored is fine where it is stored, and so is what the device leaves where it stores it over a fine block; of a fine block a frame of the wire's size is sent.
 pub record Suits (m : Setting) (fine : ℕ → List ℕ → Bool) (b : Block) : Type 0 where
   pub stores : (frame : List ℕ) → length frame ≡ wire_size (route m b) → IfOk (m.site.device.stores (route m b) frame) (λ stored. fine (stored_cell m.site (route m b)) stored ≡ true)
+  pub leaves : (old frame : List ℕ) → fine (stored_cell m.site (route m b)) old ≡ true → fine (stored_cell m.site (route m b)) frame ≡ true → fine (stored_cell m.site (route m b)) (m.site.device.leaves (route m b) old frame) ≡ true
   pub sends : (stored : List ℕ) → fine (fetched_cell m.site (route m b)) stored ≡ true → IfOk (m.site.device.sends (route m b) stored) (λ frame. length frame ≡ wire_size (route m b))
 
 abbrev pub AllSuit : Setting → (ℕ → List ℕ → Bool) → (i v n : ℕ) → Type 0

@@ -15,7 +15,7 @@ use Rattle.pi_tuple.specs.declared.TheConstants.{TUPLE}
 
 -- a device whose store calls fail
 abbrev pub failing : Device
-failing = record { stores = λ r frame. Err Medium; sends = λ r stored. Err Medium }
+failing = record { stores = λ r frame. Err Medium; sends = λ r stored. Err Medium; leaves = λ r old frame. frame }
 
 abbrev pub over_failing : Setting → Setting
 over_failing m = record m { site = record m.site { device = failing } }

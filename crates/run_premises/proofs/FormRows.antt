@@ -8,7 +8,7 @@ use Rattle.pi_tuple.specs.declared.checks.PiType.TheVariants.{One}
 use Rattle.page_pool.specs.Places.{run}
 use Rattle.fault_schedule.specs.declared.fault.Crossing.{Crossing}
 use Rattle.fault_schedule.specs.declared.fault.Crossing.TheVariants.{AdapterToHost, AdapterToTarget, HostToAdapter, MediumToTarget, TargetToAdapter, TargetToMedium}
-use Rattle.fault_schedule.specs.declared.fault.FaultKind.TheVariants.{Flip, Shift}
+use Rattle.fault_schedule.specs.declared.fault.FaultKind.TheVariants.{Flip, Shift, Keep}
 use Rattle.fault_schedule.specs.declared.fault.FaultLine.{FaultLine}
 use Rattle.stack_ops.specs.Passed.{Copy}
 use Rattle.stack_ops.specs.declared.op.Op.{Op}
@@ -75,6 +75,13 @@ no_lines = refl
 
 shifted : shows_by_form Crc 512 (record { op = 1; k = 0; at = AdapterToTarget; kind = Shift (pos 1) } ∷ []) one_write ≡ false
 shifted = refl
+
+-- A write that is lost, and a torn one.
+lost : shows_by_form Crc 512 (record { op = 1; k = 0; at = TargetToMedium; kind = Keep 0 } ∷ []) one_write ≡ false
+lost = refl
+
+torn : shows_by_form Crc 512 (record { op = 1; k = 0; at = TargetToMedium; kind = Keep 260 } ∷ []) one_write ≡ false
+torn = refl
 
 overwritten : shows_by_form Crc 512 [] (Overwrite 0 2 (Copy 0 3) ∷ []) ≡ false
 overwritten = refl

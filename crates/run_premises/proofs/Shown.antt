@@ -1,5 +1,5 @@
 -- Along steps whose faults have a form, whatever names their blocks: what stands in the pages and on the volume, and that each fault is shown.
-use Rattle.std.proofs.Common.{◌≡◌, ◌<◌, ℕ, zero, suc, ◌+◌, ◌%◌, ◌^◌, Bool, true, false, eqb, ◌||◌, not, if◌then◌else◌, List, [], ◌∷◌, ◌++◌, length, take, drop, get_or, set, refl, sym, ap, subst, ◌∙◌, arith}
+use Rattle.std.proofs.Common.{◌≡◌, ◌<◌, ℕ, zero, suc, ◌+◌, ◌%◌, ◌^◌, Bool, true, false, eqb, ◌||◌, not, if◌then◌else◌, List, [], ◌∷◌, ◌++◌, length, take, drop, get_or, map, set, refl, sym, ap, subst, ◌∙◌, arith}
 use Rattle.std.specs.Prelude.{All, pos, nat_abs}
 use Rattle.std.specs.Int.{w32, from_be_bytes, to_be_bytes}
 use Rattle.std.specs.List.{list_all}
@@ -23,13 +23,14 @@ use Rattle.block_path.specs.Routes.{moved}
 use Rattle.block_path.specs.WayIn.{Delivers, Spoils, Stops, WayIn, way_in}
 use Rattle.block_path.specs.WayOut.{Fails, Refuses, Stores, WayOut, way_out}
 use Rattle.block_path.proofs.Cells.{AllBelow, below, gather_length}
-use Rattle.run_laws.specs.Passed.{LiesInImage, detectable, step_shows, has_flip, has_shift, act_of, Block, Setting, route, Alters, Reads, Seals, Sets, Shows, Step, Writes, WritesPi, each_from, AreClean, NoneEscapes, SuppliesNoEscape, home}
+use Rattle.block_path.proofs.Leaves.{leaves_all}
+use Rattle.run_laws.specs.Passed.{LiesInImage, detectable, shows_out, step_shows, has_flip, has_shift, is_all, is_stored_whole, act_of, Block, Setting, route, Alters, Reads, Seals, Sets, Shows, Step, Writes, WritesPi, each_from, AreClean, NoneEscapes, SuppliesNoEscape, home}
 use Rattle.run_laws.proofs.Passed.{below_append, below_drop, below_gather, below_replicate, below_scatter, below_take, four_below, tuple_below}
 use Rattle.run_laws.proofs.Layers.{checked, unmoved}
 use Rattle.run_laws.proofs.Along.{set_cases}
 use Rattle.run_premises.specs.Forms.{is_good_line}
 use Rattle.run_premises.specs.FormedRun.{IsOfBytes}
-use Rattle.run_premises.proofs.Lines.{no_shift}
+use Rattle.run_premises.proofs.Lines.{no_keep, no_shift}
 use Rattle.run_premises.proofs.OneWay.{own_fine, own_right}
 use Rattle.run_premises.proofs.Ways.{Fine, Kept, OfBytes, Right, comes_bytes, comes_shown, goes_kept, goes_shown}
 
@@ -109,7 +110,16 @@ module _ (m' : Setting) (ops : List Op) (even : m'.size % 2 ≡ 0) (flips : All 
   unshifted : (b : Block) → has_shift m b MediumToTarget ≡ false
   unshifted b = ap (λ z. not (eqb (nat_abs z) 0)) (no_shift m'.mode.kind n faults ops faults form MediumToTarget b.op)
 
-  -- ---- a block is stored
+  -- ---- a block is stored, whole
+
+  whole_is : (b : Block) → is_stored_whole m b ≡ true
+  whole_is b = ap is_all (no_keep m'.mode.kind n faults ops faults form (route m b).label)
+
+  abbrev leaves : Block → (old frame : List ℕ) → List ℕ
+  leaves b old frame = m.site.device.leaves (route m b) old frame
+
+  leaves_is : (b : Block) (old frame : List ℕ) → leaves b old frame ≡ frame
+  leaves_is b old frame = leaves_all faults (route m b).label old frame (no_keep m'.mode.kind n faults ops faults form (route m b).label)
 
   stored_held : (b : Block) (stored : List ℕ) (s : State) → IsNamed b → b.virt < count → IsFine stored → (has_flip m b TargetToMedium ≡ false → IsRight Crc stored) → Holds s →
       (v : ℕ) → v < count → Held v (get_or (set s.blocks (stored_cell m.site (route m b)) stored) (home m v) [])
@@ -124,16 +134,18 @@ module _ (m' : Setting) (ops : List Op) (even : m'.size % 2 ≡ 0) (flips : All 
         record { fine = f; right = λ a. r (kept_there b e (ap is_altered same ∙ a)) },
       )) (λ q. h.each v l)
 
-  written_size : (b : Block) (w : WayOut) (back : List ℕ) (log : List (List ℕ)) (blocks : List (List ℕ)) → length (scatter (stored_cell m.site (route m b) ∷ []) (written_by (route m b) w back log).written.blocks blocks) ≡ length blocks
-  written_size b (Fails why) back log blocks = refl
-  written_size b (Refuses why) back log blocks = refl
-  written_size b (Stores carried stored) back log blocks = length-set blocks (stored_cell m.site (route m b)) stored
+  written_size : (b : Block) (old : List ℕ) (w : WayOut) (back : List ℕ) (log : List (List ℕ)) (blocks : List (List ℕ)) →
+      length (scatter (stored_cell m.site (route m b) ∷ []) (map (leaves b old) (written_by (route m b) w back log).written.blocks) blocks) ≡ length blocks
+  written_size b old (Fails why) back log blocks = refl
+  written_size b old (Refuses why) back log blocks = refl
+  written_size b old (Stores carried stored) back log blocks = length-set blocks (stored_cell m.site (route m b)) (leaves b old stored)
 
-  written_held : (b : Block) (w : WayOut) (back : List ℕ) (log : List (List ℕ)) (s : State) → IsNamed b → b.virt < count → Kept m' ops even flips form b w → Holds s →
-      (v : ℕ) → v < count → Held v (get_or (scatter (stored_cell m.site (route m b) ∷ []) (written_by (route m b) w back log).written.blocks s.blocks) (home m v) [])
-  written_held b (Fails why) back log s e l k h = h.each
-  written_held b (Refuses why) back log s e l k h = h.each
-  written_held b (Stores carried stored) back log s e l k h = stored_held b stored s e l k.0 k.1 h
+  written_held : (b : Block) (old : List ℕ) (w : WayOut) (back : List ℕ) (log : List (List ℕ)) (s : State) → IsNamed b → b.virt < count → Kept m' ops even flips form b w → Holds s →
+      (v : ℕ) → v < count → Held v (get_or (scatter (stored_cell m.site (route m b) ∷ []) (map (leaves b old) (written_by (route m b) w back log).written.blocks) s.blocks) (home m v) [])
+  written_held b old (Fails why) back log s e l k h v low = h.each v low
+  written_held b old (Refuses why) back log s e l k h v low = h.each v low
+  written_held b old (Stores carried stored) back log s e l k h v low =
+      subst (λ x. Held v (get_or (set s.blocks (stored_cell m.site (route m b)) x) (home m v) [])) (sym (leaves_is b old stored)) (stored_held b stored s e l k.0 k.1 h v low)
 
   written_pages : (b : Block) (w : WayOut) (back : List ℕ) (log : List (List ℕ)) → (written_by (route m b) w back log).written.bytes ≡ back
   written_pages b (Fails why) back log = refl
@@ -176,24 +188,26 @@ module _ (m' : Setting) (ops : List Op) (even : m'.size % 2 ≡ 0) (flips : All 
       let f = own_fine m' b app x l bytes fit.1.1.1 (e refl) in
       let w = way_out faults m.site.device (route m b) frame in
       let log = get_or s.logs (own_cell m.site (route m b)) [] in
+      let old = get_or s.blocks (stored_cell m.site (route m b)) [] in
       let k = goes_kept m' ops even flips form b frame f in
       record {
-        shown = goes_shown m' ops even flips form b frame f (λ q. own_right m' b app x l fit.1.1.1);
-        holds = record { pages = h.pages; size = written_size b w [] log s.blocks ∙ h.size; each = written_held b w [] log s fit.0 fit.1.0 k h };
+        shown = and_from (is_stored_whole m b) (shows_out m b frame) (whole_is b) (goes_shown m' ops even flips form b frame f (λ q. own_right m' b app x l fit.1.1.1));
+        holds = record { pages = h.pages; size = written_size b old w [] log s.blocks ∙ h.size; each = written_held b old w [] log s fit.0 fit.1.0 k h };
       }
   one_step (WritesPi b frame) s fit e h =
       let x = gather 0 frame s.bytes in
       let f : IsFine x = record { size = gather_length 0 frame s.bytes ∙ fit.1.1.0; bytes = below_gather 256 frame s.bytes (omega arith) h.pages; escape = e } in
       let w = way_out faults m.site.device (route m b) x in
       let log = get_or s.logs (own_cell m.site (route m b)) [] in
+      let old = get_or s.blocks (stored_cell m.site (route m b)) [] in
       let back = tuple_after (route m b) (drop n x) in
       let k = goes_kept m' ops even flips form b x f in
       record {
-        shown = goes_shown m' ops even flips form b x f (λ q. absurd (not_mended b fit.1.1.1 q));
+        shown = and_from (is_stored_whole m b) (shows_out m b x) (whole_is b) (goes_shown m' ops even flips form b x f (λ q. absurd (not_mended b fit.1.1.1 q)));
         holds = record {
           pages = subst (λ bs. AllBelow 256 (scatter (drop n frame) bs s.bytes)) (sym (written_pages b w back log)) (below_scatter 256 (drop n frame) back s.bytes (after_bytes b (drop n x) (below_drop 256 n x f.bytes)) h.pages);
-          size = written_size b w back log s.blocks ∙ h.size;
-          each = written_held b w back log s fit.0 fit.1.0 k h;
+          size = written_size b old w back log s.blocks ∙ h.size;
+          each = written_held b old w back log s fit.0 fit.1.0 k h;
         };
       }
   one_step (Reads b owner to) s fit e h =

@@ -52,7 +52,7 @@ is_shown size kind mask = list_all is_none (drop (size + 2) mask) && is_seen kin
 abbrev pub label_of : FaultLine → Label
 label_of line = record { op = line.op; k = line.k }
 
--- The line is no shift; and all lines of its block at its crossing together are shown.
+-- The line is a flip; and all lines of its block at its crossing together are shown.
 abbrev pub is_shown_line : GuardKind → (size : ℕ) → List FaultLine → FaultLine → Bool
 is_shown_line kind size faults line = is_flip line.kind && is_shown size (kind_at kind line.at) (mask_of size faults line.at (label_of line))
 

@@ -74,10 +74,11 @@ fn is_flip(kind: &FaultKind) -> bool
     match kind {
         FaultKind::Flip { .. } => true,
         FaultKind::Shift { .. } => false,
+        FaultKind::Keep { .. } => false,
     }
 }
 
-/// Whether a line is no shift, and all lines of its block at its crossing are shown. The bytes are room for a frame.
+/// Whether a line is a flip, and all lines of its block at its crossing are shown. The bytes are room for a frame.
 fn is_shown_line(
     kind: GuardKind,
     size: usize,

@@ -12,7 +12,7 @@ use Rattle.stack_walk_laws.proofs.OverDevice.{same_rooms}
 
 module _ (m : Setting) (es : List Sent) (fit : FramesFit m es) where
   pub suit_over : (i v n : ℕ) → AllSuit (told m es) (λ c block. true) i v n
-  suit_over i v n k l = record { stores = λ frame e. fine_always (came_by es (route m (block_of i v k)).label); sends = λ stored e. fit (block_of i v k) }
+  suit_over i v n k l = record { stores = λ frame e. fine_always (came_by es (route m (block_of i v k)).label); leaves = λ before frame e f. refl; sends = λ stored e. fit (block_of i v k) }
 
   op_over : (fine : ℕ → List ℕ → Bool) (bytes i : ℕ) (op : Op) → IsBound m fine bytes i op → IsBound (told m es) (λ c block. true) bytes i op
   op_over fine bytes i (Fill seg byte) h = tt

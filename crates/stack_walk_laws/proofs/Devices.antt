@@ -8,11 +8,15 @@ use Rattle.run_laws.specs.Passed.{Setting, Op}
 use Rattle.stack_walk_laws.specs.Following.{Follows}
 use Rattle.stack_walk_laws.specs.Sending.{is_carried}
 use Rattle.stack_walk_laws.specs.Slots.{Status}
-use Rattle.stack_walk_laws.specs.Falls.{Falls, falling, over_falls, sends_or, stores_or}
+use Rattle.stack_walk_laws.specs.Falls.{Falls, falling, leaves_or, over_falls, sends_or, stores_or}
 use Rattle.stack_walk_laws.proofs.Switching.{SameFor, switch}
 
 pub fall_alike : (device : Device) (one two : Falls) (r : Route) → one r.label ≡ two r.label → SameFor (falling one device) (falling two device) r
-fall_alike device one two r e = record { stores = λ frame. ap (λ o. stores_or o (device.stores r frame)) e; sends = λ stored. ap (λ o. sends_or o (device.sends r stored)) e }
+fall_alike device one two r e = record {
+  stores = λ frame. ap (λ o. stores_or o (device.stores r frame)) e;
+  sends = λ stored. ap (λ o. sends_or o (device.sends r stored)) e;
+  leaves = λ old frame. ap (λ o. leaves_or o (device.leaves r old frame) frame) e;
+}
 
 pub more_fall : (m : Setting) (n : ℕ) (ops : List Op) (opening now : State) (status : ℕ → ℕ → Status) (one two : Falls) (es : List Sent) →
     ((i k : ℕ) → is_carried (status i k) ≡ true → one (record { op = i; k = k }) ≡ two (record { op = i; k = k })) →

@@ -21,7 +21,7 @@ use Rattle.stack_walk_laws.specs.Slots.{Status}
 use Rattle.stack_walk_laws.proofs.Ends.{ends_as_walk, one as one_more}
 use Rattle.stack_walk_laws.specs.Takes.{AllTakeAny, OpTakesAny, TakesAny}
 use Rattle.stack_walk_laws.specs.AtTheEnd.{EndsAsFalling}
-use Rattle.stack_walk_laws.specs.Falls.{Falls, falling, forgive, forgiven, is_write, left_of, of_blocks, over_falls, sends_or, stores_or, writes_of}
+use Rattle.stack_walk_laws.specs.Falls.{Falls, falling, forgive, forgiven, is_write, leaves_or, left_of, of_blocks, over_falls, sends_or, stores_or, writes_of}
 use Rattle.stack_walk_laws.specs.FollowsFalling.{AllFallen, LeavesSized, FollowsFalling, HasFallen}
 use Rattle.stack_walk_laws.proofs.Forgiving.{AllOf, IsOf, op_of}
 use Rattle.stack_walk_laws.proofs.OverDevice.{same_rooms, same_steps}
@@ -106,6 +106,7 @@ module _ (m : Setting) (falls : Falls) (sized : LeavesSized (stored_size m.ty m.
       let old = h k l in
       record {
         stores = λ frame e. stores (falls label) (sized label) (m.site.device.stores (route m b) frame) (old.stores frame e);
+        leaves = λ before frame e f. leaves (falls label) frame (m.site.device.leaves (route m b) before frame) f (old.leaves before frame e f);
         sends = λ stored e. sends (falls label) (m.site.device.sends (route m b) stored) (old.sends stored e);
       }
     where
@@ -113,6 +114,11 @@ module _ (m : Setting) (falls : Falls) (sized : LeavesSized (stored_size m.ty m.
           IfOk (stores_or o came) (λ stored. fine (stored_cell m.site (route m (block_of i v k))) stored ≡ true)
       stores None s came c = c
       stores (Some left) s came c = takes k l left s
+
+      leaves : (o : Option (List ℕ)) (frame kept : List ℕ) → fine (stored_cell m.site (route m (block_of i v k))) frame ≡ true → fine (stored_cell m.site (route m (block_of i v k))) kept ≡ true →
+          fine (stored_cell m.site (route m (block_of i v k))) (leaves_or o kept frame) ≡ true
+      leaves None frame kept f c = c
+      leaves (Some left) frame kept f c = f
 
       sends : (o : Option (List ℕ)) (came : Result (List ℕ) Why) → IfOk came (λ frame. length frame ≡ wire_size (route m (block_of i v k))) →
           IfOk (sends_or o came) (λ frame. length frame ≡ wire_size (route m (block_of i v k)))

@@ -1,9 +1,11 @@
 -- A write of one block whose store call fails, and a `put`, step by step from first to last, over a device that tells one frame of each block.
-use Rattle.std.proofs.Common.{◌≡◌, ◌<◌, ◌+◌, ℕ, zero, suc, Bool, true, false, ◌&&◌, eqb, if◌then◌else◌, List, [], ◌∷◌, get_or, Option, Some, None, refl, ap, subst, ◌∙◌, arith, inl}
+use Rattle.std.proofs.Common.{◌≡◌, ◌<◌, ◌+◌, ℕ, zero, suc, Bool, true, false, ◌&&◌, eqb, if◌then◌else◌, List, [], ◌∷◌, ◌++◌, get_or, Option, Some, None, refl, ap, subst, ◌∙◌, arith, inl}
 use Rattle.std.specs.Prelude.{IfSome, length, Ok, replicate, take}
 use Rattle.std.proofs.lemmas.List.{length-replicate}
 use Rattle.std.proofs.lemmas.List.Elements.{All-nil}
 use Rattle.pi_guard.specs.Guards.{crc, ip}
+use Rattle.fault_schedule.specs.declared.fault.Crossing.TheVariants.{TargetToMedium}
+use Rattle.fault_schedule.specs.declared.fault.FaultKind.TheVariants.{Keep}
 use Rattle.page_pool.specs.Places.{run}
 use Rattle.integrity_payload.specs.declared.payload.Owner.TheVariants.{Block as OfBlock}
 use Rattle.bio_core.specs.Bios.{Block}
@@ -12,10 +14,10 @@ use Rattle.bio_core.specs.declared.request.Dir.TheVariants.{Write as ToUnit}
 use Rattle.bio_core.specs.declared.request.Io.{Io}
 use Rattle.block_path.specs.Acts.{State, act, tell}
 use Rattle.block_path.specs.Blocks.{Sent, silent}
-use Rattle.block_path.specs.Routes.{told_by}
+use Rattle.block_path.specs.Routes.{Device, target, told_by}
 use Rattle.block_path.specs.Serial.{plain, plain_tells}
 use Rattle.block_path.specs.WayOut.{to_wire}
-use Rattle.run_laws.specs.Passed.{acts_of, Setting, block_of, Writes, body_of, home, Op, Put, Write, Bad, Silent}
+use Rattle.run_laws.specs.Passed.{acts_of, Setting, block_of, route, Writes, body_of, home, Op, Put, Write, Bad, Silent}
 use Rattle.run_laws.proofs.Passed.{faulty, opening, seg}
 use Rattle.run_laws.proofs.ShownRows.{one_list}
 use Rattle.run_laws.specs.BoundRun.{IsBoundRun, Suits}
@@ -35,7 +37,7 @@ use Rattle.stack_walk_laws.proofs.Sends.{out_all}
 use Rattle.stack_walk_laws.proofs.Together.{all_admitted, all_are_cut}
 use Rattle.stack_walk_laws.proofs.FollowRows.{becomes}
 use Rattle.stack_walk_laws.specs.AtTheEnd.{EndsAsFalling}
-use Rattle.stack_walk_laws.specs.Falls.{Falls, forgive, forgiven, left_of, over_falls, put_really}
+use Rattle.stack_walk_laws.specs.Falls.{Falls, falling, forgive, forgiven, left_of, none_falls, over_falls, put_really}
 use Rattle.stack_walk_laws.specs.FollowsFalling.{AllFallen, LeavesSized, FollowsFalling, HasFallen}
 use Rattle.stack_walk_laws.proofs.Ending.{ends_as_falling}
 use Rattle.stack_walk_laws.proofs.Falling.{or_left}
@@ -70,6 +72,16 @@ falls label = or_left (eqb label.op 1 && eqb label.k 0) left None
 
 abbrev over : Setting
 over = over_falls m falls
+
+-- A line lets the medium store four bytes of the block: what a failed call left stands there whole, and of a block whose call didn't fail the four bytes do.
+abbrev torn : Device
+torn = target (record { op = 1; k = 0; at = TargetToMedium; kind = Keep 4 } ∷ [])
+
+left_whole : (falling falls torn).leaves (route m (block_of 1 0 0)) (replicate 12 7) left ≡ left
+left_whole = refl
+
+else_torn : (falling none_falls torn).leaves (route m (block_of 1 0 0)) (replicate 12 7) left ≡ replicate 4 1 ++ replicate 8 7
+else_torn = refl
 
 place_of : (v : ℕ) → v < 3 → home m v ≡ 2 + v
 place_of zero l = refl
@@ -242,7 +254,7 @@ put_is_done = whole_falling m 1100 (write ∷ []) [] put first four five back.by
 
 -- And all has ended.
 suits : (k : ℕ) → k < 1 → Suits m (λ c block. true) (block_of 1 0 k)
-suits k l = record { stores = λ frame e. refl; sends = λ stored e. refl }
+suits k l = record { stores = λ frame e. refl; leaves = λ before frame e f. refl; sends = λ stored e. refl }
 
 bound_run : IsBoundRun m (λ c block. true) 1100 ops first
 bound_run = record {

@@ -175,7 +175,7 @@ put_is_done = wholly m 1100 (write ∷ []) [] put first back four five es one_ce
 
 -- and all has ended
 suits : (k : ℕ) → k < 1 → Suits m (λ c block. true) (block_of 1 0 k)
-suits k l = record { stores = λ frame e. refl; sends = λ stored e. refl }
+suits k l = record { stores = λ frame e. refl; leaves = λ before frame e f. refl; sends = λ stored e. refl }
 
 bound_run : IsBoundRun m (λ c block. true) 1100 (ops_of spot) first
 bound_run = record {

@@ -13,7 +13,7 @@ use Rattle.bio_core.specs.declared.fate.Why.TheVariants.{Medium}
 use Rattle.bio_core.specs.declared.request.Dir.TheVariants.{Write}
 use Rattle.bio_core.specs.declared.request.Io.{Io}
 use Rattle.block_path.specs.Acts.{State, act}
-use Rattle.block_path.specs.Blocks.{Site, own_cell, stored_cell, written_by}
+use Rattle.block_path.specs.Blocks.{Site, own_cell, stored_cell, stored_over, written_by}
 use Rattle.block_path.specs.Moves.{carry_out}
 use Rattle.block_path.specs.Routes.{Device, target}
 use Rattle.block_path.specs.Serial.{plain}
@@ -27,7 +27,7 @@ use Rattle.stack_walk_laws.specs.Sending.{AllGoOut, out_acts, out_fates, with_fa
 use Rattle.stack_walk_laws.specs.Slots.{Carried, Status}
 use Rattle.stack_walk_laws.proofs.Recording.{arrived}
 use Rattle.stack_walk_laws.proofs.Sends.{with_here, with_other}
-use Rattle.stack_walk_laws.specs.Falls.{Falls, falling, forgive, forgiven, left_of, over_falls, really, stores_or, writes_of}
+use Rattle.stack_walk_laws.specs.Falls.{Falls, falling, forgive, forgiven, leaves_or, left_of, over_falls, really, stores_or, writes_of}
 use Rattle.stack_walk_laws.specs.FollowsFalling.{AllFallen, HasFallen}
 use Rattle.stack_walk_laws.proofs.Devices.{fall_alike}
 use Rattle.stack_walk_laws.proofs.Falling.{NoneFall, all_really, decide, elsewhere_still, fall_at, fall_if, falls_by, here, none_of_rest, rest_none, there, with_fall}
@@ -394,6 +394,8 @@ module _ (a : Adapter) (ios : List Io) (units : List UnitSpec) (cells : List ℕ
             ∙ h (act (carry_out (site_of a units) (route_of a ios b) (frame_cells ios b)) now) p
         by None e (Err why) q h = refl
         by (Some left) e came q h =
+            let at = stored_cell m.site (route_of a ios b) in
             ap (λ acts. (plain act acts (act (carry_out (over_falls m falls).site (route_of a ios b) (frame_cells ios b)) now)).blocks) (no_acts bs)
-            ∙ ap (λ x. scatter (stored_cell m.site (route_of a ios b) ∷ []) (written_by (route_of a ios b) x [] (get_or now.logs (own_cell m.site (route_of a ios b)) [])).written.blocks now.blocks) q
+            ∙ ap (λ x. scatter (at ∷ []) (stored_over (over_falls m falls).site (route_of a ios b) (get_or now.blocks at []) (written_by (route_of a ios b) x [] (get_or now.logs (own_cell m.site (route_of a ios b)) []))).written.blocks now.blocks) q
+            ∙ ap (λ o. set now.blocks at (leaves_or o (m.site.device.leaves (route_of a ios b) (get_or now.blocks at []) left) left)) e
             ∙ ap (λ (s : Site). set now.blocks (stored_cell s (route_of a ios b)) left) site

@@ -12,7 +12,7 @@ use Rattle.bio_core.specs.declared.request.Dir.TheVariants.{Read, Write}
 use Rattle.bio_core.specs.declared.request.Io.{Io}
 use Rattle.block_path.specs.declared.route.Route.{Route}
 use Rattle.block_path.specs.Acts.{Act, Effect, State, act, effect, tell}
-use Rattle.block_path.specs.Blocks.{ActAnswer, Sent, own_cell, stored_cell, written_by}
+use Rattle.block_path.specs.Blocks.{ActAnswer, Sent, own_cell, stored_cell, stored_over, written_by}
 use Rattle.block_path.specs.Moves.{carried_in, carry_in, carry_out}
 use Rattle.block_path.specs.WayIn.{at_host, from_device, from_wire}
 use Rattle.block_path.specs.WayOut.{Fails, Refuses, Stores, from_adapter, goes_out, to_wire}
@@ -209,7 +209,7 @@ module _ (m : Setting) (n : ℕ) (ops : List Op) (a : Adapter) (ios : List Io) (
         follows = subst (λ cs. Follows m n ops opening (with_fates bs (out_fates bs cs) new) (act c now) (put_each m.site bs cs es')) (sym w.1.1)
             (subst (λ st. Follows m n ops opening st (act c now) (put_each m.site bs [] es')) (sym (still_out bs new)) (subst (λ x. Follows m n ops opening new (act c now) x) (sym (put_nothing m bs es')) there));
         bytes = refl;
-        blocks = ap (λ x. scatter (stored_cell m.site r ∷ []) (written_by r x [] (get_or now.logs (own_cell m.site r) [])).written.blocks now.blocks) w.1.0;
+        blocks = ap (λ x. scatter (stored_cell m.site r ∷ []) (stored_over m.site r (get_or now.blocks (stored_cell m.site r) []) (written_by r x [] (get_or now.logs (own_cell m.site r) []))).written.blocks now.blocks) w.1.0;
       }
 
 -- what a block of a read leaves and tells
@@ -322,6 +322,6 @@ module _ (m : Setting) (n : ℕ) (ops : List Op) (a : Adapter) (ios : List Io) (
             after = more.after;
             follows = more.follows;
             bytes = more.bytes;
-            blocks = more.blocks ∙ ap (λ x. scatter (stored_cell m.site r ∷ []) (written_by r x [] log).written.blocks now.blocks) way;
+            blocks = more.blocks ∙ ap (λ x. scatter (stored_cell m.site r ∷ []) (stored_over m.site r (get_or now.blocks (stored_cell m.site r) []) (written_by r x [] log)).written.blocks now.blocks) way;
             none_before = λ k. more.none_before (none_held b why status es g.0.is_cut k);
           }

@@ -1,5 +1,5 @@
 -- What was not carried may be told otherwise: a device that tells what came of each block is a device.
-use Rattle.std.proofs.Common.{◌≡◌, ℕ, true, List, sym, ap, ◌∙◌}
+use Rattle.std.proofs.Common.{◌≡◌, ℕ, true, List, refl, sym, ap, ◌∙◌}
 use Rattle.std.specs.Prelude.{Result}
 use Rattle.bio_core.specs.declared.fate.Why.{Why}
 use Rattle.fault_schedule.specs.declared.Label.{Label}
@@ -22,7 +22,7 @@ over m came = record m { site = record m.site { device = told_by came } }
 
 -- a block of which both tell the same
 told_same : (one two : Told) (r : Route) → one r.label ≡ two r.label → SameFor (told_by one) (told_by two) r
-told_same one two r e = record { stores = λ frame. e; sends = λ stored. e }
+told_same one two r e = record { stores = λ frame. e; sends = λ stored. e; leaves = λ old frame. refl }
 
 pub switch : (m : Setting) (one two : Told) (n : ℕ) (ops : List Op) (opening now : State) (status : ℕ → ℕ → Status) (es : List Sent)
     → ((j l : ℕ) → is_carried (status j l) ≡ true → one (record { op = j; k = l }) ≡ two (record { op = j; k = l })) → Follows (over m one) n ops opening status now es → Follows (over m two) n ops opening status now es

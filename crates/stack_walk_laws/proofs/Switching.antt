@@ -1,5 +1,5 @@
 -- What was not carried may come to another device.
-use Rattle.std.proofs.Common.{◌≡◌, ◌≤◌, ◌⊎◌, inl, inr, ℕ, zero, suc, ◌+◌, ◌%◌, ◌^◌, Bool, true, false, List, [], ◌∷◌, ◌++◌, length, drop, get_or, Some, None, refl, sym, ap, subst, ◌∙◌, arith, length-append}
+use Rattle.std.proofs.Common.{◌≡◌, ◌≤◌, ◌⊎◌, inl, inr, ℕ, zero, suc, ◌+◌, ◌%◌, ◌^◌, Bool, true, false, List, [], ◌∷◌, ◌++◌, length, drop, get_or, map, Some, None, refl, sym, ap, subst, ◌∙◌, arith, length-append}
 use Rattle.std.specs.Prelude.{Result, Ok, Err}
 use Rattle.std.proofs.lemmas.Bool.{false≢true}
 use Rattle.page_pool.specs.Cells.{gather, scatter}
@@ -7,7 +7,7 @@ use Rattle.pi_tuple.specs.declared.checks.Check.{Check}
 use Rattle.integrity_payload.specs.declared.payload.Owner.TheVariants.{Block as OfBlock, App as OfApp}
 use Rattle.block_path.specs.declared.route.Route.{Route}
 use Rattle.block_path.specs.Acts.{Act, Effect, State, act, conflict, effect, tell}
-use Rattle.block_path.specs.Blocks.{ActAnswer, Sent, fetched_cell, own_cell, silent, written_by}
+use Rattle.block_path.specs.Blocks.{ActAnswer, Sent, fetched_cell, own_cell, silent, stored_cell, stored_over, written_by}
 use Rattle.block_path.specs.Moves.{carried_in, carry_in, carry_out, make_tuple, map_back, map_out, settle}
 use Rattle.block_path.specs.Routes.{Device}
 use Rattle.block_path.specs.Serial.{Alike, StandFor}
@@ -112,6 +112,7 @@ over m d = record m { site = record m.site { device = d } }
 pub record SameFor (one two : Device) (r : Route) : Type 0 where
   pub stores : (frame : List ℕ) → one.stores r frame ≡ two.stores r frame
   pub sends : (stored : List ℕ) → one.sends r stored ≡ two.sends r stored
+  pub leaves : (old frame : List ℕ) → one.leaves r old frame ≡ two.leaves r old frame
 
 not_yet : (p : StepParts) (status : Status) (n : ℕ) → is_carried status ≡ false → n ≡ done_by p status → n ≤ before_carrying p
 not_yet p Waits n c e = omega (arith, e)
@@ -121,6 +122,10 @@ not_yet p (Carried fate) n c e = absurd (false≢true (sym c))
 not_yet p (Settled why) n c e = absurd (false≢true (sym c))
 not_yet p (AllDone shown) n c e = absurd (false≢true (sym c))
 
+-- of what is stored, this is left
+abbrev pub stored_by : (List ℕ → List ℕ) → Effect ActAnswer → Effect ActAnswer
+stored_by f e = record { written = record e.written { blocks = map f e.written.blocks }; answer = e.answer }
+
 module _ (m : Setting) (one two : Device) where
   -- a block with which both do the same
 
@@ -128,10 +133,14 @@ module _ (m : Setting) (one two : Device) where
   out_effect r (Ok carried) log e = ap (λ came. written_by r (at_device carried came) [] log) (e.stores carried)
   out_effect r (Err check) log e = refl
 
+  over_effect : (r : Route) (w : Result (List ℕ) Check) (old : List ℕ) (log : List (List ℕ)) → SameFor one two r →
+      stored_over (over m one).site r old (written_by r (from_adapter one r w) [] log) ≡ stored_over (over m two).site r old (written_by r (from_adapter two r w) [] log)
+  over_effect r w old log e = ap (stored_by (one.leaves r old)) (out_effect r w log e) ∙ ap (λ (f : List ℕ → List ℕ). stored_by f (written_by r (from_adapter two r w) [] log)) (λ x frame. e.leaves old frame x)
+
   pub out_same : (r : Route) (frame : List ℕ) → SameFor one two r → SameAct (carry_out (over m one).site r frame) (carry_out (over m two).site r frame)
   out_same r frame e = record { state = λ s. state s (same s); answer = λ s. ap (λ (x : Effect ActAnswer). x.answer) (same s) } where
     same : (s : State) → effect (carry_out (over m one).site r frame) s ≡ effect (carry_out (over m two).site r frame) s
-    same s = out_effect r (to_wire m.site.faults r (gather 0 frame s.bytes)) (get_or s.logs (own_cell m.site r) []) e
+    same s = over_effect r (to_wire m.site.faults r (gather 0 frame s.bytes)) (get_or s.blocks (stored_cell m.site r) []) (get_or s.logs (own_cell m.site r) []) e
 
     state : (s : State) → effect (carry_out (over m one).site r frame) s ≡ effect (carry_out (over m two).site r frame) s → act (carry_out (over m one).site r frame) s ≡ act (carry_out (over m two).site r frame) s
     state s q = let a = carry_out (over m one).site r frame in same_cells _ _ _ _ _ _ _ _

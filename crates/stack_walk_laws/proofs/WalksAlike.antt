@@ -11,14 +11,14 @@ use Rattle.bio_core.specs.declared.fate.Why.{Why}
 use Rattle.bio_core.specs.declared.fate.Why.TheVariants.{Medium}
 use Rattle.block_path.specs.declared.route.Route.{Route}
 use Rattle.block_path.specs.Acts.{Effect, State, act, effect, tell}
-use Rattle.block_path.specs.Blocks.{ActAnswer, fetched_cell, own_cell, own_frame, read_by, stored_cell, tuple_after, written_by}
+use Rattle.block_path.specs.Blocks.{ActAnswer, Site, fetched_cell, own_cell, own_frame, read_by, stored_cell, stored_over, tuple_after, written_by}
 use Rattle.block_path.specs.Moves.{on_bytes}
-use Rattle.block_path.specs.Routes.{Device}
 use Rattle.block_path.specs.WayIn.{WayIn, Delivers, Spoils, Stops, from_device, verified}
 use Rattle.block_path.specs.WayOut.{at_device, from_adapter, mapped_out, to_wire}
 use Rattle.run_laws.specs.Passed.{act_of, changed, source_of, Block, Setting, route, Alters, Reads, Seals, Sets, Shows, Step, Writes, WritesPi}
 use Rattle.run_laws.specs.StoreFaults.{failing, leaving, may_fall, or_fallen}
-use Rattle.stack_walk_laws.specs.Falls.{Falls, falling, of_blocks, over_falls, sends_or, stores_or}
+use Rattle.stack_walk_laws.proofs.Switching.{stored_by}
+use Rattle.stack_walk_laws.specs.Falls.{Falls, falling, leaves_or, of_blocks, over_falls, sends_or, stores_or}
 
 -- the same pages and stored blocks
 pub record Sees (s t : State) : Type 0 where
@@ -41,19 +41,27 @@ is_listed (Some why) = true
 
 -- of a frame that the adapter sends, or finds bad
 
-out_none : (falls : Falls) (device : Device) (r : Route) (back : List ℕ) (log other : List (List ℕ)) (w : Result (List ℕ) Check) → falls r.label ≡ None →
-    Leaves None (written_by r (from_adapter (falling falls device) r w) back log) (written_by r (from_adapter device r w) back other)
-out_none falls device r back log other (Err check) e = record { bytes = refl; blocks = refl; why = refl }
-out_none falls device r back log other (Ok carried) e = subst (λ o. Leaves None (written_by r (at_device carried (stores_or o (device.stores r carried))) back log) (written_by r (at_device carried (device.stores r carried)) back other)) (sym e) (by (device.stores r carried)) where
-  by : (came : Result (List ℕ) Why) → Leaves None (written_by r (at_device carried came) back log) (written_by r (at_device carried came) back other)
-  by (Ok stored) = record { bytes = refl; blocks = refl; why = refl }
-  by (Err why) = record { bytes = refl; blocks = refl; why = refl }
+abbrev site_over : Falls → Site → Site
+site_over falls site = record site { device = falling falls site.device }
 
-out_some : (falls : Falls) (device : Device) (r : Route) (left back : List ℕ) (log other : List (List ℕ)) (w : Result (List ℕ) Check) → falls r.label ≡ Some left →
-    Leaves (Some left) (written_by r (from_adapter (falling falls device) r w) back log) (leaving left (written_by r (from_adapter failing r w) back other))
-out_some falls device r left back log other (Err check) e = record { bytes = refl; blocks = refl; why = λ q. absurd (false≢true (sym (ap is_listed q))) }
-out_some falls device r left back log other (Ok carried) e =
-    subst (λ o. Leaves (Some left) (written_by r (at_device carried (stores_or o (device.stores r carried))) back log) (leaving left (written_by r (from_adapter failing r (Ok carried)) back other))) (sym e)
+out_none : (falls : Falls) (site : Site) (r : Route) (old back : List ℕ) (log other : List (List ℕ)) (w : Result (List ℕ) Check) → falls r.label ≡ None →
+    Leaves None (stored_over (site_over falls site) r old (written_by r (from_adapter (falling falls site.device) r w) back log)) (stored_over site r old (written_by r (from_adapter site.device r w) back other))
+out_none falls site r old back log other (Err check) e = record { bytes = refl; blocks = refl; why = refl }
+out_none falls site r old back log other (Ok carried) e =
+    let kept = site.device.leaves r old in
+    subst (λ o. Leaves None (stored_by (λ frame. leaves_or o (kept frame) frame) (written_by r (at_device carried (stores_or o (site.device.stores r carried))) back log)) (stored_by kept (written_by r (at_device carried (site.device.stores r carried)) back other)))
+    (sym e) (by (site.device.stores r carried))
+  where
+    by : (came : Result (List ℕ) Why) → let kept = site.device.leaves r old in Leaves None (stored_by (λ frame. kept frame) (written_by r (at_device carried came) back log)) (stored_by kept (written_by r (at_device carried came) back other))
+    by (Ok stored) = record { bytes = refl; blocks = refl; why = refl }
+    by (Err why) = record { bytes = refl; blocks = refl; why = refl }
+
+out_some : (falls : Falls) (site : Site) (r : Route) (left old back : List ℕ) (log other : List (List ℕ)) (w : Result (List ℕ) Check) → falls r.label ≡ Some left →
+    Leaves (Some left) (stored_over (site_over falls site) r old (written_by r (from_adapter (falling falls site.device) r w) back log)) (leaving left (stored_by (λ frame. frame) (written_by r (from_adapter failing r w) back other)))
+out_some falls site r left old back log other (Err check) e = record { bytes = refl; blocks = refl; why = λ q. absurd (false≢true (sym (ap is_listed q))) }
+out_some falls site r left old back log other (Ok carried) e =
+    let kept = site.device.leaves r old in
+    subst (λ o. Leaves (Some left) (stored_by (λ frame. leaves_or o (kept frame) frame) (written_by r (at_device carried (stores_or o (site.device.stores r carried))) back log)) (leaving left (stored_by (λ frame. frame) (written_by r (from_adapter failing r (Ok carried)) back other)))) (sym e)
     (record { bytes = refl; blocks = refl; why = λ q. refl })
 
 -- of a block that came
@@ -92,29 +100,39 @@ module _ (m : Setting) (falls : Falls) where
     ap (λ z. scatter (c ∷ []) z s.blocks) l.blocks ∙ ap (scatter (c ∷ []) y.written.blocks) h.blocks,
   )
 
-  write_leaves : (b : Block) (app : ℕ) (body : List ℕ) (o : Option (List ℕ)) (s t : State) → falls (record { op = b.op; k = b.k }) ≡ o → s.bytes ≡ t.bytes → Leaves o (effect (act_of over (Writes b app body)) s) (effect (or_fallen m (Writes b app body) o) t)
-  write_leaves b app body None s t e q =
+  write_leaves : (b : Block) (app : ℕ) (body : List ℕ) (o : Option (List ℕ)) (s t : State) → falls (record { op = b.op; k = b.k }) ≡ o → Sees s t → Leaves o (effect (act_of over (Writes b app body)) s) (effect (or_fallen m (Writes b app body) o) t)
+  write_leaves b app body None s t e h =
       let r = route m b in
       let wire = λ (bytes : List ℕ). to_wire m.site.faults r (mapped_out r (own_frame r app (gather 0 body bytes))) in
-      subst (λ bytes. Leaves None (effect (act_of over (Writes b app body)) s) (written_by r (from_adapter m.site.device r (wire bytes)) [] (get_or t.logs (own_cell m.site r) []))) q
-      (out_none falls m.site.device r [] (get_or s.logs (own_cell m.site r) []) (get_or t.logs (own_cell m.site r) []) (wire s.bytes) e)
-  write_leaves b app body (Some left) s t e q =
+      let log = get_or t.logs (own_cell m.site r) [] in
+      let old = λ (blocks : List (List ℕ)). get_or blocks (stored_cell m.site r) [] in
+      let way = λ (bytes : List ℕ). written_by r (from_adapter m.site.device r (wire bytes)) [] log in
+      subst (λ blocks. Leaves None (effect (act_of over (Writes b app body)) s) (stored_over m.site r (old blocks) (way t.bytes))) h.blocks
+      (subst (λ bytes. Leaves None (effect (act_of over (Writes b app body)) s) (stored_over m.site r (old s.blocks) (way bytes))) h.bytes
+      (out_none falls m.site r (old s.blocks) [] (get_or s.logs (own_cell m.site r) []) log (wire s.bytes) e))
+  write_leaves b app body (Some left) s t e h =
       let r = route m b in
       let wire = λ (bytes : List ℕ). to_wire m.site.faults r (mapped_out r (own_frame r app (gather 0 body bytes))) in
-      subst (λ bytes. Leaves (Some left) (effect (act_of over (Writes b app body)) s) (leaving left (written_by r (from_adapter failing r (wire bytes)) [] (get_or t.logs (own_cell m.site r) [])))) q
-      (out_some falls m.site.device r left [] (get_or s.logs (own_cell m.site r) []) (get_or t.logs (own_cell m.site r) []) (wire s.bytes) e)
+      let log = get_or t.logs (own_cell m.site r) [] in
+      subst (λ bytes. Leaves (Some left) (effect (act_of over (Writes b app body)) s) (leaving left (stored_by (λ frame. frame) (written_by r (from_adapter failing r (wire bytes)) [] log)))) h.bytes
+      (out_some falls m.site r left (get_or s.blocks (stored_cell m.site r) []) [] (get_or s.logs (own_cell m.site r) []) log (wire s.bytes) e)
 
-  write_pi_leaves : (b : Block) (frame : List ℕ) (o : Option (List ℕ)) (s t : State) → falls (record { op = b.op; k = b.k }) ≡ o → s.bytes ≡ t.bytes → Leaves o (effect (act_of over (WritesPi b frame)) s) (effect (or_fallen m (WritesPi b frame) o) t)
-  write_pi_leaves b frame None s t e q =
+  write_pi_leaves : (b : Block) (frame : List ℕ) (o : Option (List ℕ)) (s t : State) → falls (record { op = b.op; k = b.k }) ≡ o → Sees s t → Leaves o (effect (act_of over (WritesPi b frame)) s) (effect (or_fallen m (WritesPi b frame) o) t)
+  write_pi_leaves b frame None s t e h =
       let r = route m b in
       let wire = λ (bytes : List ℕ). to_wire m.site.faults r (mapped_out r (gather 0 frame bytes)) in
-      subst (λ bytes. Leaves None (effect (act_of over (WritesPi b frame)) s) (written_by r (from_adapter m.site.device r (wire bytes)) (tuple_after r (drop r.size (gather 0 frame bytes))) (get_or t.logs (own_cell m.site r) []))) q
-      (out_none falls m.site.device r (tuple_after r (drop r.size (gather 0 frame s.bytes))) (get_or s.logs (own_cell m.site r) []) (get_or t.logs (own_cell m.site r) []) (wire s.bytes) e)
-  write_pi_leaves b frame (Some left) s t e q =
+      let log = get_or t.logs (own_cell m.site r) [] in
+      let old = λ (blocks : List (List ℕ)). get_or blocks (stored_cell m.site r) [] in
+      let way = λ (bytes : List ℕ). written_by r (from_adapter m.site.device r (wire bytes)) (tuple_after r (drop r.size (gather 0 frame bytes))) log in
+      subst (λ blocks. Leaves None (effect (act_of over (WritesPi b frame)) s) (stored_over m.site r (old blocks) (way t.bytes))) h.blocks
+      (subst (λ bytes. Leaves None (effect (act_of over (WritesPi b frame)) s) (stored_over m.site r (old s.blocks) (way bytes))) h.bytes
+      (out_none falls m.site r (old s.blocks) (tuple_after r (drop r.size (gather 0 frame s.bytes))) (get_or s.logs (own_cell m.site r) []) log (wire s.bytes) e))
+  write_pi_leaves b frame (Some left) s t e h =
       let r = route m b in
       let wire = λ (bytes : List ℕ). to_wire m.site.faults r (mapped_out r (gather 0 frame bytes)) in
-      subst (λ bytes. Leaves (Some left) (effect (act_of over (WritesPi b frame)) s) (leaving left (written_by r (from_adapter failing r (wire bytes)) (tuple_after r (drop r.size (gather 0 frame bytes))) (get_or t.logs (own_cell m.site r) [])))) q
-      (out_some falls m.site.device r left (tuple_after r (drop r.size (gather 0 frame s.bytes))) (get_or s.logs (own_cell m.site r) []) (get_or t.logs (own_cell m.site r) []) (wire s.bytes) e)
+      let log = get_or t.logs (own_cell m.site r) [] in
+      subst (λ bytes. Leaves (Some left) (effect (act_of over (WritesPi b frame)) s) (leaving left (stored_by (λ frame. frame) (written_by r (from_adapter failing r (wire bytes)) (tuple_after r (drop r.size (gather 0 frame bytes))) log)))) h.bytes
+      (out_some falls m.site r left (get_or s.blocks (stored_cell m.site r) []) (tuple_after r (drop r.size (gather 0 frame s.bytes))) (get_or s.logs (own_cell m.site r) []) log (wire s.bytes) e)
 
   -- a read
 
@@ -154,7 +172,7 @@ module _ (m : Setting) (falls : Falls) where
   step_alike (Writes b app body) s t h = by (falls (record { op = b.op; k = b.k })) refl where
     by : (o : Option (List ℕ)) → falls (record { op = b.op; k = b.k }) ≡ o → Steps (Writes b app body) s t
     by o e =
-        let l = write_leaves b app body o s t e h.bytes in
+        let l = write_leaves b app body o s t e h in
         let y = or_fallen m (Writes b app body) o in
         let x = act_of over (Writes b app body) in
         let seen = out_steps [] (stored_cell m.site (route m b)) o (effect x s) (effect y t) s t h l in
@@ -171,7 +189,7 @@ module _ (m : Setting) (falls : Falls) where
   step_alike (WritesPi b frame) s t h = by (falls (record { op = b.op; k = b.k })) refl where
     by : (o : Option (List ℕ)) → falls (record { op = b.op; k = b.k }) ≡ o → Steps (WritesPi b frame) s t
     by o e =
-        let l = write_pi_leaves b frame o s t e h.bytes in
+        let l = write_pi_leaves b frame o s t e h in
         let y = or_fallen m (WritesPi b frame) o in
         let x = act_of over (WritesPi b frame) in
         let seen = out_steps (drop m.size frame) (stored_cell m.site (route m b)) o (effect x s) (effect y t) s t h l in

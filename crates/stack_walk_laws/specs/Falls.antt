@@ -21,6 +21,11 @@ abbrev pub stores_or : Option (List ℕ) → Result (List ℕ) Why → Result (L
 stores_or None came = came
 stores_or (Some left) came = Ok left
 
+-- what is left in the block's place: what the failed call left, all of it
+abbrev pub leaves_or : Option (List ℕ) → (kept frame : List ℕ) → List ℕ
+leaves_or None kept frame = kept
+leaves_or (Some left) kept frame = frame
+
 abbrev pub sends_or : Option (List ℕ) → Result (List ℕ) Why → Result (List ℕ) Why
 sends_or None came = came
 sends_or (Some left) came = Err Medium
@@ -30,6 +35,7 @@ abbrev pub falling : Falls → Device → Device
 falling falls device = record {
   stores = λ r frame. stores_or (falls r.label) (device.stores r frame);
   sends = λ r stored. sends_or (falls r.label) (device.sends r stored);
+  leaves = λ r old frame. leaves_or (falls r.label) (device.leaves r old frame) frame;
 }
 
 abbrev pub over_falls : Setting → Falls → Setting

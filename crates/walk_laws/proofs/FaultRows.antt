@@ -17,7 +17,7 @@ use Rattle.walk_laws.specs.Detectable.{detectable, found}
 use Rattle.walk_laws.specs.FirstLayer.{AtAdapter, AtOwner, AtTarget, Layer, first_layer, last_accepted}
 use Rattle.walk_laws.specs.Past.{Brought, past_after, steps_from}
 use Rattle.walk_laws.specs.Settings.{Setting, block_of}
-use Rattle.walk_laws.proofs.ScriptRows.{faulty, flip, formatted, opening, seg, shift, with_faults, write_and_read}
+use Rattle.walk_laws.proofs.ScriptRows.{faulty, flip, formatted, keep, opening, seg, shift, with_faults, write_and_read}
 
 abbrev may_ask : Setting → List Op → Bool
 may_ask m ops = detectable m (steps_from m 1 ops) opening
@@ -64,6 +64,15 @@ healed_first = refl
 healed_last : last_after (faulty (flip 1 0 TargetToMedium 5 0x80)) (written ++ written) 3 ≡ record { body = replicate 512 0; app = 0x1234 }
 unfolding crc ip found_in to_medium from_medium to_wire from_wire run
 healed_last = refl
+
+-- Neither a lost write nor a torn one is among the faults that are shown.
+lost_hides : may_ask (faulty (keep 1 0 0)) written ≡ false
+unfolding crc ip found_in to_medium from_medium to_wire from_wire run
+lost_hides = refl
+
+torn_hides : may_ask (faulty (keep 1 0 260)) written ≡ false
+unfolding crc ip found_in to_medium from_medium to_wire from_wire run
+torn_hides = refl
 
 -- Shifts and flips of a read.
 shifted_wire_shows : may_ask (faulty (shift 1 AdapterToTarget (pos 1))) fetched ≡ true

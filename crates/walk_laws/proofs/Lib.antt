@@ -4,6 +4,7 @@ pub mod CalmWays
 pub mod EachFrom
 mod FaultRows
 pub mod InSteps
+pub mod Leaves
 pub mod MapUnder
 pub mod Named
 pub mod Passed

@@ -108,7 +108,7 @@ own_is_found m b app body =
         ap (λ c. not (c || eqb (ref_tag b.virt) (ref_tag (route m b).lba))) e
 
 placed : (m : Setting) (b : Block) (o : Option Check) (back : List ℕ) (log : List (List ℕ)) (e : MapEntry) (c : ℕ) (blocks : List (List ℕ)) → c ≡ home m b.virt →
-    scatter (c ∷ []) (written_by (route m b) (goes m b o e) back log).written.blocks blocks ≡ put_unless m o b.virt e blocks
+    scatter (c ∷ []) (map (λ frame. frame) (written_by (route m b) (goes m b o e) back log).written.blocks) blocks ≡ put_unless m o b.virt e blocks
 placed m b None back log e c blocks p = ap (λ i. set blocks i (stored_as m (address_of m b.virt) e)) p
 placed m b (Some check) back log e c blocks p = refl
 
@@ -218,7 +218,7 @@ module _ (m' : Setting) (n : ℕ) (image : List (List ℕ)) (protect : 0 < m'.mo
         record {
           under = record {
             bytes = refl;
-            blocks = ap (λ w. scatter (cell ∷ []) (written_by (route m b) w [] log).written.blocks image') way
+            blocks = ap (λ w. scatter (cell ∷ []) (map (λ frame. frame) (written_by (route m b) w [] log).written.blocks) image') way
                 ∙ placed m b o [] log e cell image' (ap (m.site.cell (route m b).dev) (wire_same m' b protect m'.mode.dix m'.mode.dif m'.ty))
                 ∙ sym (under_accepted m n image lies s.map o b.virt e h.size meets.0);
           };
@@ -252,7 +252,7 @@ module _ (m' : Setting) (n : ℕ) (image : List (List ℕ)) (protect : 0 < m'.mo
         record {
           under = record {
             bytes = ap (λ w. scatter tuple (written_by (route m b) w back log).written.bytes s.bytes) way ∙ ap (λ xs. scatter tuple xs s.bytes) (left m b o back log e);
-            blocks = ap (λ w. scatter (cell ∷ []) (written_by (route m b) w back log).written.blocks image') way
+            blocks = ap (λ w. scatter (cell ∷ []) (map (λ frame. frame) (written_by (route m b) w back log).written.blocks) image') way
                 ∙ placed m b o back log e cell image' (ap (m.site.cell (route m b).dev) (wire_same m' b protect m'.mode.dix m'.mode.dif m'.ty))
                 ∙ sym (under_accepted m n image lies s.map o b.virt e h.size meets.0);
           };

@@ -13,11 +13,11 @@ use Rattle.page_pool.specs.declared.segs.Seg.{Seg}
 use Rattle.page_pool.specs.Places.{run}
 use Rattle.fault_schedule.specs.declared.fault.Crossing.{Crossing}
 use Rattle.fault_schedule.specs.declared.fault.Crossing.TheVariants.{AdapterToHost, AdapterToTarget, MediumToTarget, TargetToMedium}
-use Rattle.fault_schedule.specs.declared.fault.FaultKind.TheVariants.{Flip, Shift}
+use Rattle.fault_schedule.specs.declared.fault.FaultKind.TheVariants.{Flip, Shift, Keep}
 use Rattle.fault_schedule.specs.declared.fault.FaultLine.{FaultLine}
 use Rattle.stack_ops.specs.Passed.{Copy, Why, Adapter, App, Target}
 use Rattle.stack_ops.specs.declared.op.Op.{Op}
-use Rattle.stack_ops.specs.declared.op.Op.TheVariants.{Fetch, FetchPi, Overwrite, Put, Seal, Show, Write, WritePi}
+use Rattle.stack_ops.specs.declared.op.Op.TheVariants.{Fetch, FetchPi, Fill, Overwrite, Put, Seal, Show, Write, WritePi}
 use Rattle.stack_ops.specs.declared.reply.Reply.{Reply}
 use Rattle.stack_ops.specs.declared.reply.Reply.TheVariants.{Bad, Shown, Silent, Whole}
 use Rattle.block_path.specs.Passed.{tuple_of, found_in, from_medium, to_medium}
@@ -129,6 +129,22 @@ on_the_wire_out = refl
 on_the_medium : script_replies (faulty (flip 1 0 TargetToMedium 5 0x80)) (write_and_read ++ write_and_read) opening ≡ Whole ∷ lists 0 (Target Guard) ∷ Whole ∷ Whole ∷ []
 unfolding crc ip found_in to_medium from_medium to_wire from_wire run
 on_the_medium = refl
+
+abbrev pub keep : (op k bytes : ℕ) → List FaultLine
+keep op k bytes = record { op = op; k = k; at = TargetToMedium; kind = Keep bytes } ∷ []
+
+abbrev filled : List Op
+filled = Fill (first_seg 0 512) 7 ∷ write_and_read
+
+-- A write that is lost is acknowledged, and the read after it is given what stood there.
+lost_write : script_replies (faulty (keep 2 0 0)) (filled ++ (Show (first_seg 0 1) ∷ [])) opening ≡ Silent ∷ Whole ∷ Whole ∷ Shown (0 ∷ []) ∷ []
+unfolding crc ip found_in to_medium from_medium to_wire from_wire run
+lost_write = refl
+
+-- Of a torn one the target finds the guard wrong.
+torn_write : script_replies (faulty (keep 2 0 260)) filled opening ≡ Silent ∷ Whole ∷ lists 0 (Target Guard) ∷ []
+unfolding crc ip found_in to_medium from_medium to_wire from_wire run
+torn_write = refl
 
 abbrev reads : List Op
 reads = Fetch 0 2 (seg 0 1024) ∷ []

@@ -1,10 +1,10 @@
 use Rattle.std.specs.Prelude.{ℕ, Bool, true, false, ◌&&◌, ◌||◌, not, eqb, if◌then◌else◌, List, [], ◌∷◌, get_or, nat_abs, Option, Some, None}
 use Rattle.std.specs.List.{list_any}
-use Rattle.fault_schedule.specs.Altered.{is_line_of, shift_of}
+use Rattle.fault_schedule.specs.Altered.{is_line_of, keep_of, shift_of}
 use Rattle.fault_schedule.specs.declared.fault.Crossing.{Crossing}
 use Rattle.fault_schedule.specs.declared.fault.Crossing.TheVariants.{AdapterToHost, AdapterToTarget, MediumToTarget, TargetToAdapter, TargetToMedium}
 use Rattle.fault_schedule.specs.declared.fault.FaultKind.{FaultKind}
-use Rattle.fault_schedule.specs.declared.fault.FaultKind.TheVariants.{Flip, Shift}
+use Rattle.fault_schedule.specs.declared.fault.FaultKind.TheVariants.{Flip, Shift, Keep}
 use Rattle.block_path.specs.Acts.{State}
 use Rattle.block_path.specs.Blocks.{fetched_cell, own_cell, stored_cell}
 use Rattle.walk_laws.specs.Past.{Accepted, Brought, Event, Lost, Overwritten, brought_by}
@@ -20,6 +20,7 @@ pub data Layer : Type 0 where
 abbrev pub is_flip : FaultKind → Bool
 is_flip (Flip off bytes) = true
 is_flip (Shift by) = false
+is_flip (Keep bytes) = false
 
 -- A line flips bytes of the block at this crossing.
 abbrev pub has_flip : Setting → Block → Crossing → Bool
@@ -28,6 +29,14 @@ has_flip m b at = list_any (λ line. is_line_of line at (route m b).label && is_
 -- The op's addresses are shifted at this crossing.
 abbrev pub has_shift : Setting → Block → Crossing → Bool
 has_shift m b at = not (eqb (nat_abs (shift_of m.site.faults at b.op)) 0)
+
+abbrev pub is_all : Option ℕ → Bool
+is_all None = true
+is_all (Some n) = false
+
+-- No line lets the medium store but a part of the block.
+abbrev pub is_stored_whole : Setting → Block → Bool
+is_stored_whole m b = is_all (keep_of m.site.faults (route m b).label)
 
 -- A cell is hit where, since the last block that was accepted and stored there, an overwrite altered it, or that block had a flip on its way to the medium.
 abbrev pub is_hit : Setting → (cell : ℕ) → List Event → Bool

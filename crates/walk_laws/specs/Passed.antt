@@ -1,6 +1,6 @@
 -- Words of the crates below, for the crates above that stand on this one alone.
 pub use Rattle.block_path.specs.Acts.{Act, Effect, State, act, conflict, effect, seen, tell}
-pub use Rattle.block_path.specs.Blocks.{ActAnswer, AskedBlock, Sent, Site, fetched_cell, nothing_written, own_cell, own_frame, own_tuple, read_block, read_by, silent, stored_cell, tuple_after, untouched, write_block, write_block_of_app, written_by}
+pub use Rattle.block_path.specs.Blocks.{ActAnswer, AskedBlock, Sent, Site, fetched_cell, nothing_written, own_cell, own_frame, own_tuple, read_block, read_by, silent, stored_cell, stored_over, tuple_after, untouched, write_block, write_block_of_app, written_by}
 pub use Rattle.block_path.specs.Moves.{AreCells, FrameAt, IsOne, carry_in, carry_out, hidden, joined as MovesJoined, make_tuple, map_back, map_out, settle}
 pub use Rattle.block_path.specs.Operations.{handed_on, operation}
 pub use Rattle.block_path.specs.Passed.{Passage, Read, ReadCapacity, Request, Sense, Verify, Write as TheVariantsWrite, accepted, asked_of, crossed, data_of, frame_of, frames_of, joined, released, remapped_bytes, request_of, sent_size, stored_size, then_crossed, tuple_of, unless, wanted_of, with_own_tuple}
