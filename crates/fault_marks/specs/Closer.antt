@@ -2,21 +2,23 @@ use Rattle.std.specs.Prelude.{ℕ, ◌+◌, ◌-◌, ◌*◌, ◌^◌, Bool, fal
 use Rattle.std.specs.List.{list_any, position}
 use Rattle.std.specs.Str.{bytes_eq}
 use Rattle.fault_schedule.specs.declared.fault.FaultKind.{FaultKind}
-use Rattle.fault_schedule.specs.declared.fault.FaultKind.TheVariants.{Flip as FlipKind, Shift as ShiftKind}
+use Rattle.fault_schedule.specs.declared.fault.FaultKind.TheVariants.{Flip as FlipKind, Shift as ShiftKind, Keep as KeepKind}
 use Rattle.fault_schedule.specs.declared.fault.FaultLine.{FaultLine}
 use Rattle.page_pool.specs.Places.{total}
 use Rattle.page_pool.specs.declared.segs.Seg.{Seg}
 use Rattle.pi_tuple.specs.declared.TheConstants.{LARGEST_BLOCK, TUPLE}
 use Rattle.script_lines.specs.Forms.{line_form}
-use Rattle.script_lines.specs.Verbs.{is_new_verb, verb_of}
+use Rattle.script_lines.specs.Verbs.{verb_of, version_of_verb}
 use Rattle.script_lines.specs.declared.kind.ScriptKind.{ScriptKind}
 use Rattle.script_lines.specs.declared.kind.ScriptKind.TheVariants.{OutOfPlace, TooMany, BadSegments, BadRange, BadFault, NoIntegrity}
 use Rattle.script_lines.specs.declared.line.OpLine.{OpLine}
 use Rattle.script_lines.specs.declared.line.OpLine.TheVariants.{Fill, Put, Show, Seal, Write, Read, WritePi, ReadPi, Flip as FlipOp}
 use Rattle.script_lines.specs.declared.line.ScriptLine.{ScriptLine}
-use Rattle.script_lines.specs.declared.line.ScriptLine.TheVariants.{Inner, Linear, Stripe, Over, Flip, Shift, Schedule, Op}
+use Rattle.script_lines.specs.declared.line.ScriptLine.TheVariants.{Inner, Linear, Stripe, Over, Flip, Shift, Keep, Schedule, Op}
+use Rattle.script_lines.specs.declared.verb.ScriptVersion.{ScriptVersion}
+use Rattle.script_lines.specs.declared.verb.ScriptVersion.TheVariants.{One, Two, Three}
 use Rattle.script_lines.specs.declared.verb.Verb.{Verb}
-use Rattle.script_text.specs.Bindings.{is_at_medium, request_at, request_of, shifts}
+use Rattle.script_text.specs.Bindings.{is_at_medium, keeps_block, request_at, request_of, shifts}
 use Rattle.script_text.specs.Language.{is_comment, script_in}
 use Rattle.script_text.specs.Segments.{are_whole_tuples, is_inside}
 use Rattle.script_text.specs.declared.TheConstants.{MOST_LEGS, MOST_OPS}
@@ -30,7 +32,7 @@ use Rattle.volume_table.specs.declared.entry.Entry.{Entry}
 use Rattle.fault_marks.specs.Words.{line_at, text_behind}
 use Rattle.fault_marks.specs.declared.closer.Closer.{Closer}
 use Rattle.fault_marks.specs.declared.detail.Detail.{Detail}
-use Rattle.fault_marks.specs.declared.detail.Detail.TheVariants.{Plain, PastFrame, NoChange, NoShift, NoRequest, NoBlock, ShiftStored, ShiftTwice, ShiftAway, NoStored, NoBytes, NoPage, PastPage, LongShow, OtherTotal, Scattered, NoWholeTuple, BadCount, OverLegs, PastVolume, NoTuples, NoBegin, NewLine, LongText, ManyInner, ManyEntries, ManyLegs, ManyFaults, ManySteps, ManyOps, ManyBlocks, ManySegments}
+use Rattle.fault_marks.specs.declared.detail.Detail.TheVariants.{Plain, PastFrame, NoChange, NoShift, NoRequest, NoBlock, ShiftStored, ShiftTwice, ShiftAway, NoWrite, KeptWhole, KeptTwice, NoStored, NoBytes, NoPage, PastPage, LongShow, OtherTotal, Scattered, NoWholeTuple, BadCount, OverLegs, PastVolume, NoTuples, NoBegin, NewLine, ThirdLine, LongText, ManyInner, ManyEntries, ManyLegs, ManyFaults, ManySteps, ManyOps, ManyBlocks, ManySegments}
 
 -- Which of the causes of its kind a fault has, and at which word of its line, counted from 0.
 
@@ -155,6 +157,7 @@ many_closer ops (Stripe start len chunk legs) = many_entry (length legs)
 many_closer ops (Over start len chunk volumes) = many_entry (length volumes)
 many_closer ops (Flip op k spot off bytes) = at_word ManyFaults 0
 many_closer ops (Shift op spot by) = at_word ManyFaults 0
+many_closer ops (Keep op k bytes) = at_word ManyFaults 0
 many_closer ops (Schedule entries) = at_word ManySteps 0
 many_closer ops (Op op) = many_op ops op
 many_closer ops _ = plain
@@ -201,51 +204,65 @@ line_closer kind (Some script) (Some line) = words_closer kind script (words_of 
 
 -- ---- a line out of its place
 
--- the version of a first line, of which these words are left behind the first, is 1
-abbrev pub is_one : List (List ℕ) → Bool
-is_one [] = false
-is_one (version ∷ words) = bytes_eq version (codes "1")
+-- the version of a first line, of which these words are left behind the first, is this one
+abbrev pub is_version : (version : List ℕ) → List (List ℕ) → Bool
+is_version version [] = false
+is_version version (said ∷ words) = bytes_eq said version
 
-abbrev pub old_by : List (List ℕ) → Bool → Bool
-old_by [] rest = rest
-old_by (first ∷ words) rest = if is_comment first then rest else is_one words
+abbrev pub says_by : (version : List ℕ) → List (List ℕ) → Bool → Bool
+says_by version [] rest = rest
+says_by version (first ∷ words) rest = if is_comment first then rest else is_version version words
 
 -- what a line tells of the version, or else what those behind it tell
 abbrev pub told_or : Option Bool → Bool → Bool
 told_or None rest = rest
 told_or (Some told) rest = told
 
--- the first line that isn't skipped says version 1
-abbrev pub is_old : List (List ℕ) → Bool
-is_old [] = false
-is_old (line ∷ lines) = old_by (words_of line) (is_old lines)
+-- the first line that isn't skipped says this version
+abbrev pub says : (version : List ℕ) → List (List ℕ) → Bool
+says version [] = false
+says version (line ∷ lines) = says_by version (words_of line) (says version lines)
 
-abbrev pub is_new_by : Option Verb → Bool
-is_new_by None = false
-is_new_by (Some verb) = is_new_verb verb
+abbrev pub brought_by : Option Verb → ScriptVersion
+brought_by None = One
+brought_by (Some verb) = version_of_verb verb
 
--- the line is one of version 2 alone
-abbrev pub is_new_line : List (List ℕ) → Bool
-is_new_line [] = false
-is_new_line (first ∷ words) = is_new_by (verb_of first)
+-- the version that brought such a line; version 1 where it is none
+abbrev pub line_version : List (List ℕ) → ScriptVersion
+line_version [] = One
+line_version (first ∷ words) = brought_by (verb_of first)
+
+-- a line that this version brought, in a script of an earlier one
+abbrev pub early_closer : (text : List ℕ) → ScriptVersion → Closer
+early_closer text One = plain
+early_closer text Two = if says (codes "1") (lines_of text) then at_word NewLine 0 else plain
+early_closer text Three = if says (codes "3") (lines_of text) then plain else at_word ThirdLine 0
 
 abbrev pub order_closer : (text : List ℕ) → Option (List ℕ) → Closer
 order_closer text None = at_word NoBegin 0
-order_closer text (Some line) = if is_new_line (words_of line) then (if is_old (lines_of text) then at_word NewLine 0 else plain) else plain
+order_closer text (Some line) = early_closer text (line_version (words_of line))
 
 -- ---- a fault of a script over its volume
 
-abbrev pub shift_closer : (earlier : List FaultLine) → FaultLine → FaultKind → Closer
-shift_closer earlier f (FlipKind off bytes) = plain
-shift_closer earlier f (ShiftKind by) = if is_at_medium f.at then at_word ShiftStored 2 else (if list_any (shifts f.op) earlier then at_word ShiftTwice 1 else at_word ShiftAway 3)
+abbrev pub shift_closer : (earlier : List FaultLine) → FaultLine → Closer
+shift_closer earlier f = if is_at_medium f.at then at_word ShiftStored 2 else (if list_any (shifts f.op) earlier then at_word ShiftTwice 1 else at_word ShiftAway 3)
 
-abbrev pub request_closer : (earlier : List FaultLine) → FaultLine → Option (ℕ × ℕ) → Closer
-request_closer earlier f None = at_word NoRequest 1
-request_closer earlier f (Some request) = if nat_le request.1 f.k then at_word (NoBlock request.1) 2 else shift_closer earlier f f.kind
+-- a block that is lost or torn, of a script of blocks of this size: what isn't the op or an earlier line is LEN, on a unit without tuples
+abbrev pub keep_closer : (size : ℕ) → (earlier : List FaultLine) → FaultLine → Closer
+keep_closer size earlier f = if not (is_at_medium f.at) then at_word NoWrite 1 else (if list_any (keeps_block f.op f.k) earlier then at_word KeptTwice 2 else at_word (KeptWhole size) 3)
+
+abbrev pub kind_closer : (size : ℕ) → (earlier : List FaultLine) → FaultLine → FaultKind → Closer
+kind_closer size earlier f (FlipKind off bytes) = plain
+kind_closer size earlier f (ShiftKind by) = shift_closer earlier f
+kind_closer size earlier f (KeepKind bytes) = keep_closer size earlier f
+
+abbrev pub request_closer : (size : ℕ) → (earlier : List FaultLine) → FaultLine → Option (ℕ × ℕ) → Closer
+request_closer size earlier f None = at_word NoRequest 1
+request_closer size earlier f (Some request) = if nat_le request.1 f.k then at_word (NoBlock request.1) 2 else kind_closer size earlier f f.kind
 
 abbrev pub bound_fault : Script → (i : ℕ) → Option FaultLine → Closer
 bound_fault script i None = plain
-bound_fault script i (Some f) = request_closer (take i script.faults) f (request_at script.ops f.op)
+bound_fault script i (Some f) = request_closer script.block (take i script.faults) f (request_at script.ops f.op)
 
 -- a number that may be above all numbers of 64 bits, which is then told as the highest of them
 abbrev pub told_number : ℕ → ℕ

@@ -2,10 +2,10 @@
 
 ghost use Rattle.std.specs.Prelude.{◌≡◌, eqb, slice_get, take, Some};
 ghost use Rattle.std.specs.List.{list_any, position};
-ghost use Rattle.script_text.specs.Bindings.{is_at_medium, is_shift, request_of, shifts};
+ghost use Rattle.script_text.specs.Bindings.{is_at_medium, is_keep, is_shift, keeps_block, request_of, shifts};
 ghost use Rattle.volume_table.specs.Entries.{entry_len};
 ghost use Rattle.volume_table.specs.Places.{volume_len};
-ghost use Rattle.fault_marks.specs.Closer.{bound_closer, bound_fault, bound_line, bound_op, past_volume, request_closer, shift_closer, told_number};
+ghost use Rattle.fault_marks.specs.Closer.{bound_closer, bound_fault, bound_line, bound_op, keep_closer, kind_closer, past_volume, request_closer, shift_closer, told_number};
 
 use crate::closer::{Closer, at_word, plain};
 use crate::detail::Detail;
@@ -18,8 +18,17 @@ fn is_shift(kind: &FaultKind) -> bool
     ensures { result ≡ is_shift kind.now }
 {
     match kind {
-        FaultKind::Flip { .. } => false,
         FaultKind::Shift { .. } => true,
+        _ => false,
+    }
+}
+
+fn is_keep(kind: &FaultKind) -> bool
+    ensures { result ≡ is_keep kind.now }
+{
+    match kind {
+        FaultKind::Keep { .. } => true,
+        _ => false,
     }
 }
 
@@ -41,13 +50,19 @@ fn is_shifted(lines: &[FaultLine], op: u32) -> bool
         .any(|line| op == line.op && is_shift(&line.kind))
 }
 
-/// A line behind these whose request has the block.
-fn shift_closer(earlier: &[FaultLine], line: &FaultLine) -> Closer
-    ensures { result ≡ shift_closer earlier.now line.now line.now.kind }
+/// Whether one of these lines loses or tears this block.
+fn is_kept(lines: &[FaultLine], op: u32, k: u32) -> bool
+    ensures { result ≡ list_any (keeps_block op k) lines.now }
 {
-    if !is_shift(&line.kind) {
-        return plain();
-    }
+    lines
+        .iter()
+        .any(|line| op == line.op && k == line.k && is_keep(&line.kind))
+}
+
+/// A shift behind these lines.
+fn shift_closer(earlier: &[FaultLine], line: &FaultLine) -> Closer
+    ensures { result ≡ shift_closer earlier.now line.now }
+{
     if is_at_medium(line.at) {
         return at_word(Detail::ShiftStored, 2);
     }
@@ -57,9 +72,39 @@ fn shift_closer(earlier: &[FaultLine], line: &FaultLine) -> Closer
     at_word(Detail::ShiftAway, 3)
 }
 
+/// A block that a line behind these loses or tears, in a script of blocks of this size.
+fn keep_closer(size: u32, earlier: &[FaultLine], line: &FaultLine) -> Closer
+    ensures { result ≡ keep_closer size earlier.now line.now }
+{
+    if !is_at_medium(line.at) {
+        return at_word(Detail::NoWrite, 1);
+    }
+    if is_kept(earlier, line.op, line.k) {
+        return at_word(Detail::KeptTwice, 2);
+    }
+    let stored = u64::from(size);
+    at_word(Detail::KeptWhole { stored }, 3)
+}
+
+/// A line behind these whose request has the block.
+fn kind_closer(size: u32, earlier: &[FaultLine], line: &FaultLine) -> Closer
+    ensures { result ≡ kind_closer size earlier.now line.now line.now.kind }
+{
+    match line.kind {
+        FaultKind::Flip { .. } => plain(),
+        FaultKind::Shift { .. } => shift_closer(earlier, line),
+        FaultKind::Keep { .. } => keep_closer(size, earlier, line),
+    }
+}
+
 /// A line behind these, whose op is this request, if any.
-fn request_closer(earlier: &[FaultLine], line: &FaultLine, request: Option<(u64, u32)>) -> Closer
-    ensures { result ≡ request_closer earlier.now line.now request }
+fn request_closer(
+    size: u32,
+    earlier: &[FaultLine],
+    line: &FaultLine,
+    request: Option<(u64, u32)>,
+) -> Closer
+    ensures { result ≡ request_closer size earlier.now line.now request }
 {
     match request {
         None => at_word(Detail::NoRequest, 1),
@@ -67,7 +112,7 @@ fn request_closer(earlier: &[FaultLine], line: &FaultLine, request: Option<(u64,
             if blocks <= line.k {
                 return at_word(Detail::NoBlock { blocks }, 2);
             }
-            shift_closer(earlier, line)
+            kind_closer(size, earlier, line)
         }
     }
 }
@@ -80,6 +125,7 @@ fn bound_fault(script: &Script, i: usize) -> Closer
     match faults.get(i) {
         None => plain(),
         Some(line) => request_closer(
+            script.block,
             &faults[..i],
             line,
             request_at(script.ops.as_slice(), line.op),

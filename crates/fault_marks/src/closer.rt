@@ -1,7 +1,7 @@
 //! Which of the causes of its kind a fault has, and at which word of its line.
 
 ghost use Rattle.std.specs.Prelude.{◌≡◌, ◌++◌, ◌-◌, ◌<◌, IfOk, Some, codes, length, take};
-ghost use Rattle.fault_marks.specs.Closer.{asked_closer, at_word, closer_of, line_closer, numbered, order_closer, plain, script_of, settled, verb_closer, words_closer};
+ghost use Rattle.fault_marks.specs.Closer.{asked_closer, at_word, closer_of, early_closer, line_closer, numbered, order_closer, plain, script_of, settled, verb_closer, words_closer};
 ghost use Rattle.fault_marks.specs.Words.{line_at, text_behind};
 ghost use Rattle.script_text.specs.Language.{script_in};
 ghost use Rattle.script_words.specs.Cuts.{words_of};
@@ -9,10 +9,10 @@ ghost use Rattle.script_words.specs.Cuts.{words_of};
 use crate::bound::bound_closer;
 use crate::detail::Detail;
 use crate::lines::{line_at, text_behind};
-use crate::order::{is_new_line, is_old};
+use crate::order::{line_version, says};
 use crate::said::said_closer;
 use pi_tuple::LARGEST_BLOCK;
-use script_lines::{Verb, Words, line_of, verb_of};
+use script_lines::{ScriptVersion, Verb, Words, line_of, verb_of};
 use script_text::{Script, ScriptFault, ScriptKind, read_script};
 use std::alloc::{AllocError, Global};
 
@@ -109,19 +109,24 @@ fn words_closer(
     }
 }
 
+/// A line that this version brought, in a script of an earlier one.
+fn early_closer(text: &[u8], brought: ScriptVersion) -> Closer
+    ensures { result ≡ early_closer text.now brought }
+{
+    match brought {
+        ScriptVersion::Two if says(text, b"1") => at_word(Detail::NewLine, 0),
+        ScriptVersion::Three if !says(text, b"3") => at_word(Detail::ThirdLine, 0),
+        _ => plain(),
+    }
+}
+
 /// What is wrong with a line that isn't in its place.
 fn order_closer(text: &[u8], number: u32) -> Closer
     ensures { result ≡ order_closer text.now (line_at number text.now) }
 {
     match line_at(text, number) {
         None => at_word(Detail::NoBegin, 0),
-        Some(line) => {
-            if is_new_line(line) && is_old(text) {
-                at_word(Detail::NewLine, 0)
-            } else {
-                plain()
-            }
-        }
+        Some(line) => early_closer(text, line_version(line)),
     }
 }
 

@@ -29,6 +29,12 @@ pub(crate) enum Detail {
     ShiftTwice,
     /// A shift on units of another type, or off a unit.
     ShiftAway,
+    /// A line that loses or tears a block of an op that doesn't write.
+    NoWrite,
+    /// A line that tears no less than all that is stored of a block.
+    KeptWhole { stored: u64 },
+    /// A block that an earlier line loses or tears.
+    KeptTwice,
     /// An overwrite of a block that isn't there, or doesn't fit the volume.
     NoStored,
     /// A segment without bytes.
@@ -57,6 +63,8 @@ pub(crate) enum Detail {
     NoBegin,
     /// A line of version 2 in a script of version 1.
     NewLine,
+    /// A line of version 3 in a script of an earlier one.
+    ThirdLine,
     /// The text is too long.
     LongText,
     /// Too many `inner` lines.
@@ -86,7 +94,7 @@ fn many_text(detail: Detail) -> &'static [u8]
         Detail::ManyInner => b"a script has at most 32 inner lines",
         Detail::ManyEntries => b"a volume has at most 16 entries",
         Detail::ManyLegs => b"an entry has at most 8 legs",
-        Detail::ManyFaults => b"a script has at most 256 fault and shift lines",
+        Detail::ManyFaults => b"a script has at most 256 lines of faults",
         Detail::ManySteps => b"a schedule has at most 16384 entries",
         Detail::ManyOps => b"a script has at most 1024 ops",
         Detail::ManyBlocks => b"all requests together have at most 16384 blocks",
@@ -109,6 +117,10 @@ fn front_text(kind: ScriptKind, detail: Detail) -> &'static [u8]
         Detail::ShiftStored => b"a write has no shift at the medium",
         Detail::ShiftTwice => b"an earlier line shifts this op",
         Detail::ShiftAway => b"a shift needs units of type 1, and may move no block off its unit",
+        Detail::NoWrite =>
+            b"the medium loses or tears what an op writes, and this op does not write",
+        Detail::KeptWhole { .. } => b"LEN is less than what the unit stores of a block, which is ",
+        Detail::KeptTwice => b"an earlier line loses or tears this block",
         Detail::NoStored =>
             b"the image has no such block, or of another type or size than the volume",
         Detail::NoBytes => b"a segment has at least one byte",
@@ -124,6 +136,8 @@ fn front_text(kind: ScriptKind, detail: Detail) -> &'static [u8]
         Detail::NoTuples => b"the units of the volume have no tuples",
         Detail::NoBegin => b"the text ends without a line begin",
         Detail::NewLine => b"this line belongs to version 2, and the script begins with dix 1",
+        Detail::ThirdLine =>
+            b"this line belongs to version 3, and the script begins with dix 1 or dix 2",
         _ => many_text(detail),
     }
 }
@@ -163,6 +177,7 @@ fn add_behind(out: &mut Vec<u8>, detail: Detail) -> Result<(), AllocError>
         Detail::LongShow { len } => add_number(out, u64::from(len)),
         Detail::BadCount { n } => add_number(out, u64::from(n)),
         Detail::PastPage { end } => add_number(out, end),
+        Detail::KeptWhole { stored } => add_number(out, stored),
         Detail::ManySegments { segs } => add_number(out, segs),
         _ => Ok(()),
     }

@@ -25,7 +25,7 @@ pub(crate) fn sentence(kind: ScriptKind) -> &'static [u8]
         ScriptKind::BadFault =>
             b"the fault can not act: what it names is not there, or it changes nothing",
         ScriptKind::NoIntegrity => b"this needs tuples that the mode line switches off",
-        ScriptKind::NoHeader => b"a script begins with dix 1 or dix 2",
+        ScriptKind::NoHeader => b"a script begins with dix 1, dix 2 or dix 3",
         ScriptKind::Memory => b"no memory",
     }
 }

@@ -1,4 +1,6 @@
-use Rattle.std.specs.Prelude.{ℕ, ◌+◌, ◌*◌, ◌/◌, ◌%◌, Bool, true, false, not, ◌||◌, ◌&&◌, eqb, nat_lt, if◌then◌else◌, List, ◌∷◌, length, drop, slice_get, Option, Some, None}
+use Rattle.std.specs.Prelude.{ℕ, ◌+◌, ◌*◌, ◌/◌, ◌%◌, Bool, true, false, not, ◌||◌, ◌&&◌, eqb, nat_lt, if◌then◌else◌, List, ◌∷◌, length, drop, slice_get, Option, Some, None, [], ◌++◌}
+use Rattle.fault_schedule.specs.declared.fault.FaultKind.{FaultKind}
+use Rattle.fault_schedule.specs.declared.fault.FaultKind.TheVariants.{Flip as FlipKind, Shift as ShiftKind, Keep as KeepKind}
 use Rattle.fault_schedule.specs.declared.fault.FaultLine.{FaultLine}
 use Rattle.pi_tuple.specs.declared.checks.PiType.{PiType}
 use Rattle.pi_tuple.specs.declared.checks.PiType.TheVariants.{Zero as TypeZero, One as TypeOne, Two as TypeTwo, Three as TypeThree}
@@ -12,7 +14,7 @@ use Rattle.script_lines.specs.declared.kind.ScriptKind.{ScriptKind}
 use Rattle.script_lines.specs.declared.kind.ScriptKind.TheVariants.{BadFault, BadRange, NoIntegrity, OutOfPlace}
 use Rattle.script_text.specs.declared.fault.ScriptFault.{ScriptFault}
 use Rattle.script_text.specs.declared.script.Script.{Script}
-use Rattle.script_text.specs.Bindings.{at_line, is_alterable, is_bad_change, is_shift, or_else, request_at}
+use Rattle.script_text.specs.Bindings.{at_line, is_alterable, is_bad_change, is_bad_keep, or_else, request_at, stored_bytes}
 
 -- What a script may not do on a mirror: a volume of two legs of equal length.
 
@@ -35,13 +37,21 @@ abbrev pub is_past : (k : ℕ) → Option (ℕ × ℕ) → Bool
 is_past k None = true
 is_past k (Some request) = not (nat_lt k (2 * request.1))
 
--- A mirror has no shifts, and faults with protect field 001b alone.
-abbrev pub is_bad_line : (protect : ℕ) → List Op → FaultLine → Bool
-is_bad_line protect ops f = not (eqb protect 1) || (is_shift f.kind || is_past f.k (request_at ops f.op))
+-- A mirror has no shifts. What a leg's medium loses or tears is judged as that of any volume.
+abbrev pub is_bad_kind : (stored : ℕ) → (earlier : List FaultLine) → FaultLine → FaultKind → Bool
+is_bad_kind stored earlier f (FlipKind off bytes) = false
+is_bad_kind stored earlier f (ShiftKind by) = true
+is_bad_kind stored earlier f (KeepKind bytes) = is_bad_keep stored earlier f bytes
 
-abbrev pub faults_fault : (protect : ℕ) → List Op → List FaultLine → (lines : List ℕ) → Option ScriptFault
-faults_fault protect ops (f ∷ faults) (line ∷ lines) = if is_bad_line protect ops f then Some (record { line = line; kind = BadFault }) else faults_fault protect ops faults lines
-faults_fault protect ops _ _ = None
+-- It has faults with protect field 001b alone. So many bytes are stored of a block.
+abbrev pub is_bad_line : (protect stored : ℕ) → List Op → (earlier : List FaultLine) → FaultLine → Bool
+is_bad_line protect stored ops earlier f = not (eqb protect 1) || (is_past f.k (request_at ops f.op) || is_bad_kind stored earlier f f.kind)
+
+-- the first fault of the fault lines behind these
+abbrev pub faults_fault : (protect stored : ℕ) → List Op → (earlier faults : List FaultLine) → (lines : List ℕ) → Option ScriptFault
+faults_fault protect stored ops earlier (f ∷ faults) (line ∷ lines) =
+    if is_bad_line protect stored ops earlier f then Some (record { line = line; kind = BadFault }) else faults_fault protect stored ops (earlier ++ (f ∷ [])) faults lines
+faults_fault protect stored ops earlier _ _ = None
 
 -- n blocks from v on, of a mirror of so many
 abbrev pub range_fault : (half v n : ℕ) → Option ScriptKind
@@ -70,4 +80,4 @@ abbrev pub mirror_fault : Script → Table → List DeviceInfo → Option Script
 mirror_fault s t devices =
     or_else (mode_fault s.mode t.ty)
     (or_else (length_fault (volume_len t.entries))
-    (or_else (faults_fault s.mode.protect s.ops s.faults s.lines) (ops_fault s.mode.protect t devices s.block s.ops (drop (length s.faults) s.lines))))
+    (or_else (faults_fault s.mode.protect (stored_bytes t.ty s.block) s.ops [] s.faults s.lines) (ops_fault s.mode.protect t devices s.block s.ops (drop (length s.faults) s.lines))))

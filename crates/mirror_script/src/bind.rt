@@ -1,13 +1,16 @@
 //! A script against a mirror.
 
-ghost use Rattle.std.specs.Prelude.{◌≡◌, ◌≤◌, ◌+◌, None, Some, MatchResult, drop, length};
-ghost use Rattle.mirror_script.specs.MirrorFaults.{faults_fault, is_bad_line, length_fault, mirror_fault, mode_fault, op_fault, ops_fault, range_fault};
+ghost use Rattle.std.specs.Prelude.{◌≡◌, ◌≤◌, ◌+◌, [], None, Some, MatchResult, drop, length};
+ghost use Rattle.mirror_script.specs.MirrorFaults.{faults_fault, is_bad_kind, is_bad_line, is_past, length_fault, mirror_fault, mode_fault, op_fault, ops_fault, range_fault};
 ghost use Rattle.volume_table.specs.Places.{volume_len};
 
 use block_path::Mode;
 use fault_schedule::{FaultKind, FaultLine};
 use pi_tuple::PiType;
-use script_text::{Against, Script, ScriptFault, ScriptKind, can_alter, is_bad_change, request_at};
+use script_text::{
+    Against, Script, ScriptFault, ScriptKind, can_alter, is_bad_change, is_bad_keep, request_at,
+    stored_bytes,
+};
 use stack_ops::Op;
 use volume_table::{DeviceInfo, VolumeTable};
 
@@ -37,31 +40,50 @@ fn length_fault(len: u64) -> Option<ScriptFault>
     }
 }
 
-/// Whether a fault line can't be.
-fn is_bad_line(protect: u8, ops: &[Op], line: &FaultLine) -> bool
-    ensures { result ≡ is_bad_line protect ops.now line.now }
+/// Whether the request hasn't the block on either leg.
+fn is_past(k: u32, request: Option<(u64, u32)>) -> bool
+    ensures { result ≡ is_past k request }
 {
-    if protect != 1 {
-        return true;
-    }
-    match line.kind {
-        FaultKind::Shift { .. } => true,
-        FaultKind::Flip { .. } => match request_at(ops, line.op) {
-            None => true,
-            Some((_, n)) => u64::from(line.k) >= 2 * u64::from(n),
-        },
+    match request {
+        None => true,
+        Some((_, n)) => u64::from(k) >= 2 * u64::from(n),
     }
 }
 
-/// The first fault line that can't be.
-fn faults_fault(script: &Script) -> Option<ScriptFault>
+/// Whether a line behind these can't be of its kind, where so many bytes are stored of a block.
+fn is_bad_kind(stored: u64, earlier: &[FaultLine], line: &FaultLine) -> bool
+    ensures { result ≡ is_bad_kind stored earlier.now line.now line.now.kind }
+{
+    match line.kind {
+        FaultKind::Flip { .. } => false,
+        FaultKind::Shift { .. } => true,
+        FaultKind::Keep { bytes } => is_bad_keep(stored, earlier, line, bytes),
+    }
+}
+
+/// Whether a fault line behind these can't be.
+fn is_bad_line(
+    protect: u8,
+    stored: u64,
+    ops: &[Op],
+    earlier: &[FaultLine],
+    line: &FaultLine,
+) -> bool
+    ensures { result ≡ is_bad_line protect stored ops.now earlier.now line.now }
+{
+    protect != 1 || is_past(line.k, request_at(ops, line.op)) || is_bad_kind(stored, earlier, line)
+}
+
+/// The first fault line that can't be, where so many bytes are stored of a block.
+fn faults_fault(script: &Script, stored: u64) -> Option<ScriptFault>
     requires lines { length script.now.faults ≤ length script.now.lines }
-    ensures { result ≡ faults_fault script.now.mode.protect script.now.ops script.now.faults script.now.lines }
+    ensures { result ≡ faults_fault script.now.mode.protect stored script.now.ops [] script.now.faults script.now.lines }
 {
     let ops = script.ops.as_slice();
     let lines = script.lines.as_slice();
-    for (i, fault) in script.faults.as_slice().iter().enumerate() {
-        if is_bad_line(script.mode.protect, ops, fault) {
+    let faults = script.faults.as_slice();
+    for (i, fault) in faults.iter().enumerate() {
+        if is_bad_line(script.mode.protect, stored, ops, &faults[..i], fault) {
             return Some(ScriptFault {
                 line: lines[i],
                 kind: ScriptKind::BadFault,
@@ -143,7 +165,7 @@ pub fn bind_mirror(
     if let Some(fault) = length_fault(table.len()) {
         return Err(fault);
     }
-    if let Some(fault) = faults_fault(script) {
+    if let Some(fault) = faults_fault(script, stored_bytes(table.ty(), script.block)) {
         return Err(fault);
     }
     match ops_fault(against, script) {

@@ -1,5 +1,5 @@
 -- each script that is read keeps the rules
-use Rattle.std.proofs.Common.{ℕ, suc, ◌≡◌, ◌+◌, ◌≤◌, ◌&&◌, ◌||◌, Bool, true, false, not, ltb, List, [], ◌∷◌, length, map, Option, Some, None, Result, Ok, Err, refl, sym, subst, ap, arith}
+use Rattle.std.proofs.Common.{ℕ, suc, ◌≡◌, ◌+◌, ◌≤◌, Bool, true, false, not, ltb, List, [], ◌∷◌, length, map, Option, Some, None, Result, Ok, Err, refl, sym, subst, ap, arith}
 use Rattle.std.specs.Prelude.{if◌then◌else◌}
 use Rattle.script_words.specs.Cuts.{is_plain, lines_of, words_of}
 use Rattle.script_lines.specs.declared.kind.ScriptKind.{ScriptKind}
@@ -7,11 +7,12 @@ use Rattle.script_lines.specs.declared.kind.ScriptKind.TheVariants.{LongLine, No
 use Rattle.script_lines.specs.declared.line.ScriptLine.{ScriptLine}
 use Rattle.script_lines.specs.declared.line.OpLine.TheVariants.{Wait}
 use Rattle.script_lines.specs.declared.verb.Verb.{Verb}
-use Rattle.script_lines.specs.declared.verb.Verb.TheVariants.{Dix as DixVerb, Mode as ModeVerb, Limits as LimitsVerb, Pages as PagesVerb, Block as BlockVerb, Expect as ExpectVerb, Inner as InnerVerb, Linear as LinearVerb, Stripe as StripeVerb, Over as OverVerb, Fault as FaultVerb, Shift as ShiftVerb, Schedule as ScheduleVerb, Begin as BeginVerb, Fill as FillVerb, Put as PutVerb, Show as ShowVerb, Seal as SealVerb, Write as WriteVerb, Read as ReadVerb, WritePi as WritePiVerb, ReadPi as ReadPiVerb, Overwrite as OverwriteVerb, Wait as WaitVerb}
+use Rattle.script_lines.specs.declared.verb.Verb.TheVariants.{Dix as DixVerb, Mode as ModeVerb, Limits as LimitsVerb, Pages as PagesVerb, Block as BlockVerb, Expect as ExpectVerb, Inner as InnerVerb, Linear as LinearVerb, Stripe as StripeVerb, Over as OverVerb, Fault as FaultVerb, Shift as ShiftVerb, Lose as LoseVerb, Tear as TearVerb, Schedule as ScheduleVerb, Begin as BeginVerb, Fill as FillVerb, Put as PutVerb, Show as ShowVerb, Seal as SealVerb, Write as WriteVerb, Read as ReadVerb, WritePi as WritePiVerb, ReadPi as ReadPiVerb, Overwrite as OverwriteVerb, Wait as WaitVerb}
+use Rattle.script_lines.specs.declared.verb.ScriptVersion.{ScriptVersion}
 use Rattle.script_lines.specs.declared.verb.Section.{Section}
 use Rattle.script_lines.specs.declared.verb.Section.TheVariants.{Dix as AtDix, Mode as AtMode, Limits as AtLimits, Pages as AtPages, Block as AtBlock, Expect as AtExpect, Inner as AtInner, Volume as AtVolume, Fault as AtFault, Schedule as AtSchedule, Begin as AtBegin, Op as AtOp}
 use Rattle.script_lines.specs.Forms.{line_form, op_form}
-use Rattle.script_lines.specs.Verbs.{comes_before, is_new_verb, section_number, section_of, verb_of}
+use Rattle.script_lines.specs.Verbs.{comes_before, has_lines_of, is_new, section_number, section_of, verb_of, version_of_verb}
 use Rattle.script_text.specs.Passed.{Op}
 use Rattle.script_text.specs.Crossings.{Raw, crossed}
 use Rattle.script_text.specs.Drafts.{Drafted}
@@ -23,7 +24,7 @@ use Rattle.script_laws.specs.Keeping.{Each, IsFault, Keeps}
 use Rattle.script_laws.proofs.FormsGive.{Numbers, fill_gives, overwrite_gives, put_gives, read_gives, readpi_gives, seal_gives, show_gives, write_gives, writepi_gives}
 use Rattle.script_laws.proofs.Held.{Goes, Held, InOrder, IsRaw, goes, length_both, nothing_held, number_of}
 use Rattle.script_laws.proofs.Inverse.{ended_ok, ok_of}
-use Rattle.script_laws.proofs.Kept.{Rules, begin_kept, block_kept, expect_kept, fault_kept, inner_kept, limits_kept, linear_kept, mode_kept, op_kept, over_kept, pages_kept, rules_of, schedule_kept, shift_kept, stripe_kept, ok_draft}
+use Rattle.script_laws.proofs.Kept.{Rules, begin_kept, block_kept, expect_kept, fault_kept, inner_kept, limits_kept, linear_kept, lose_kept, mode_kept, op_kept, over_kept, pages_kept, rules_of, schedule_kept, shift_kept, stripe_kept, tear_kept, ok_draft}
 use Rattle.small_laws.proofs.Tests.{and_second}
 
 -- a line of this verb that is taken
@@ -41,6 +42,8 @@ verb_kept StripeVerb n words d e h g line f r t = stripe_kept n words d e h g li
 verb_kept OverVerb n words d e h g line f r t = over_kept n words d e h g line f t
 verb_kept FaultVerb n words d e h g line f r t = fault_kept n words d e h g line f r t
 verb_kept ShiftVerb n words d e h g line f r t = shift_kept n words d e h g line f r t
+verb_kept LoseVerb n words d e h g line f r t = lose_kept n words d e h g line f r t
+verb_kept TearVerb n words d e h g line f r t = tear_kept n words d e h g line f r t
 verb_kept ScheduleVerb n words d e h g line f r t = schedule_kept n words d e h g line f r t
 verb_kept BeginVerb n words d e h g line f r t = begin_kept n words d e h g line f t
 verb_kept FillVerb n words d e h g line f r t = op_kept n d e h g (op_form FillVerb d.block words) line f (λ op i. fill_gives d.block words op i) r t
@@ -66,22 +69,22 @@ line_kept n verb words d e h g t =
     let c = no_rule (broken_rule d a.0) (taken n a.0 d) b.0 b.1 in
     subst Held (sym (ok_draft (record b.0 { section = Some (section_of verb) }) e b.2)) (verb_kept verb n words d b.0 h g a.0 a.1 (rules_of d a.0 c.0) c.1)
 
-may_come : (is_new : Bool) (verb : Verb) (section : Option Section) → is_behind is_new verb section ≡ true → Goes (number_of section) (section_number (section_of verb))
-may_come is_new verb None h = absurd (cc)
-may_come is_new verb (Some p) h = goes p (section_of verb) is_new (and_second (is_new || not (is_new_verb verb)) (comes_before p (section_of verb) is_new) h)
+may_come : (version : ScriptVersion) (verb : Verb) (section : Option Section) → is_behind version verb section ≡ true → Goes (number_of section) (section_number (section_of verb))
+may_come version verb None h = absurd (cc)
+may_come version verb (Some p) h = goes p (section_of verb) (is_new version) (and_second (has_lines_of version (version_of_verb verb)) (comes_before p (section_of verb) (is_new version)) h)
 
-where_in_place : (b : Bool) (n : ℕ) (verb : Verb) (words : List (List ℕ)) (d e : Drafted) → Held d → is_behind d.is_new verb d.section ≡ b → (if b then line_taken n verb words d else Err OutOfPlace) ≡ Ok e → Held e
-where_in_place true n verb words d e h b t = line_kept n verb words d e h (may_come d.is_new verb d.section b) t
+where_in_place : (b : Bool) (n : ℕ) (verb : Verb) (words : List (List ℕ)) (d e : Drafted) → Held d → is_behind d.version verb d.section ≡ b → (if b then line_taken n verb words d else Err OutOfPlace) ≡ Ok e → Held e
+where_in_place true n verb words d e h b t = line_kept n verb words d e h (may_come d.version verb d.section b) t
 where_in_place false n verb words d e h b t = absurd (cc)
 
 known_kept : (n : ℕ) (verb : Option Verb) (words : List (List ℕ)) (d e : Drafted) → Held d → verb_taken n verb words d ≡ Ok e → Held e
 known_kept n None words d e h t = absurd (cc)
-known_kept n (Some verb) words d e h t = where_in_place (is_behind d.is_new verb d.section) n verb words d e h refl t
+known_kept n (Some verb) words d e h t = where_in_place (is_behind d.version verb d.section) n verb words d e h refl t
 
-header_kept : (v : Option Bool) (d e : Drafted) → Held d → d.section ≡ None → header_taken v d ≡ Ok e → Held e
+header_kept : (v : Option ScriptVersion) (d e : Drafted) → Held d → d.section ≡ None → header_taken v d ≡ Ok e → Held e
 header_kept None d e h p t = absurd (cc)
-header_kept (Some is_new) d e h p t =
-    subst Held (sym (ok_draft (record d { is_new = is_new; section = Some AtDix }) e t))
+header_kept (Some version) d e h p t =
+    subst Held (sym (ok_draft (record d { version = version; section = Some AtDix }) e t))
     (record {
       front = h.front;
       inner_are = h.inner_are;

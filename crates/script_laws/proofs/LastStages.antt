@@ -9,10 +9,11 @@ use Rattle.script_lines.specs.declared.line.ScriptLine.TheVariants.{Schedule as 
 use Rattle.script_lines.specs.declared.line.OpLine.{OpLine}
 use Rattle.script_lines.specs.declared.line.OpLine.TheVariants.{Fill, Put, Show, Seal, Write, Read, WritePi, ReadPi, Flip, Copy, Wait}
 use Rattle.script_lines.specs.declared.verb.Verb.TheVariants.{Schedule as ScheduleVerb, Begin as BeginVerb, Fill as FillVerb, Put as PutVerb, Show as ShowVerb, Seal as SealVerb, Write as WriteVerb, Read as ReadVerb, WritePi as WritePiVerb, ReadPi as ReadPiVerb, Overwrite as OverwriteVerb, Wait as WaitVerb}
+use Rattle.script_lines.specs.declared.verb.ScriptVersion.{ScriptVersion}
 use Rattle.script_lines.specs.declared.verb.Section.{Section}
 use Rattle.script_lines.specs.declared.verb.Section.TheVariants.{Schedule as AtSchedule, Begin as AtBegin, Op as AtOp}
 use Rattle.script_lines.specs.Reading.{◌>>=◌}
-use Rattle.script_lines.specs.Verbs.{comes_before, section_of}
+use Rattle.script_lines.specs.Verbs.{comes_before, is_new, section_of}
 use Rattle.script_text.specs.Drafts.{Drafted}
 use Rattle.script_text.specs.Language.{at_end, end_fault, finished, is_behind, is_comment, lines_read, taken, with_op}
 use Rattle.script_text.specs.Printed.{op_text, ops_text, schedule_line, schedule_text}
@@ -33,7 +34,7 @@ choice_word_by : (b : Bool) (e : ℕ × ℕ) → IsChoice e → IsWord (if b the
 choice_word_by true e h = let f = h.0 in decimal_word e.0 (omega (arith, f))
 choice_word_by false e h = let f = h.0 in let g = h.1 in pair_word e.0 e.1 47 (omega (arith, f)) (omega (arith, g)) refl
 
-choice_step : (n : ℕ) (e : ℕ × ℕ) (rest : List ℕ) (d : Drafted) (section : Section) → IsChoice e → d.section ≡ Some section → is_behind d.is_new ScheduleVerb d.section ≡ true → length d.schedule < 16384
+choice_step : (n : ℕ) (e : ℕ × ℕ) (rest : List ℕ) (d : Drafted) (section : Section) → IsChoice e → d.section ≡ Some section → is_behind d.version ScheduleVerb d.section ≡ true → length d.schedule < 16384
     → Step n (schedule_line e ++ rest) d (n + 1) rest (record d { schedule = d.schedule ++ (e ∷ []); section = Some AtSchedule })
 unfolding taken
 choice_step n e rest d section h p b few =
@@ -53,11 +54,11 @@ more_choices (e ∷ es) n rest d h p few =
     to_number n ((schedule_line e ++ schedule_text es) ++ rest) d ((n + 1) + length es) (n + suc (length es)) rest _ (next_number n (length es))
     (from_text n ((schedule_line e ++ schedule_text es) ++ rest) (schedule_line e ++ (schedule_text es ++ rest)) d ((n + 1) + length es) rest _ (append_assoc (schedule_line e) (schedule_text es) rest)
     (joined n (schedule_line e ++ (schedule_text es ++ rest)) d (n + 1) (schedule_text es ++ rest) next ((n + 1) + length es) rest _
-    (choice_step n e (schedule_text es ++ rest) d AtSchedule h.0 p (ap (is_behind d.is_new ScheduleVerb) p ∙ behind d.is_new ScheduleVerb AtSchedule refl refl) (omega (arith, few)))
+    (choice_step n e (schedule_text es ++ rest) d AtSchedule h.0 p (ap (is_behind d.version ScheduleVerb) p ∙ behind d.version ScheduleVerb AtSchedule refl refl) (omega (arith, few)))
     (to_draft (n + 1) (schedule_text es ++ rest) next ((n + 1) + length es) rest _ _ (ap (λ x. record d { schedule = x; section = Some AtSchedule }) (append_assoc d.schedule (e ∷ []) es))
     (more_choices es (n + 1) rest next h.1 refl (omega (arith, few, one))))))
 
-pub schedule_stage : (es : List (ℕ × ℕ)) (n : ℕ) (rest : List ℕ) (d : Drafted) (section : Section) → Each IsChoice es → d.section ≡ Some section → is_behind d.is_new ScheduleVerb d.section ≡ true → d.schedule ≡ [] → length es ≤ 16384
+pub schedule_stage : (es : List (ℕ × ℕ)) (n : ℕ) (rest : List ℕ) (d : Drafted) (section : Section) → Each IsChoice es → d.section ≡ Some section → is_behind d.version ScheduleVerb d.section ≡ true → d.schedule ≡ [] → length es ≤ 16384
     → Step n (schedule_text es ++ rest) d (n + length es) rest (record d { schedule = es; section = placed (Some section) es AtSchedule })
 schedule_stage [] n rest d section h p b z few =
     to_number n rest d n (n + 0) rest _ (omega arith) (to_draft n rest d n rest d _ (ap (λ q. record d { section = q }) p ∙ ap (λ x. record d { schedule = x; section = Some section }) z) (stay n rest d))
@@ -72,7 +73,7 @@ schedule_stage (e ∷ es) n rest d section h p b z few =
     (to_draft (n + 1) (schedule_text es ++ rest) next ((n + 1) + length es) rest _ _ (ap (λ x. record d { schedule = (x ++ (e ∷ [])) ++ es; section = Some AtSchedule }) z)
     (more_choices es (n + 1) rest next h.1 refl (omega (arith, few, one, none))))))
 
-pub begin_stage : (n : ℕ) (rest : List ℕ) (d : Drafted) (section : Section) → d.section ≡ Some section → is_behind d.is_new BeginVerb d.section ≡ true → Step n (codes "begin\n" ++ rest) d (n + 1) rest (record d { section = Some AtBegin })
+pub begin_stage : (n : ℕ) (rest : List ℕ) (d : Drafted) (section : Section) → d.section ≡ Some section → is_behind d.version BeginVerb d.section ≡ true → Step n (codes "begin\n" ++ rest) d (n + 1) rest (record d { section = Some AtBegin })
 unfolding taken
 begin_stage n rest d section p b =
     line_step n (codes "begin" ∷ []) rest d _ (record { clean_is = refl; filled_is = refl }, tt) (verb_step n (codes "begin") [] d BeginVerb section BeginLine d refl refl p b refl refl refl)
@@ -105,7 +106,7 @@ op_place (Flip dev lba off bytes) = refl
 op_place (Copy dev lba from_dev from_lba) = refl
 op_place Wait = refl
 
-pub op_behind : (b : Bool) (line : OpLine) (section : Section) → comes_before section AtOp b ≡ true → is_behind b (verb_for line) (Some section) ≡ true
+pub op_behind : (b : ScriptVersion) (line : OpLine) (section : Section) → comes_before section AtOp (is_new b) ≡ true → is_behind b (verb_for line) (Some section) ≡ true
 op_behind b (Fill seg byte) section c = behind b FillVerb section refl c
 op_behind b (Put page off bytes) section c = behind b PutVerb section refl c
 op_behind b (Show seg) section c = behind b ShowVerb section refl c
@@ -118,7 +119,7 @@ op_behind b (Flip dev lba off bytes) section c = behind b OverwriteVerb section 
 op_behind b (Copy dev lba from_dev from_lba) section c = behind b OverwriteVerb section refl c
 op_behind b Wait section c = behind b WaitVerb section refl c
 
-op_step : (n : ℕ) (op : Op) (rest : List ℕ) (d : Drafted) (section : Section) → d.pages ≤ 256 → 1 ≤ d.block → d.block ≤ 4096 → IsOp d.mode.dix d.pages d.block op → d.section ≡ Some section → comes_before section AtOp d.is_new ≡ true
+op_step : (n : ℕ) (op : Op) (rest : List ℕ) (d : Drafted) (section : Section) → d.pages ≤ 256 → 1 ≤ d.block → d.block ≤ 4096 → IsOp d.mode.dix d.pages d.block op → d.section ≡ Some section → comes_before section AtOp (is_new d.version) ≡ true
     → length d.ops < 1024 → d.blocks + request_blocks (line_of op) ≤ 16384
     → Step n (op_text op ++ rest) d (n + 1) rest (record d { ops = d.ops ++ (op ∷ []); blocks = d.blocks + request_blocks (line_of op); op_lines = d.op_lines ++ (n ∷ []); section = Some AtOp })
 unfolding taken
@@ -128,7 +129,7 @@ op_step n op rest d section g l s h p c few most =
     from_text n (op_text op ++ rest) _ d (n + 1) rest _ (op_line op rest)
     (line_step n (op_word (line_of op) ∷ op_words_behind (line_of op)) rest d _ (op_are_words d.block (line_of op) s r)
     (verb_step n (op_word (line_of op)) (op_words_behind (line_of op)) d (verb_for (line_of op)) section (AnOp (line_of op)) next (no_comment (line_of op)) (verb_is (line_of op)) p
-    (ap (is_behind d.is_new (verb_for (line_of op))) p ∙ op_behind d.is_new (line_of op) section c) (op_back d.block (line_of op) s r)
+    (ap (is_behind d.version (verb_for (line_of op))) p ∙ op_behind d.version (line_of op) section c) (op_back d.block (line_of op) s r)
     (ap (λ b. if b then Some NoIntegrity else (if leb 1024 (length d.ops) || ltb 16384 (d.blocks + request_blocks (line_of op)) then Some TooMany else None)) h.integrity
     ∙ ap (λ b. if b || ltb 16384 (d.blocks + request_blocks (line_of op)) then Some TooMany else None) (lt-leb 1024 (length d.ops) few)
     ∙ ap (λ b. if b then Some TooMany else None) (le-ltb 16384 (d.blocks + request_blocks (line_of op)) most))

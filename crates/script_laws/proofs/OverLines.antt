@@ -17,9 +17,10 @@ use Rattle.script_text.specs.Passed.{EntriesFollow, tree_place}
 use Rattle.script_lines.specs.declared.kind.ScriptKind.{ScriptKind}
 use Rattle.script_lines.specs.declared.kind.ScriptKind.TheVariants.{LongLine, NotAscii, OutOfPlace, TooMany}
 use Rattle.script_lines.specs.declared.line.ScriptLine.{ScriptLine}
-use Rattle.script_lines.specs.declared.line.ScriptLine.TheVariants.{Mode, Limits, Pages, Block, Expect, Inner, Linear, Stripe, Over, Flip, Shift, Schedule, Begin, Op}
+use Rattle.script_lines.specs.declared.line.ScriptLine.TheVariants.{Mode, Limits, Pages, Block, Expect, Inner, Linear, Stripe, Over, Flip, Shift, Keep, Schedule, Begin, Op}
 use Rattle.script_lines.specs.declared.verb.Verb.{Verb}
 use Rattle.script_lines.specs.declared.verb.Verb.TheVariants.{Over as OverVerb}
+use Rattle.script_lines.specs.declared.verb.ScriptVersion.{ScriptVersion}
 use Rattle.script_lines.specs.declared.verb.Section.{Section}
 use Rattle.script_lines.specs.Forms.{line_form}
 use Rattle.script_lines.specs.Reading.{◌>>=◌}
@@ -76,6 +77,7 @@ taken_grows n (Over start len chunk volumes) d e h =
     record { more = a.0; is = within (ltb 16 (length d.entries + length a.0)) d e a.0 a.2 }
 taken_grows n (Flip op k spot off bytes) d e h = given d e _ refl h
 taken_grows n (Shift op spot by) d e h = given d e _ refl h
+taken_grows n (Keep op k bytes) d e h = given d e _ refl h
 taken_grows n (Schedule entries) d e h = given d e _ refl h
 taken_grows n Begin d e h = given d e _ refl h
 taken_grows n (Op line) d e h = let a = ok_of (op_in d.pages d.block line) (with_op n line d) e h in given d e _ refl a.2
@@ -94,11 +96,11 @@ where_grows false n verb words d e t = absurd (cc)
 
 known_grows : (n : ℕ) (verb : Option Verb) (words : List (List ℕ)) (d e : Drafted) → verb_taken n verb words d ≡ Ok e → Grows d e
 known_grows n None words d e t = absurd (cc)
-known_grows n (Some verb) words d e t = where_grows (is_behind d.is_new verb d.section) n verb words d e t
+known_grows n (Some verb) words d e t = where_grows (is_behind d.version verb d.section) n verb words d e t
 
-header_grows : (v : Option Bool) (d e : Drafted) → header_taken v d ≡ Ok e → Grows d e
+header_grows : (v : Option ScriptVersion) (d e : Drafted) → header_taken v d ≡ Ok e → Grows d e
 header_grows None d e t = absurd (cc)
-header_grows (Some is_new) d e t = given d e _ refl t
+header_grows (Some version) d e t = given d e _ refl t
 
 behind_grows : (section : Option Section) (n : ℕ) (words : List (List ℕ)) (d e : Drafted) → words_behind section n words d ≡ Ok e → Grows d e
 behind_grows None n words d e t = header_grows (version_of words) d e t
@@ -192,13 +194,13 @@ no_version [] = refl
 no_version (v ∷ []) = refl
 no_version (v ∷ w ∷ ws) = refl
 
-no_header : (v : Option Bool) (d e : Drafted) → v ≡ None → header_taken v d ≡ Ok e → ⊥
+no_header : (v : Option ScriptVersion) (d e : Drafted) → v ≡ None → header_taken v d ≡ Ok e → ⊥
 no_header None d e h t = absurd (cc)
 no_header (Some b) d e h t = absurd (cc)
 
 behind_adds : (section : Option Section) (n : ℕ) (words : List (List ℕ)) (d e : Drafted) → words_behind section n (codes "over" ∷ words) d ≡ Ok e → Adds words d e
 behind_adds None n words d e t = absurd (no_header (version_of (codes "over" ∷ words)) d e (no_version words) t)
-behind_adds (Some section) n words d e t = where_adds (is_behind d.is_new OverVerb d.section) n words d e t
+behind_adds (Some section) n words d e t = where_adds (is_behind d.version OverVerb d.section) n words d e t
 
 words_add : (n : ℕ) (words : List (List ℕ)) (d e : Drafted) → words_taken n (codes "over" ∷ words) d ≡ Ok e → Adds words d e
 words_add n words d e t = behind_adds d.section n words d e t

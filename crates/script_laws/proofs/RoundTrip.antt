@@ -1,5 +1,5 @@
 -- what is printed is read back
-use Rattle.std.proofs.Common.{ℕ, ◌≡◌, ◌⊎◌, inl, inr, ◌+◌, ◌≤◌, Bool, true, false, ltb, List, [], ◌∷◌, ◌++◌, length, map, Some, Result, Ok, Err, refl, sym, subst, ap, ◌∙◌, arith, append-nil}
+use Rattle.std.proofs.Common.{ℕ, ◌≡◌, ◌⊎◌, inl, inr, ◌+◌, ◌≤◌, true, false, ltb, List, [], ◌∷◌, ◌++◌, length, map, Some, Result, Ok, Err, refl, sym, subst, ap, ◌∙◌, arith, append-nil}
 use Rattle.std.specs.Prelude.{MatchResult, codes, if◌then◌else◌}
 use Rattle.std.proofs.lemmas.Bool.Decides.{nat_tests}
 use Rattle.fault_schedule.specs.declared.fault.FaultLine.{FaultLine}
@@ -7,6 +7,7 @@ use Rattle.script_text.specs.Passed.{Op}
 use Rattle.script_words.specs.Cuts.{lines_of}
 use Rattle.script_lines.specs.declared.kind.ScriptKind.TheVariants.{Memory, TooMany}
 use Rattle.script_lines.specs.declared.verb.Verb.TheVariants.{Schedule as ScheduleVerb, Begin as BeginVerb}
+use Rattle.script_lines.specs.declared.verb.ScriptVersion.{ScriptVersion}
 use Rattle.script_lines.specs.declared.verb.Section.{Section}
 use Rattle.script_lines.specs.declared.verb.Section.TheVariants.{Volume as AtVolume, Fault as AtFault, Schedule as AtSchedule, Begin as AtBegin, Op as AtOp}
 use Rattle.script_text.specs.Crossings.{crossed, raw_of}
@@ -32,11 +33,11 @@ either_place : {A : Type 0} (p q : Section) (xs : List A) → (r : Section) × (
 either_place p q [] = (p, refl)
 either_place p q (x ∷ xs) = (q, refl)
 
-schedule_behind : {A : Type 0} (b : Bool) (xs : List A) → is_behind b ScheduleVerb (placed (Some AtVolume) xs AtFault) ≡ true
+schedule_behind : {A : Type 0} (b : ScriptVersion) (xs : List A) → is_behind b ScheduleVerb (placed (Some AtVolume) xs AtFault) ≡ true
 schedule_behind b [] = behind b ScheduleVerb AtVolume refl refl
 schedule_behind b (x ∷ xs) = behind b ScheduleVerb AtFault refl refl
 
-begin_behind : {A B : Type 0} (b : Bool) (xs : List A) (ys : List B) (r : Section) → placed (Some AtVolume) xs AtFault ≡ Some r → is_behind b BeginVerb (placed (Some r) ys AtSchedule) ≡ true
+begin_behind : {A B : Type 0} (b : ScriptVersion) (xs : List A) (ys : List B) (r : Section) → placed (Some AtVolume) xs AtFault ≡ Some r → is_behind b BeginVerb (placed (Some r) ys AtSchedule) ≡ true
 begin_behind b [] [] r e = ap (is_behind b BeginVerb) (sym e) ∙ behind b BeginVerb AtVolume refl refl
 begin_behind b (x ∷ xs) [] r e = ap (is_behind b BeginVerb) (sym e) ∙ behind b BeginVerb AtFault refl refl
 begin_behind b xs (y ∷ ys) r e = behind b BeginVerb AtSchedule refl refl
@@ -77,7 +78,7 @@ whole_read s h =
     let text_faults : List ℕ = faults_text s.faults ++ text_schedule in
     let text_entries : List ℕ = entries_text s.entries ++ text_faults in
     let front : Fronted s text_entries = front_stage s text_entries h.mode_is h.limits_are h.pages_are h.block_is in
-    let d0 : Drafted = fronted s front.expect front.is_new front.section in
+    let d0 : Drafted = fronted s front.expect front.version front.section in
     let n1 : ℕ = front.number + length s.entries in
     let d1 : Drafted = record d0 { entries = s.entries; section = Some AtVolume } in
     let n2 : ℕ = n1 + length s.faults in
@@ -101,9 +102,9 @@ whole_read s h =
           from_text 1 (script_printed s) (front_text s ++ text_entries) nothing_read n5 [] d5 ops_end
           (joined 1 (front_text s ++ text_entries) nothing_read front.number text_entries d0 n5 [] d5 front.step
           (joined front.number text_entries d0 n1 text_faults d1 n5 [] d5 (entries_stage s.entries front.number text_faults d0 front.section h.entries_are h.entries_count refl refl front.volume)
-          (joined n1 text_faults d1 n2 text_schedule d2 n5 [] d5 (faults_stage s.faults n1 s.ops text_schedule d1 size.1 h.faults_are refl refl refl h.faults_count)
-          (joined n2 text_schedule d2 n3 text_begin d3 n5 [] d5 (schedule_stage s.schedule n2 text_begin d2 p2.0 h.choices_are p2.1 (schedule_behind front.is_new s.faults) refl h.choices_count)
-          (joined n3 text_begin d3 (n3 + 1) text_ops d4 n5 [] d5 (begin_stage n3 text_ops d3 p3.0 p3.1 (begin_behind front.is_new s.faults s.schedule p2.0 p2.1))
+          (joined n1 text_faults d1 n2 text_schedule d2 n5 [] d5 (faults_stage s.faults n1 s.ops text_schedule d1 size.1 h.faults_are refl refl refl h.faults_count front.version_is)
+          (joined n2 text_schedule d2 n3 text_begin d3 n5 [] d5 (schedule_stage s.schedule n2 text_begin d2 p2.0 h.choices_are p2.1 (schedule_behind front.version s.faults) refl h.choices_count)
+          (joined n3 text_begin d3 (n3 + 1) text_ops d4 n5 [] d5 (begin_stage n3 text_ops d3 p3.0 p3.1 (begin_behind front.version s.faults s.schedule p2.0 p2.1))
           (ops_stage s.ops (n3 + 1) [] d4 pages size.0 size.1 h.ops_are refl refl refl refl h.ops_count h.blocks_count))))));
       place_is = refl;
       is = refl;

@@ -1,5 +1,5 @@
 -- A text that is read line by line: a step from one line to the next, and steps in a row.
-use Rattle.std.proofs.Common.{ℕ, ◌≡◌, ◌+◌, ◌&&◌, ◌||◌, Bool, true, false, not, ltb, List, ◌∷◌, ◌++◌, length, Some, None, Ok, Err, refl, sym, subst, ap, ◌∙◌, arith}
+use Rattle.std.proofs.Common.{ℕ, ◌≡◌, ◌+◌, true, false, not, ltb, List, ◌∷◌, ◌++◌, length, Some, None, Ok, Err, refl, sym, subst, ap, ◌∙◌, arith}
 use Rattle.std.specs.Prelude.{if◌then◌else◌}
 use Rattle.std.specs.List.{list_all}
 use Rattle.std.proofs.lemmas.Bool.Decides.{nat_tests}
@@ -8,10 +8,12 @@ use Rattle.script_words.specs.Cuts.{lines_of, words_of}
 use Rattle.script_lines.specs.declared.kind.ScriptKind.TheVariants.{NotAscii, LongLine, OutOfPlace}
 use Rattle.script_lines.specs.declared.line.ScriptLine.{ScriptLine}
 use Rattle.script_lines.specs.declared.verb.Verb.{Verb}
+use Rattle.script_lines.specs.declared.verb.ScriptVersion.{ScriptVersion}
+use Rattle.script_lines.specs.declared.verb.ScriptVersion.TheVariants.{One, Two, Three}
 use Rattle.script_lines.specs.declared.verb.Section.{Section}
 use Rattle.script_lines.specs.Forms.{line_form}
 use Rattle.script_lines.specs.Reading.{◌>>=◌}
-use Rattle.script_lines.specs.Verbs.{comes_before, is_new_verb, section_of, verb_of}
+use Rattle.script_lines.specs.Verbs.{comes_before, has_lines_of, is_new, section_of, verb_of, version_of_verb}
 use Rattle.script_text.specs.Drafts.{Drafted}
 use Rattle.script_text.specs.Language.{in_section, go_on, is_behind, is_comment, line_taken, lines_read, taken, text_taken, unless_broken, verb_taken, words_behind, words_taken}
 use Rattle.script_text.specs.Rules.{broken_rule}
@@ -65,7 +67,7 @@ line_is_taken n verb words d line next f r t =
 
 -- A line of this verb in its place, whose words are read as this line, which breaks no rule.
 pub verb_step : (n : ℕ) (first : List ℕ) (words : List (List ℕ)) (d : Drafted) (verb : Verb) (section : Section) (line : ScriptLine) (next : Drafted)
-    → is_comment first ≡ false → verb_of first ≡ Some verb → d.section ≡ Some section → is_behind d.is_new verb d.section ≡ true
+    → is_comment first ≡ false → verb_of first ≡ Some verb → d.section ≡ Some section → is_behind d.version verb d.section ≡ true
     → line_form verb d.block words ≡ Ok line → broken_rule d line ≡ None → taken n line d ≡ Ok next
     → words_taken n (first ∷ words) d ≡ Ok (record next { section = Some (section_of verb) })
 verb_step n first words d verb section line next c v p b f r t =
@@ -75,10 +77,11 @@ verb_step n first words d verb section line next c v p b f r t =
     ∙ ap (λ x. if x then line_taken n verb words d else Err OutOfPlace) b
     ∙ line_is_taken n verb words d line next f r t
 
-or_true : (b : Bool) → b || true ≡ true
-or_true true = refl
-or_true false = refl
+all_have_one : (version : ScriptVersion) → has_lines_of version One ≡ true
+all_have_one One = refl
+all_have_one Two = refl
+all_have_one Three = refl
 
--- a line that isn't of version 2 alone stands behind a place that any version has before it
-pub behind : (is_new : Bool) (verb : Verb) (section : Section) → is_new_verb verb ≡ false → comes_before section (section_of verb) is_new ≡ true → is_behind is_new verb (Some section) ≡ true
-behind is_new verb section v c = and_from (is_new || not (is_new_verb verb)) (comes_before section (section_of verb) is_new) (ap (λ b. is_new || not b) v ∙ or_true is_new) c
+-- a line of version 1 stands behind a place that any version has before it
+pub behind : (version : ScriptVersion) (verb : Verb) (section : Section) → version_of_verb verb ≡ One → comes_before section (section_of verb) (is_new version) ≡ true → is_behind version verb (Some section) ≡ true
+behind version verb section v c = and_from (has_lines_of version (version_of_verb verb)) (comes_before section (section_of verb) (is_new version)) (ap (has_lines_of version) v ∙ all_have_one version) c

@@ -81,6 +81,12 @@ fault_words op k spot off bytes = decimal op ∷ decimal k ∷ spot_word spot �
 abbrev pub shift_words : (op : ℕ) → Spot → ℤ → List (List ℕ)
 shift_words op spot by = decimal op ∷ spot_word spot ∷ signed_decimal by ∷ []
 
+abbrev pub lose_words : (op k : ℕ) → List (List ℕ)
+lose_words op k = decimal op ∷ decimal k ∷ []
+
+abbrev pub tear_words : (op k bytes : ℕ) → List (List ℕ)
+tear_words op k bytes = decimal op ∷ decimal k ∷ decimal bytes ∷ []
+
 abbrev pub choice_text : ℕ × ℕ → List ℕ
 choice_text e = if eqb e.1 0 then decimal e.0 else decimal e.0 ++ (47 ∷ decimal e.1)
 

@@ -1,7 +1,9 @@
 use Rattle.std.specs.Prelude.{ℕ, Bool, true, false, ◌||◌, eqb, if◌then◌else◌, List, codes, Option, Some, None}
 use Rattle.std.specs.Str.{bytes_eq}
 use Rattle.script_lines.specs.declared.verb.Verb.{Verb}
-use Rattle.script_lines.specs.declared.verb.Verb.TheVariants.{Dix, Mode, Limits, Pages, Block, Expect, Inner, Linear, Stripe, Over, Fault, Shift, Schedule, Begin, Fill, Put, Show, Seal, Write, Read, WritePi, ReadPi, Overwrite, Wait}
+use Rattle.script_lines.specs.declared.verb.Verb.TheVariants.{Dix, Mode, Limits, Pages, Block, Expect, Inner, Linear, Stripe, Over, Fault, Shift, Lose, Tear, Schedule, Begin, Fill, Put, Show, Seal, Write, Read, WritePi, ReadPi, Overwrite, Wait}
+use Rattle.script_lines.specs.declared.verb.ScriptVersion.{ScriptVersion}
+use Rattle.script_lines.specs.declared.verb.ScriptVersion.TheVariants.{One, Two, Three}
 use Rattle.script_lines.specs.declared.verb.Section.{Section}
 use Rattle.script_lines.specs.declared.verb.Section.TheVariants.{Dix as AtDix, Mode as AtMode, Limits as AtLimits, Pages as AtPages, Block as AtBlock, Expect as AtExpect, Inner as AtInner, Volume as AtVolume, Fault as AtFault, Schedule as AtSchedule, Begin as AtBegin, Op as AtOp}
 
@@ -36,7 +38,9 @@ volume_verb_of word =
     else (if bytes_eq word (codes "over") then Some Over
     else (if bytes_eq word (codes "fault") then Some Fault
     else (if bytes_eq word (codes "shift") then Some Shift
-    else page_verb_of word)))))
+    else (if bytes_eq word (codes "lose") then Some Lose
+    else (if bytes_eq word (codes "tear") then Some Tear
+    else page_verb_of word)))))))
 
 -- what a line with this first word is
 abbrev pub verb_of : List ℕ → Option Verb
@@ -63,6 +67,8 @@ section_of Stripe = AtVolume
 section_of Over = AtVolume
 section_of Fault = AtFault
 section_of Shift = AtFault
+section_of Lose = AtFault
+section_of Tear = AtFault
 section_of Schedule = AtSchedule
 section_of Begin = AtBegin
 section_of Fill = AtOp
@@ -76,13 +82,31 @@ section_of ReadPi = AtOp
 section_of Overwrite = AtOp
 section_of Wait = AtOp
 
--- a line of version 2 alone
-abbrev pub is_new_verb : Verb → Bool
-is_new_verb Block = true
-is_new_verb Expect = true
-is_new_verb Inner = true
-is_new_verb Over = true
-is_new_verb _ = false
+-- the first version that has such lines
+abbrev pub version_of_verb : Verb → ScriptVersion
+version_of_verb Block = Two
+version_of_verb Expect = Two
+version_of_verb Inner = Two
+version_of_verb Over = Two
+version_of_verb Lose = Three
+version_of_verb Tear = Three
+version_of_verb _ = One
+
+-- A script of the first version may have the lines that the second brought: each has those of the versions before it.
+abbrev pub has_lines_of : (own brought : ScriptVersion) → Bool
+has_lines_of One One = true
+has_lines_of One Two = false
+has_lines_of One Three = false
+has_lines_of Two One = true
+has_lines_of Two Two = true
+has_lines_of Two Three = false
+has_lines_of Three brought = true
+
+-- later than version 1
+abbrev pub is_new : ScriptVersion → Bool
+is_new One = false
+is_new Two = true
+is_new Three = true
 
 abbrev pub section_number : Section → ℕ
 section_number AtDix = 0
@@ -101,7 +125,7 @@ section_number AtOp = 11
 abbrev pub is_section : Section → Section → Bool
 is_section a b = eqb (section_number a) (section_number b)
 
--- Whether a line of the second section may stand right behind one of the first, in a script of version 2 or of version 1.
+-- Whether a line of the second section may stand right behind one of the first, in a script of a version later than 1 or of version 1.
 abbrev pub comes_before : Section → Section → Bool → Bool
 comes_before AtDix next is_new = is_section next AtMode
 comes_before AtMode next is_new = is_section next AtLimits

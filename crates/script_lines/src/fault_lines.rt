@@ -1,7 +1,7 @@
-//! The lines `fault`, `shift` and `schedule`.
+//! The lines `fault`, `shift`, `lose`, `tear` and `schedule`.
 
 ghost use Rattle.std.specs.Prelude.{◌≡◌, ◌≤◌, IfOk};
-ghost use Rattle.script_lines.specs.Forms.{IsSound, any_spot_in, fault_form, flip_form, flip_spot, schedule_form, shift_form, shift_spot, wire_or_medium_in};
+ghost use Rattle.script_lines.specs.Forms.{IsSound, any_spot_in, fault_form, flip_form, flip_spot, lose_form, schedule_form, shift_form, shift_spot, tear_form, wire_or_medium_in};
 ghost use Rattle.script_lines.specs.Reading.{IsUnless, Reads, value};
 ghost use Rattle.script_words.specs.Numbers.{signed_within};
 ghost use Rattle.pi_tuple.specs.declared.TheConstants.{LARGEST_BLOCK};
@@ -107,6 +107,32 @@ pub(crate) fn shift_line(words: &mut Words) -> Result<ScriptLine, ScriptKind>
     let by = distance(words)?;
     words.end()?;
     Ok(ScriptLine::Shift { op, spot, by })
+}
+
+/// `lose OP K`
+#[tactic(auto, unfolding(crate::specs::Forms::lose_form))]
+pub(crate) fn lose_line(words: &mut Words) -> Result<ScriptLine, ScriptKind>
+    ensures value { result ≡ lose_form words.old }
+    ensures sound { IfOk result IsSound }
+{
+    let op = words.small(1, 1024)?;
+    let k = words.small(0, 2047)?;
+    words.end()?;
+    Ok(ScriptLine::Keep { op, k, bytes: 0 })
+}
+
+/// `tear OP K LEN`
+#[tactic(auto, unfolding(crate::specs::Forms::tear_form))]
+pub(crate) fn tear_line(words: &mut Words, size: u32) -> Result<ScriptLine, ScriptKind>
+    requires { size ≤ LARGEST_BLOCK }
+    ensures value { result ≡ tear_form size words.old }
+    ensures sound { IfOk result IsSound }
+{
+    let op = words.small(1, 1024)?;
+    let k = words.small(0, 2047)?;
+    let bytes = words.small(1, size + 7)?;
+    words.end()?;
+    Ok(ScriptLine::Keep { op, k, bytes })
 }
 
 impl Listed for (u32, u32) {

@@ -17,7 +17,7 @@ pub use forms::line_of;
 pub use kind::ScriptKind;
 pub use line::{ModeLine, OpLine, ScriptLine, Spot};
 pub use lists::{SegList, VolumeList, WordList};
-pub use verb::{Section, Verb, verb_of};
+pub use verb::{ScriptVersion, Section, Verb, verb_of};
 pub use words::Words;
 
 /// The most blocks of a chunk of a striped entry.

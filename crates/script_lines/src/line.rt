@@ -157,6 +157,12 @@ pub enum ScriptLine {
         spot: Spot,
         by: i64,
     },
+    /// `lose OP K`, which keeps no byte, or `tear OP K LEN`
+    Keep {
+        op: u32,
+        k: u32,
+        bytes: u32,
+    },
     /// `schedule E ..`
     Schedule(WordList),
     /// `begin`

@@ -1,7 +1,18 @@
 //! The first words of lines.
 
 ghost use Rattle.std.specs.Prelude.{◌≡◌};
-ghost use Rattle.script_lines.specs.Verbs.{comes_before, is_new_verb, page_verb_of, section_of, request_verb_of, verb_of, volume_verb_of};
+ghost use Rattle.script_lines.specs.Verbs.{comes_before, has_lines_of, is_new, page_verb_of, section_of, request_verb_of, verb_of, version_of_verb, volume_verb_of};
+
+/// The version of the language that a script is written in. Each has the lines of those before it.
+#[derive(Clone, Copy, Debug, PartialEq, Eq)]
+pub enum ScriptVersion {
+    /// `dix 1`
+    One,
+    /// `dix 2`
+    Two,
+    /// `dix 3`
+    Three,
+}
 
 /// What a line begins with.
 #[derive(Clone, Copy, Debug, PartialEq, Eq)]
@@ -18,6 +29,8 @@ pub enum Verb {
     Over,
     Fault,
     Shift,
+    Lose,
+    Tear,
     Schedule,
     Begin,
     Fill,
@@ -78,6 +91,12 @@ fn volume_verb_of(word: &[u8]) -> Option<Verb>
     }
     if word == b"shift".as_slice() {
         return Some(Verb::Shift);
+    }
+    if word == b"lose".as_slice() {
+        return Some(Verb::Lose);
+    }
+    if word == b"tear".as_slice() {
+        return Some(Verb::Tear);
     }
     page_verb_of(word)
 }
@@ -163,27 +182,48 @@ impl Verb {
             Verb::Expect => Section::Expect,
             Verb::Inner => Section::Inner,
             Verb::Linear | Verb::Stripe | Verb::Over => Section::Volume,
-            Verb::Fault | Verb::Shift => Section::Fault,
+            Verb::Fault | Verb::Shift | Verb::Lose | Verb::Tear => Section::Fault,
             Verb::Schedule => Section::Schedule,
             Verb::Begin => Section::Begin,
             _ => Section::Op,
         }
     }
 
-    /// Whether the line is one of version 2 alone.
-    pub fn is_new(self) -> bool
-        ensures { result ≡ is_new_verb self }
+    /// The first version that has such lines.
+    pub fn version(self) -> ScriptVersion
+        ensures { result ≡ version_of_verb self }
     {
         match self {
-            Verb::Block | Verb::Expect | Verb::Inner | Verb::Over => true,
-            _ => false,
+            Verb::Lose | Verb::Tear => ScriptVersion::Three,
+            Verb::Block | Verb::Expect | Verb::Inner | Verb::Over => ScriptVersion::Two,
+            _ => ScriptVersion::One,
         }
+    }
+}
+
+impl ScriptVersion {
+    /// Whether a script of this version may have the lines that the other brought.
+    pub fn has_lines_of(self, other: ScriptVersion) -> bool
+        ensures { result ≡ has_lines_of self other }
+    {
+        match self {
+            ScriptVersion::One => other == ScriptVersion::One,
+            ScriptVersion::Two => other != ScriptVersion::Three,
+            ScriptVersion::Three => true,
+        }
+    }
+
+    /// Whether it is later than version 1.
+    pub fn is_new(self) -> bool
+        ensures { result ≡ is_new self }
+    {
+        self != ScriptVersion::One
     }
 }
 
 impl Section {
     /// Whether a line of the next section may stand right behind one of this section, in a script of
-    /// version 2 or of version 1.
+    /// a version later than 1 or of version 1.
     pub fn comes_before(self, next: Section, is_new: bool) -> bool
         ensures { result ≡ comes_before self next is_new }
     {

@@ -48,13 +48,13 @@ led-block : (t : Table) (devices : List DeviceInfo) (size v n : ℕ) (by : ℤ) 
 led-block t devices size v n by made c w j l =
     led devices t.ty size (place_in t.entries (v + j)).0 (place_in t.entries (v + j)).1 by (made.inside (v + j) (omega arith)) (landed t devices size v n by made c w j l)
 
-pub all-led : (s : Script) (t : Table) (devices : List DeviceInfo) → MadeFor t devices s.block → length s.faults ≤ length s.lines → faults_fault t devices s.ops [] s.faults s.lines ≡ None → (i v n : ℕ) → request_at s.ops i ≡ Some (v, n) → v + n ≤ volume_len t.entries → AreLed t devices s i v n
+pub all-led : (s : Script) (t : Table) (devices : List DeviceInfo) → MadeFor t devices s.block → length s.faults ≤ length s.lines → faults_fault t devices s.block s.ops [] s.faults s.lines ≡ None → (i v n : ℕ) → request_at s.ops i ≡ Some (v, n) → v + n ≤ volume_len t.entries → AreLed t devices s i v n
 all-led s t devices made few good i v n r w =
     let a = shift_of s.faults AdapterToTarget i in
     let b = shift_of s.faults MediumToTarget i in
-    let on-wire = led-block t devices s.block v n a made (shift-stays t devices s.ops i v n r AdapterToTarget [] s.faults s.lines few good) w in
-    let on-medium = led-block t devices s.block v n b made (shift-stays t devices s.ops i v n r MediumToTarget [] s.faults s.lines few good) w in
-    let one = one-shift t devices s.ops i v n r [] s.faults s.lines few good in
+    let on-wire = led-block t devices s.block v n a made (shift-stays t devices s.block s.ops i v n r AdapterToTarget [] s.faults s.lines few good) w in
+    let on-medium = led-block t devices s.block v n b made (shift-stays t devices s.block s.ops i v n r MediumToTarget [] s.faults s.lines few good) w in
+    let one = one-shift t devices s.block s.ops i v n r [] s.faults s.lines few good in
     record {
       wire = on-wire;
       medium = λ j l. led-twice devices t.ty s.block (place_in t.entries (v + j)).0 (place_in t.entries (v + j)).1 a b one (on-wire j l) (on-medium j l);

@@ -67,7 +67,7 @@ op-fine s t us b i l =
     let many : length s.ops ≤ length (drop (length s.faults) s.lines) = omega arith in
     no-fault t (map info_of (shapes_of us)) s.block s.ops (drop (length s.faults) s.lines) i many (bound s t (map info_of (shapes_of us)) b.bound).ops l
 
-pub faults-fine : (s : Script) (t : Table) (us : List Stored) → IsBoundOver s t us → faults_fault t (map info_of (shapes_of us)) s.ops [] s.faults s.lines ≡ None
+pub faults-fine : (s : Script) (t : Table) (us : List Stored) → IsBoundOver s t us → faults_fault t (map info_of (shapes_of us)) s.block s.ops [] s.faults s.lines ≡ None
 faults-fine s t us b = (bound s t (map info_of (shapes_of us)) b.bound).faults
 
 pub few-faults : (s : Script) (t : Table) (us : List Stored) → IsBoundOver s t us → length s.faults ≤ length s.lines

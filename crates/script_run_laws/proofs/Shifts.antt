@@ -9,7 +9,7 @@ use Rattle.fault_schedule.specs.Altered.{is_same, moved_by, shift_of}
 use Rattle.fault_schedule.specs.declared.fault.Crossing.{Crossing}
 use Rattle.fault_schedule.specs.declared.fault.Crossing.TheVariants.{AdapterToHost, AdapterToTarget, HostToAdapter, MediumToTarget, TargetToAdapter, TargetToMedium}
 use Rattle.fault_schedule.specs.declared.fault.FaultKind.{FaultKind}
-use Rattle.fault_schedule.specs.declared.fault.FaultKind.TheVariants.{Flip as FlipKind, Shift as ShiftKind}
+use Rattle.fault_schedule.specs.declared.fault.FaultKind.TheVariants.{Flip as FlipKind, Shift as ShiftKind, Keep as KeepKind}
 use Rattle.fault_schedule.specs.declared.fault.FaultLine.{FaultLine}
 use Rattle.stack_walk_laws.specs.Passed.{stored_cell, moved}
 use Rattle.volume_table.specs.declared.device.DeviceInfo.{DeviceInfo}
@@ -140,10 +140,11 @@ record IsGood (t : Table) (devices : List DeviceInfo) (was : Bool) (v n : ℕ) (
   first : was ≡ false
   stays : blocks_stay t devices by v n ≡ true
 
-good-shift : (t : Table) (devices : List DeviceInfo) (was : Bool) (f : FaultLine) (v n : ℕ) (by : ℤ) → is_bad_on t devices was f (Some (v, n)) ≡ false → f.kind ≡ ShiftKind by → IsGood t devices was v n by
-good-shift t devices was f v n by h k =
-    let a = or_parts (not (nat_lt f.k n)) (is_bad_kind t devices was f (v, n) f.kind) h in
-    let b = subst (λ (kind : FaultKind). is_bad_kind t devices was f (v, n) kind ≡ false) k a.1 in
+good-shift : (t : Table) (devices : List DeviceInfo) (size : ℕ) (earlier : List FaultLine) (f : FaultLine) (v n : ℕ) (by : ℤ) → is_bad_on t devices size earlier f (Some (v, n)) ≡ false → f.kind ≡ ShiftKind by → IsGood t devices (list_any (shifts f.op) earlier) v n by
+good-shift t devices size earlier f v n by h k =
+    let was : Bool = list_any (shifts f.op) earlier in
+    let a = or_parts (not (nat_lt f.k n)) (is_bad_kind t devices size earlier f (v, n) f.kind) h in
+    let b = subst (λ (kind : FaultKind). is_bad_kind t devices size earlier f (v, n) kind ≡ false) k a.1 in
     let c = or_parts (not (is_first_type t.ty)) (is_at_medium f.at || (was || not (blocks_stay t devices by v n))) b in
     let d = or_parts (is_at_medium f.at) (was || not (blocks_stay t devices by v n)) c.1 in
     let e = or_parts was (not (blocks_stay t devices by v n)) d.1 in
@@ -159,15 +160,16 @@ record Shifts (mine : Bool) (kind : FaultKind) (found : ℤ) : Type 0 where
 first-shift : (mine : Bool) (kind : FaultKind) (rest : ℤ) → (unwrap_or (if mine then moved_by kind else None) rest ≡ rest) ⊎ Shifts mine kind (unwrap_or (if mine then moved_by kind else None) rest)
 first-shift false kind rest = inl refl
 first-shift true (FlipKind off bytes) rest = inl refl
+first-shift true (KeepKind bytes) rest = inl refl
 first-shift true (ShiftKind by) rest = inr (record { by = by; here = refl; kind_is = refl; same = refl })
 
 -- such a line isn't at fault on its request
-good-line : (t : Table) (devices : List DeviceInfo) (ops : List Op) (i v n : ℕ) (earlier : List FaultLine) (f : FaultLine) (by : ℤ) → is_bad_on t devices (list_any (shifts f.op) earlier) f (request_at ops f.op) ≡ false → f.op ≡ i → request_at ops i ≡ Some (v, n) → f.kind ≡ ShiftKind by →
+good-line : (t : Table) (devices : List DeviceInfo) (size : ℕ) (ops : List Op) (i v n : ℕ) (earlier : List FaultLine) (f : FaultLine) (by : ℤ) → is_bad_on t devices size earlier f (request_at ops f.op) ≡ false → f.op ≡ i → request_at ops i ≡ Some (v, n) → f.kind ≡ ShiftKind by →
     IsGood t devices (list_any (shifts i) earlier) v n by
-good-line t devices ops i v n earlier f by h mine r k =
+good-line t devices size ops i v n earlier f by h mine r k =
     let asked : request_at ops f.op ≡ Some (v, n) = ap (request_at ops) mine ∙ r in
-    let good = subst (λ (o : Option (ℕ × ℕ)). is_bad_on t devices (list_any (shifts f.op) earlier) f o ≡ false) asked h in
-    let g = good-shift t devices (list_any (shifts f.op) earlier) f v n by good k in
+    let good = subst (λ (o : Option (ℕ × ℕ)). is_bad_on t devices size earlier f o ≡ false) asked h in
+    let g = good-shift t devices size earlier f v n by good k in
     record { first = ap (λ (op : ℕ). list_any (shifts op) earlier) (sym mine) ∙ g.first; stays = g.stays }
 
 two-crossings : (at : Crossing) → is_same at AdapterToTarget ≡ true → is_same at MediumToTarget ≡ true → ⊥
@@ -178,34 +180,34 @@ two-crossings MediumToTarget a b = true≢false (sym a)
 two-crossings TargetToAdapter a b = true≢false (sym a)
 two-crossings AdapterToHost a b = true≢false (sym a)
 
-module _ (t : Table) (devices : List DeviceInfo) (ops : List Op) (i v n : ℕ) (r : request_at ops i ≡ Some (v, n)) where
-  pub shift-stays : (at : Crossing) (earlier faults : List FaultLine) (lines : List ℕ) → length faults ≤ length lines → faults_fault t devices ops earlier faults lines ≡ None → Stays t devices v n (shift_of faults at i)
+module _ (t : Table) (devices : List DeviceInfo) (size : ℕ) (ops : List Op) (i v n : ℕ) (r : request_at ops i ≡ Some (v, n)) where
+  pub shift-stays : (at : Crossing) (earlier faults : List FaultLine) (lines : List ℕ) → length faults ≤ length lines → faults_fault t devices size ops earlier faults lines ≡ None → Stays t devices v n (shift_of faults at i)
   shift-stays at earlier [] lines l h = inl refl
   shift-stays at earlier (f ∷ faults) [] l h = absurd (omega arith)
   shift-stays at earlier (f ∷ faults) (line ∷ lines) l h =
-      let p = if-none (is_bad_on t devices (list_any (shifts f.op) earlier) f (request_at ops f.op)) _ _ h in
+      let p = if-none (is_bad_on t devices size earlier f (request_at ops f.op)) _ _ h in
       let rest = shift-stays at (earlier ++ (f ∷ [])) faults lines (omega arith) p.1 in
       elim (first-shift (is_same f.at at && eqb f.op i) f.kind (shift_of faults at i)) [
         | inl e ↦ elim rest [ inl z ↦ inl (e ∙ z) | inr b ↦ inr (ap (λ (by : ℤ). blocks_stay t devices by v n) e ∙ b) ]
         | inr s ↦
             let mine = eqb-true f.op i (and_parts (is_same f.at at) (eqb f.op i) s.here).1 in
-            inr (ap (λ (by : ℤ). blocks_stay t devices by v n) s.same ∙ (good-line t devices ops i v n earlier f s.by p.0 mine r s.kind_is).stays)
+            inr (ap (λ (by : ℤ). blocks_stay t devices by v n) s.same ∙ (good-line t devices size ops i v n earlier f s.by p.0 mine r s.kind_is).stays)
       ]
 
   -- behind a line that shifts the op no other does
-  no-later : (at : Crossing) (earlier faults : List FaultLine) (lines : List ℕ) → length faults ≤ length lines → faults_fault t devices ops earlier faults lines ≡ None → list_any (shifts i) earlier ≡ true → shift_of faults at i ≡ pos 0
+  no-later : (at : Crossing) (earlier faults : List FaultLine) (lines : List ℕ) → length faults ≤ length lines → faults_fault t devices size ops earlier faults lines ≡ None → list_any (shifts i) earlier ≡ true → shift_of faults at i ≡ pos 0
   no-later at earlier [] lines l h was = refl
   no-later at earlier (f ∷ faults) [] l h was = absurd (omega arith)
   no-later at earlier (f ∷ faults) (line ∷ lines) l h was =
-      let p = if-none (is_bad_on t devices (list_any (shifts f.op) earlier) f (request_at ops f.op)) _ _ h in
+      let p = if-none (is_bad_on t devices size earlier f (request_at ops f.op)) _ _ h in
       elim (first-shift (is_same f.at at && eqb f.op i) f.kind (shift_of faults at i)) [
         | inl e ↦ e ∙ no-later at (earlier ++ (f ∷ [])) faults lines (omega arith) p.1 (list_any-append (shifts i) earlier (f ∷ []) ∙ or_left (list_any (shifts i) earlier) (list_any (shifts i) (f ∷ [])) was)
         | inr s ↦
             let mine = eqb-true f.op i (and_parts (is_same f.at at) (eqb f.op i) s.here).1 in
-            absurd (true≢false (sym was ∙ (good-line t devices ops i v n earlier f s.by p.0 mine r s.kind_is).first))
+            absurd (true≢false (sym was ∙ (good-line t devices size ops i v n earlier f s.by p.0 mine r s.kind_is).first))
       ]
 
-  behind-one : (at : Crossing) (earlier faults : List FaultLine) (f : FaultLine) (lines : List ℕ) (by : ℤ) → length faults ≤ length lines → faults_fault t devices ops (earlier ++ (f ∷ [])) faults lines ≡ None → eqb f.op i ≡ true → f.kind ≡ ShiftKind by → shift_of faults at i ≡ pos 0
+  behind-one : (at : Crossing) (earlier faults : List FaultLine) (f : FaultLine) (lines : List ℕ) (by : ℤ) → length faults ≤ length lines → faults_fault t devices size ops (earlier ++ (f ∷ [])) faults lines ≡ None → eqb f.op i ≡ true → f.kind ≡ ShiftKind by → shift_of faults at i ≡ pos 0
   behind-one at earlier faults f lines by l h mine k =
       let o : eqb i f.op ≡ true = eq-eqb i f.op (sym (eqb-true f.op i mine)) in
       let here : shifts i f ≡ true = and_from (eqb i f.op) (is_shift f.kind) o (ap is_shift k) in
@@ -213,11 +215,11 @@ module _ (t : Table) (devices : List DeviceInfo) (ops : List Op) (i v n : ℕ) (
       (list_any-append (shifts i) earlier (f ∷ []) ∙ or_right (list_any (shifts i) earlier) (list_any (shifts i) (f ∷ [])) (or_left (shifts i f) false here))
 
   -- so at one of two crossings none does
-  pub one-shift : (earlier faults : List FaultLine) (lines : List ℕ) → length faults ≤ length lines → faults_fault t devices ops earlier faults lines ≡ None → (shift_of faults AdapterToTarget i ≡ pos 0) ⊎ (shift_of faults MediumToTarget i ≡ pos 0)
+  pub one-shift : (earlier faults : List FaultLine) (lines : List ℕ) → length faults ≤ length lines → faults_fault t devices size ops earlier faults lines ≡ None → (shift_of faults AdapterToTarget i ≡ pos 0) ⊎ (shift_of faults MediumToTarget i ≡ pos 0)
   one-shift earlier [] lines l h = inl refl
   one-shift earlier (f ∷ faults) [] l h = absurd (omega arith)
   one-shift earlier (f ∷ faults) (line ∷ lines) l h =
-      let p = if-none (is_bad_on t devices (list_any (shifts f.op) earlier) f (request_at ops f.op)) _ _ h in
+      let p = if-none (is_bad_on t devices size earlier f (request_at ops f.op)) _ _ h in
       let rest = one-shift (earlier ++ (f ∷ [])) faults lines (omega arith) p.1 in
       let none : (at : Crossing) (by : ℤ) → eqb f.op i ≡ true → f.kind ≡ ShiftKind by → shift_of faults at i ≡ pos 0 = λ at by mine k. behind-one at earlier faults f lines by (omega arith) p.1 mine k in
       elim (first-shift (is_same f.at AdapterToTarget && eqb f.op i) f.kind (shift_of faults AdapterToTarget i)) [
@@ -240,11 +242,11 @@ stored-at m s t i v e f j =
     ap (λ (es : List Entry). m.site.cell (place_in es (v + j)).0 (moved (place_in es (v + j)).1 (shift_of m.site.faults AdapterToTarget i))) e
     ∙ ap (λ (fs : List FaultLine). m.site.cell (place_in t.entries (v + j)).0 (moved (place_in t.entries (v + j)).1 (shift_of fs AdapterToTarget i))) f
 
-pub stored-apart : (m : Setting) (s : Script) (t : Table) (devices : List DeviceInfo) (logs : ℕ) → MadeFor t devices s.block → IsSettingOf m s t devices logs → length s.faults ≤ length s.lines → faults_fault t devices s.ops [] s.faults s.lines ≡ None →
+pub stored-apart : (m : Setting) (s : Script) (t : Table) (devices : List DeviceInfo) (logs : ℕ) → MadeFor t devices s.block → IsSettingOf m s t devices logs → length s.faults ≤ length s.lines → faults_fault t devices s.block s.ops [] s.faults s.lines ≡ None →
     (i v n : ℕ) → request_at s.ops i ≡ Some (v, n) → v + n ≤ volume_len t.entries → AreStoredApart m i v n
 stored-apart m s t devices logs made is few good i v n r w j k lj lk same =
     let by = shift_of s.faults AdapterToTarget i in
-    let c = shift-stays t devices s.ops i v n r AdapterToTarget [] s.faults s.lines few good in
+    let c = shift-stays t devices s.block s.ops i v n r AdapterToTarget [] s.faults s.lines few good in
     let p = place_in t.entries (v + j) in
     let q = place_in t.entries (v + k) in
     let a = landed t devices s.block v n by made c w j lj in

@@ -21,13 +21,13 @@ or-none (Some f) b e = absurd cc
 
 -- no line of a fault or of an op is at fault
 pub record IsBound (s : Script) (t : Table) (devices : List DeviceInfo) : Type 0 where
-  pub faults : faults_fault t devices s.ops [] s.faults s.lines ≡ None
+  pub faults : faults_fault t devices s.block s.ops [] s.faults s.lines ≡ None
   pub ops : ops_fault t devices s.block s.ops (drop (length s.faults) s.lines) ≡ None
 
 pub bound : (s : Script) (t : Table) (devices : List DeviceInfo) → binding_fault s t devices ≡ None → IsBound s t devices
 bound s t devices h =
     let a = or-none (expect_fault s t.ty) _ h in
-    let b = or-none (faults_fault t devices s.ops [] s.faults s.lines) (ops_fault t devices s.block s.ops (drop (length s.faults) s.lines)) a.1 in
+    let b = or-none (faults_fault t devices s.block s.ops [] s.faults s.lines) (ops_fault t devices s.block s.ops (drop (length s.faults) s.lines)) a.1 in
     record { faults = b.0; ops = b.1 }
 
 pub stands-on-ground : (m : Setting) (s : Script) (t : Table) (devices : List DeviceInfo) (logs : ℕ) → SuitsStack s → length s.lines ≡ length s.faults + length s.ops → MadeFor t devices s.block → binding_fault s t devices ≡ None → IsSettingOf m s t devices logs → Ground m (4096 * s.pages) logs s.ops

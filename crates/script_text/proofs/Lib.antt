@@ -1,6 +1,6 @@
 mod Drawing
 pub mod Filled
-mod Marking
+mod Lines
 pub mod Passed
 mod Sharing
 pub mod Staying

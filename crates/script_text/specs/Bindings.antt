@@ -1,10 +1,11 @@
-use Rattle.std.specs.Prelude.{ℕ, zero, suc, ◌+◌, ℤ, pos, negsuc, Bool, true, false, not, ◌||◌, ◌&&◌, eqb, nat_le, nat_lt, if◌then◌else◌, List, [], ◌∷◌, ◌++◌, length, drop, set, slice_get, Option, Some, None}
+use Rattle.std.specs.Prelude.{ℕ, zero, suc, ◌+◌, ℤ, pos, negsuc, Bool, true, false, not, ◌||◌, ◌&&◌, eqb, nat_le, nat_lt, if◌then◌else◌, List, [], ◌∷◌, ◌++◌, length, drop, slice_get, Option, Some, None}
 use Rattle.std.specs.List.{list_any}
 use Rattle.fault_schedule.specs.declared.fault.Crossing.{Crossing}
 use Rattle.fault_schedule.specs.declared.fault.Crossing.TheVariants.{TargetToMedium}
 use Rattle.fault_schedule.specs.declared.fault.FaultKind.{FaultKind}
-use Rattle.fault_schedule.specs.declared.fault.FaultKind.TheVariants.{Flip as FlipKind, Shift as ShiftKind}
+use Rattle.fault_schedule.specs.declared.fault.FaultKind.TheVariants.{Flip as FlipKind, Shift as ShiftKind, Keep as KeepKind}
 use Rattle.fault_schedule.specs.declared.fault.FaultLine.{FaultLine}
+use Rattle.pi_tuple.specs.declared.TheConstants.{TUPLE}
 use Rattle.pi_tuple.specs.declared.checks.PiType.{PiType}
 use Rattle.pi_tuple.specs.declared.checks.PiType.TheVariants.{Zero as TypeZero, One as TypeOne, Two as TypeTwo, Three as TypeThree}
 use Rattle.rig_api.specs.declared.change.Change.{Change}
@@ -66,6 +67,7 @@ blocks_stay t devices by v (suc n) = if nat_le (volume_len t.entries) v then tru
 abbrev pub is_shift : FaultKind → Bool
 is_shift (FlipKind off bytes) = false
 is_shift (ShiftKind by) = true
+is_shift (KeepKind bytes) = false
 
 -- The line shifts the op of this number.
 abbrev pub shifts : ℕ → FaultLine → Bool
@@ -75,16 +77,42 @@ abbrev pub is_at_medium : Crossing → Bool
 is_at_medium TargetToMedium = true
 is_at_medium _ = false
 
--- A shift needs tuples of type 1, isn't on the medium of a write, comes once for an op, and keeps each block on its device.
-abbrev pub is_bad_kind : Table → List DeviceInfo → (was_shifted : Bool) → FaultLine → ℕ × ℕ → FaultKind → Bool
-is_bad_kind t devices was f request (FlipKind off bytes) = false
-is_bad_kind t devices was f request (ShiftKind by) =
-    not (is_first_type t.ty) || (is_at_medium f.at || (was || not (blocks_stay t devices by request.0 request.1)))
+-- The medium doesn't keep all of a write, which no version before 3 can say.
+abbrev pub is_keep : FaultKind → Bool
+is_keep (FlipKind off bytes) = false
+is_keep (ShiftKind by) = false
+is_keep (KeepKind bytes) = true
 
--- A fault line, whose op an earlier line shifts or none does, is at fault on this request: there is none, or it hasn't the block, or the line's kind can't be.
-abbrev pub is_bad_on : Table → List DeviceInfo → (was_shifted : Bool) → FaultLine → Option (ℕ × ℕ) → Bool
-is_bad_on t devices was f None = true
-is_bad_on t devices was f (Some request) = not (nat_lt f.k request.1) || is_bad_kind t devices was f request f.kind
+abbrev pub is_keep_line : FaultLine → Bool
+is_keep_line f = is_keep f.kind
+
+-- how many bytes the medium stores of a block
+abbrev pub stored_bytes : PiType → (size : ℕ) → ℕ
+stored_bytes ty size = if has_no_tuples ty then size else size + TUPLE
+
+-- The line loses or tears this block.
+abbrev pub keeps_block : (op k : ℕ) → FaultLine → Bool
+keeps_block op k f = eqb op f.op && (eqb k f.k && is_keep f.kind)
+
+-- A lost or torn block is one of a write, of which the medium stores less than all, and that no earlier line names.
+abbrev pub is_bad_keep : (stored : ℕ) → (earlier : List FaultLine) → FaultLine → (bytes : ℕ) → Bool
+is_bad_keep stored earlier f bytes = not (is_at_medium f.at) || (nat_le stored bytes || list_any (keeps_block f.op f.k) earlier)
+
+-- A shift needs tuples of type 1, isn't on the medium of a write, comes once for an op, and keeps each block on its device.
+abbrev pub is_bad_shift : Table → List DeviceInfo → (earlier : List FaultLine) → FaultLine → ℕ × ℕ → (by : ℤ) → Bool
+is_bad_shift t devices earlier f request by =
+    not (is_first_type t.ty) || (is_at_medium f.at || (list_any (shifts f.op) earlier || not (blocks_stay t devices by request.0 request.1)))
+
+-- behind these lines, in a script of blocks of this size
+abbrev pub is_bad_kind : Table → List DeviceInfo → (size : ℕ) → (earlier : List FaultLine) → FaultLine → ℕ × ℕ → FaultKind → Bool
+is_bad_kind t devices size earlier f request (FlipKind off bytes) = false
+is_bad_kind t devices size earlier f request (ShiftKind by) = is_bad_shift t devices earlier f request by
+is_bad_kind t devices size earlier f request (KeepKind bytes) = is_bad_keep (stored_bytes t.ty size) earlier f bytes
+
+-- A fault line behind these is at fault on this request: there is none, or it hasn't the block, or the line's kind can't be.
+abbrev pub is_bad_on : Table → List DeviceInfo → (size : ℕ) → (earlier : List FaultLine) → FaultLine → Option (ℕ × ℕ) → Bool
+is_bad_on t devices size earlier f None = true
+is_bad_on t devices size earlier f (Some request) = not (nat_lt f.k request.1) || is_bad_kind t devices size earlier f request f.kind
 
 abbrev pub request_by : Option Op → Option (ℕ × ℕ)
 request_by None = None
@@ -96,15 +124,11 @@ request_at ops zero = None
 request_at ops (suc n) = request_by (slice_get ops n)
 
 -- the first fault of the fault lines behind these
-abbrev pub faults_fault : Table → List DeviceInfo → List Op → (earlier faults : List FaultLine) → (lines : List ℕ) → Option ScriptFault
-faults_fault t devices ops earlier (f ∷ faults) (line ∷ lines) =
-    if is_bad_on t devices (list_any (shifts f.op) earlier) f (request_at ops f.op) then Some (record { line = line; kind = BadFault })
-    else faults_fault t devices ops (earlier ++ (f ∷ [])) faults lines
-faults_fault t devices ops earlier _ _ = None
-
--- marks of ops by their numbers, with that of the op that a line shifts
-abbrev pub marked : List Bool → FaultLine → List Bool
-marked marks f = if is_shift f.kind then set marks f.op true else marks
+abbrev pub faults_fault : Table → List DeviceInfo → (size : ℕ) → List Op → (earlier faults : List FaultLine) → (lines : List ℕ) → Option ScriptFault
+faults_fault t devices size ops earlier (f ∷ faults) (line ∷ lines) =
+    if is_bad_on t devices size earlier f (request_at ops f.op) then Some (record { line = line; kind = BadFault })
+    else faults_fault t devices size ops (earlier ++ (f ∷ [])) faults lines
+faults_fault t devices size ops earlier _ _ = None
 
 -- A stored block can be altered: its device is there, of the volume's type and of the script's block size, and has the address.
 abbrev pub is_alterable : PiType → (size lba : ℕ) → Option DeviceInfo → Bool
@@ -145,4 +169,4 @@ expect_fault s ty = if not (eqb s.mode.mask 0) && has_no_tuples ty then Some (re
 abbrev pub binding_fault : Script → Table → List DeviceInfo → Option ScriptFault
 binding_fault s t devices =
     or_else (expect_fault s t.ty)
-    (or_else (faults_fault t devices s.ops [] s.faults s.lines) (ops_fault t devices s.block s.ops (drop (length s.faults) s.lines)))
+    (or_else (faults_fault t devices s.block s.ops [] s.faults s.lines) (ops_fault t devices s.block s.ops (drop (length s.faults) s.lines)))

@@ -2,7 +2,7 @@ use Rattle.std.specs.Prelude.{ℕ, ◌-◌, Bool, true, false, List, Option, Som
 use Rattle.fault_schedule.specs.declared.fault.Crossing.{Crossing}
 use Rattle.fault_schedule.specs.declared.fault.Crossing.TheVariants.{HostToAdapter, AdapterToTarget, TargetToMedium, MediumToTarget, TargetToAdapter, AdapterToHost}
 use Rattle.fault_schedule.specs.declared.fault.FaultKind.{FaultKind}
-use Rattle.fault_schedule.specs.declared.fault.FaultKind.TheVariants.{Flip, Shift}
+use Rattle.fault_schedule.specs.declared.fault.FaultKind.TheVariants.{Flip, Shift, Keep}
 use Rattle.fault_schedule.specs.declared.fault.FaultLine.{FaultLine}
 use Rattle.script_lines.specs.declared.line.Spot.{Spot}
 use Rattle.script_lines.specs.declared.line.Spot.TheVariants.{Host, Wire, Medium}
@@ -15,6 +15,7 @@ abbrev pub read_crossing : Spot → FaultKind → Crossing
 read_crossing Host kind = AdapterToHost
 read_crossing Wire (Flip off bytes) = TargetToAdapter
 read_crossing Wire (Shift by) = AdapterToTarget
+read_crossing Wire (Keep bytes) = TargetToAdapter
 read_crossing Medium kind = MediumToTarget
 
 -- the same for any other op

@@ -1,6 +1,7 @@
-use Rattle.std.specs.Prelude.{ℕ, Bool, List, Option}
+use Rattle.std.specs.Prelude.{ℕ, List, Option}
 use Rattle.merge_queue.specs.declared.Limits.{Limits}
 use Rattle.script_lines.specs.declared.line.ModeLine.{ModeLine}
+use Rattle.script_lines.specs.declared.verb.ScriptVersion.{ScriptVersion}
 use Rattle.script_lines.specs.declared.verb.Section.{Section}
 use Rattle.stack_ops.specs.declared.op.Op.{Op}
 use Rattle.volume_table.specs.declared.entry.Entry.{Entry}
@@ -10,7 +11,7 @@ use Rattle.script_text.specs.declared.trees.Inner.{Inner}
 
 -- what was read so far
 pub record Drafted : Type 0 where
-  pub is_new : Bool
+  pub version : ScriptVersion
   pub section : Option Section
   pub mode : ModeLine
   pub app : ℕ
@@ -30,7 +31,7 @@ pub record Drafted : Type 0 where
 
 abbrev pub drafted : Draft → Drafted
 drafted d = record {
-  is_new = d.is_new;
+  version = d.version;
   section = d.section;
   mode = d.mode;
   app = d.app;

@@ -1,7 +1,7 @@
 use Rattle.std.specs.Prelude.{ℕ, ◌≡◌, ◌⊎◌, ◌+◌, Bool, true, false, not, ◌||◌, ◌&&◌, eqb, nat_lt, if◌then◌else◌, List, [], ◌∷◌, ◌++◌, length, map, codes, Option, Some, None, Result, Ok, Err}
 use Rattle.std.specs.Str.{bytes_eq}
 use Rattle.pi_guard.specs.declared.GuardKind.TheVariants.{Crc}
-use Rattle.fault_schedule.specs.declared.fault.FaultKind.TheVariants.{Flip as FlipKind, Shift as ShiftKind}
+use Rattle.fault_schedule.specs.declared.fault.FaultKind.TheVariants.{Flip as FlipKind, Shift as ShiftKind, Keep as KeepKind}
 use Rattle.script_words.specs.Cuts.{is_plain, lines_of, words_of}
 use Rattle.script_lines.specs.declared.kind.ScriptKind.{ScriptKind}
 use Rattle.script_lines.specs.declared.kind.ScriptKind.TheVariants.{NotAscii, LongLine, UnknownWord, OutOfPlace, TooMany, NoHeader, Memory}
@@ -9,13 +9,16 @@ use Rattle.block_path.specs.declared.mode.Mode.{Mode as FullMode}
 use Rattle.script_lines.specs.declared.line.ModeLine.{ModeLine}
 use Rattle.script_lines.specs.declared.line.OpLine.{OpLine}
 use Rattle.script_lines.specs.declared.line.ScriptLine.{ScriptLine}
-use Rattle.script_lines.specs.declared.line.ScriptLine.TheVariants.{Mode, Limits, Pages, Block, Expect, Inner, Linear, Stripe, Over, Flip, Shift, Schedule, Begin, Op}
+use Rattle.script_lines.specs.declared.line.ScriptLine.TheVariants.{Mode, Limits, Pages, Block, Expect, Inner, Linear, Stripe, Over, Flip, Shift, Keep, Schedule, Begin, Op}
+use Rattle.script_lines.specs.declared.line.Spot.TheVariants.{Medium}
 use Rattle.script_lines.specs.declared.verb.Verb.{Verb}
+use Rattle.script_lines.specs.declared.verb.ScriptVersion.{ScriptVersion}
+use Rattle.script_lines.specs.declared.verb.ScriptVersion.TheVariants.{One, Two, Three}
 use Rattle.script_lines.specs.declared.verb.Section.{Section}
 use Rattle.script_lines.specs.declared.verb.Section.TheVariants.{Dix as AtDix, Begin as AtBegin, Op as AtOp}
 use Rattle.script_lines.specs.Forms.{line_form}
 use Rattle.script_lines.specs.Reading.{◌>>=◌}
-use Rattle.script_lines.specs.Verbs.{comes_before, is_new_verb, section_of, verb_of}
+use Rattle.script_lines.specs.Verbs.{comes_before, has_lines_of, is_new, section_of, verb_of, version_of_verb}
 use Rattle.volume_table.specs.declared.entry.Entry.{Entry}
 use Rattle.volume_table.specs.declared.entry.Entry.TheVariants.{Linear as LinearEntry, Stripe as StripeEntry}
 use Rattle.stack_ops.specs.declared.op.Op.{Op as AnyOp}
@@ -35,7 +38,7 @@ use Rattle.dix_base.specs.declared.reading.TheConstants.{LONGEST_LINE, MOST_BYTE
 -- before any line
 abbrev pub nothing_read : Drafted
 nothing_read = record {
-  is_new = false;
+  version = One;
   section = None;
   mode = record { kind = Crc; dix = false; dif = false; protect = 1 };
   app = 0;
@@ -82,6 +85,7 @@ op_taken number line d = op_in d.pages d.block line >>= with_op number line d
 abbrev pub fault_line_taken : ℕ → ScriptLine → Drafted → Result Drafted ScriptKind
 fault_line_taken number (Flip op k spot off bytes) d = fault_taken number (record { op = op; k = k; spot = spot; kind = FlipKind off bytes }) d
 fault_line_taken number (Shift op spot by) d = fault_taken number (record { op = op; k = 0; spot = spot; kind = ShiftKind by }) d
+fault_line_taken number (Keep op k bytes) d = fault_taken number (record { op = op; k = k; spot = Medium; kind = KeepKind bytes }) d
 fault_line_taken number line d = Ok d
 
 -- what is read with a line of the volume, or of a fault
@@ -104,9 +108,9 @@ taken number (Op line) d = op_taken number line d
 taken number line d = volume_line_taken number line d
 
 -- a line of this verb may stand behind one of this section
-abbrev pub is_behind : Bool → Verb → Option Section → Bool
-is_behind is_new verb None = false
-is_behind is_new verb (Some section) = (is_new || not (is_new_verb verb)) && comes_before section (section_of verb) is_new
+abbrev pub is_behind : ScriptVersion → Verb → Option Section → Bool
+is_behind version verb None = false
+is_behind version verb (Some section) = has_lines_of version (version_of_verb verb) && comes_before section (section_of verb) (is_new version)
 
 abbrev pub unless_broken : Option ScriptKind → Result Drafted ScriptKind → Result Drafted ScriptKind
 unless_broken None r = r
@@ -124,18 +128,22 @@ line_taken number verb words d = do
 
 abbrev pub verb_taken : ℕ → Option Verb → List (List ℕ) → Drafted → Result Drafted ScriptKind
 verb_taken number None words d = Err UnknownWord
-verb_taken number (Some verb) words d = if is_behind d.is_new verb d.section then line_taken number verb words d else Err OutOfPlace
+verb_taken number (Some verb) words d = if is_behind d.version verb d.section then line_taken number verb words d else Err OutOfPlace
 
--- whether the first line that isn't skipped is `dix 2`, or `dix 1`
-abbrev pub version_of : List (List ℕ) → Option Bool
-version_of (dix ∷ version ∷ []) =
-    if not (bytes_eq dix (codes "dix")) then None
-    else (if bytes_eq version (codes "1") then Some false else (if bytes_eq version (codes "2") then Some true else None))
+abbrev pub version_in : List ℕ → Option ScriptVersion
+version_in word =
+    if bytes_eq word (codes "1") then Some One
+    else (if bytes_eq word (codes "2") then Some Two
+    else (if bytes_eq word (codes "3") then Some Three else None))
+
+-- the version of the first line that isn't skipped: `dix 1`, `dix 2` or `dix 3`
+abbrev pub version_of : List (List ℕ) → Option ScriptVersion
+version_of (dix ∷ version ∷ []) = if not (bytes_eq dix (codes "dix")) then None else version_in version
 version_of _ = None
 
-abbrev pub header_taken : Option Bool → Drafted → Result Drafted ScriptKind
+abbrev pub header_taken : Option ScriptVersion → Drafted → Result Drafted ScriptKind
 header_taken None d = Err NoHeader
-header_taken (Some is_new) d = Ok (record d { is_new = is_new; section = Some AtDix })
+header_taken (Some version) d = Ok (record d { version = version; section = Some AtDix })
 
 abbrev pub words_behind : Option Section → ℕ → List (List ℕ) → Drafted → Result Drafted ScriptKind
 words_behind None number words d = header_taken (version_of words) d

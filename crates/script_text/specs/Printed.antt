@@ -5,7 +5,7 @@ use Rattle.hex.specs.Hex.{encode_lower}
 use Rattle.block_path.specs.declared.mode.Mode.{Mode}
 use Rattle.fault_schedule.specs.declared.fault.Crossing.{Crossing}
 use Rattle.fault_schedule.specs.declared.fault.Crossing.TheVariants.{HostToAdapter, AdapterToTarget, TargetToMedium, MediumToTarget, TargetToAdapter, AdapterToHost}
-use Rattle.fault_schedule.specs.declared.fault.FaultKind.TheVariants.{Flip, Shift}
+use Rattle.fault_schedule.specs.declared.fault.FaultKind.TheVariants.{Flip, Shift, Keep}
 use Rattle.fault_schedule.specs.declared.fault.FaultLine.{FaultLine}
 use Rattle.fault_schedule.specs.declared.fault.FaultKind.{FaultKind}
 use Rattle.merge_queue.specs.declared.Limits.{Limits}
@@ -19,6 +19,11 @@ use Rattle.stack_ops.specs.declared.op.Op.TheVariants.{Fill, Put, Show, Seal, Wr
 use Rattle.stripe_volume.specs.declared.legs.Leg.{Leg}
 use Rattle.volume_table.specs.declared.entry.Entry.{Entry}
 use Rattle.volume_table.specs.declared.entry.Entry.TheVariants.{Linear, Stripe}
+use Rattle.std.specs.List.{list_any}
+use Rattle.script_lines.specs.Verbs.{is_new}
+use Rattle.script_lines.specs.declared.verb.ScriptVersion.{ScriptVersion}
+use Rattle.script_lines.specs.declared.verb.ScriptVersion.TheVariants.{One, Two, Three}
+use Rattle.script_text.specs.Bindings.{is_keep_line}
 use Rattle.script_text.specs.declared.script.Script.{Script}
 
 -- The text of a script, line by line.
@@ -58,13 +63,18 @@ block_text size = codes "block " ++ (decimal size ++ codes "\n")
 abbrev pub expect_text : (app mask : ℕ) → List ℕ
 expect_text app mask = codes "expect " ++ (encode_lower (to_be_bytes w16 app) ++ (codes " " ++ (encode_lower (to_be_bytes w16 mask) ++ codes "\n")))
 
--- what only version 2 can say
-abbrev pub is_version_two : (block mask : ℕ) → Bool
-is_version_two block mask = not (eqb block 512) || not (eqb mask 0)
+-- what no version before 2 can say
+abbrev pub is_past_one : (block mask : ℕ) → Bool
+is_past_one block mask = not (eqb block 512) || not (eqb mask 0)
 
-abbrev pub version_text : Bool → List ℕ
-version_text true = codes "dix 2\n"
-version_text false = codes "dix 1\n"
+-- the first version that can say all that a script does
+abbrev pub version_for : List FaultLine → (block mask : ℕ) → ScriptVersion
+version_for faults block mask = if list_any is_keep_line faults then Three else (if is_past_one block mask then Two else One)
+
+abbrev pub version_text : ScriptVersion → List ℕ
+version_text One = codes "dix 1\n"
+version_text Two = codes "dix 2\n"
+version_text Three = codes "dix 3\n"
 
 abbrev pub expected_text : (app mask : ℕ) → List ℕ
 expected_text app mask = if eqb mask 0 then [] else expect_text app mask
@@ -72,13 +82,15 @@ expected_text app mask = if eqb mask 0 then [] else expect_text app mask
 abbrev pub new_text : (block app mask : ℕ) → List ℕ
 new_text block app mask = block_text block ++ expected_text app mask
 
-abbrev pub new_lines : (block app mask : ℕ) → List ℕ
-new_lines block app mask = if is_version_two block mask then new_text block app mask else []
+abbrev pub new_lines : ScriptVersion → (block app mask : ℕ) → List ℕ
+new_lines version block app mask = if is_new version then new_text block app mask else []
 
--- the lines before the volume
+-- the lines before the volume in this version
+abbrev pub front_in : ScriptVersion → Script → List ℕ
+front_in version s = version_text version ++ (mode_text s.mode ++ (limits_text s.limits ++ (pages_text s.pages ++ new_lines version s.block s.mode.app s.mode.mask)))
+
 abbrev pub front_text : Script → List ℕ
-front_text s =
-    version_text (is_version_two s.block s.mode.mask) ++ (mode_text s.mode ++ (limits_text s.limits ++ (pages_text s.pages ++ new_lines s.block s.mode.app s.mode.mask)))
+front_text s = front_in (version_for s.faults s.block s.mode.mask) s
 
 abbrev pub legs_text : List Leg → List ℕ
 legs_text [] = []
@@ -108,9 +120,14 @@ abbrev pub change_text : Change → List ℕ
 change_text (FlipChange off bytes) = codes " flip " ++ (decimal off ++ (codes " " ++ encode_lower bytes))
 change_text (CopyChange dev lba) = codes " from " ++ (decimal dev ++ (codes " " ++ decimal lba))
 
+-- a write of which no byte is kept is lost, any other is torn
+abbrev pub keep_text : (op k bytes : ℕ) → List ℕ
+keep_text op k bytes = if eqb bytes 0 then codes "lose " ++ (pair_text op (codes " ") k ++ codes "\n") else codes "tear " ++ (pair_text op (codes " ") k ++ (codes " " ++ (decimal bytes ++ codes "\n")))
+
 abbrev pub fault_by : FaultLine → FaultKind → List ℕ
 fault_by f (Flip off bytes) = codes "fault " ++ (pair_text f.op (codes " ") f.k ++ (spot_text f.at ++ (change_text (FlipChange off bytes) ++ codes "\n")))
 fault_by f (Shift by) = codes "shift " ++ (decimal f.op ++ (spot_text f.at ++ (codes " " ++ (signed_decimal by ++ codes "\n"))))
+fault_by f (Keep bytes) = keep_text f.op f.k bytes
 
 abbrev pub fault_text : FaultLine → List ℕ
 fault_text f = fault_by f f.kind

@@ -1,19 +1,17 @@
 //! A script against a volume.
 
-ghost use Rattle.std.specs.Prelude.{◌≡◌, ◌<◌, ◌≤◌, ◌+◌, [], Some, None, MatchResult, drop, false, length, get_or, slice_get};
-ghost use Rattle.fault_schedule.specs.declared.fault.FaultKind.{FaultKind};
-ghost use Rattle.script_text.specs.Bindings.{binding_fault, block_stays, blocks_stay, expect_fault, faults_fault, is_bad_kind, is_bad_on, is_shift, marked, op_fault, ops_fault, request_at};
+ghost use Rattle.std.specs.Prelude.{◌≡◌, ◌<◌, ◌≤◌, ◌+◌, [], Some, None, MatchResult, drop, length};
+ghost use Rattle.std.specs.List.{list_any};
+ghost use Rattle.script_text.specs.Bindings.{binding_fault, block_stays, blocks_stay, expect_fault, faults_fault, is_bad_keep, is_bad_on, is_bad_shift, keeps_block, op_fault, ops_fault, request_at, shifts, stored_bytes};
 ghost use Rattle.volume_table.specs.Places.{volume_len};
 
 use crate::against::{Against, can_alter, is_bad_change, is_on, request, request_at};
+use crate::kinds::{is_keep, is_shift};
 use crate::{Script, ScriptFault, ScriptKind};
 use fault_schedule::{Crossing, FaultKind, FaultLine};
-use pi_tuple::PiType;
+use pi_tuple::{PiType, TUPLE};
 use stack_ops::Op;
 use volume_table::{DeviceInfo, VolumeTable};
-
-/// A mark for each number of an op, 1 to 1,024, and for 0.
-const MARKS: usize = 1025;
 
 /// Whether a block of the volume lies on its device when it is moved.
 fn block_stays(against: Against, v: u64, by: i64) -> bool
@@ -44,27 +42,65 @@ fn stays_on(against: Against, v: u64, n: u32, by: i64) -> bool
     true
 }
 
-/// Whether a shift can't be: of another type than 1, on the medium of a write, twice on one op, or
-/// off its device.
+/// Whether one of these lines shifts the op of this number.
+fn is_shifted(lines: &[FaultLine], op: u32) -> bool
+    ensures { result ≡ list_any (shifts op) lines.now }
+{
+    lines
+        .iter()
+        .any(|line| op == line.op && is_shift(&line.kind))
+}
+
+/// Whether a shift behind these lines can't be: of another type than 1, on the medium of a write,
+/// twice on one op, or off its device.
 fn is_bad_shift(
     against: Against,
+    earlier: &[FaultLine],
     line: &FaultLine,
-    by: i64,
     request: (u64, u32),
-    was_shifted: bool,
+    by: i64,
 ) -> bool
-    ensures { result ≡ is_bad_kind against.entry.table.now against.entry.devices.now was_shifted line.now request (FaultKind.Shift by) }
+    ensures { result ≡ is_bad_shift against.entry.table.now against.entry.devices.now earlier.now line.now request by }
 {
     let (v, n) = request;
     against.table.ty() != PiType::One
         || line.at == Crossing::TargetToMedium
-        || was_shifted
+        || is_shifted(earlier, line.op)
         || !stays_on(against, v, n, by)
 }
 
-/// Whether a fault line can't be, where an earlier line shifts its op or none does.
-fn is_bad_fault(against: Against, line: &FaultLine, ops: &[Op], was_shifted: bool) -> bool
-    ensures { result ≡ is_bad_on against.entry.table.now against.entry.devices.now was_shifted line.now (request_at ops.now line.now.op) }
+/// Whether one of these lines loses or tears this block.
+fn is_kept(lines: &[FaultLine], op: u32, k: u32) -> bool
+    ensures { result ≡ list_any (keeps_block op k) lines.now }
+{
+    lines
+        .iter()
+        .any(|line| op == line.op && k == line.k && is_keep(&line.kind))
+}
+
+/// How many bytes the medium of a unit of this type stores of a block.
+pub fn stored_bytes(ty: PiType, size: u32) -> u64
+    ensures { result ≡ stored_bytes ty size }
+{
+    match ty {
+        PiType::Zero => u64::from(size),
+        _ => u64::from(size) + TUPLE as u64,
+    }
+}
+
+/// Whether a line behind these can't lose or tear its block: of an op that isn't a write, of no
+/// less than the `stored` bytes of a block, or of a block that an earlier line loses or tears.
+pub fn is_bad_keep(stored: u64, earlier: &[FaultLine], line: &FaultLine, bytes: u32) -> bool
+    ensures { result ≡ is_bad_keep stored earlier.now line.now bytes }
+{
+    line.at != Crossing::TargetToMedium
+        || u64::from(bytes) >= stored
+        || is_kept(earlier, line.op, line.k)
+}
+
+/// Whether a fault line behind these can't be.
+fn is_bad_fault(against: Against, earlier: &[FaultLine], line: &FaultLine, ops: &[Op]) -> bool
+    ensures { result ≡ is_bad_on against.entry.table.now against.entry.devices.now against.entry.size earlier.now line.now (request_at ops.now line.now.op) }
 {
     let Some((v, n)) = request_at(ops, line.op) else {
         return true;
@@ -74,56 +110,29 @@ fn is_bad_fault(against: Against, line: &FaultLine, ops: &[Op], was_shifted: boo
     }
     match line.kind {
         FaultKind::Flip { .. } => false,
-        FaultKind::Shift { by } => is_bad_shift(against, line, by, (v, n), was_shifted),
+        FaultKind::Shift { by } => is_bad_shift(against, earlier, line, (v, n), by),
+        FaultKind::Keep { bytes } => {
+            let stored = stored_bytes(against.table.ty(), against.size);
+            is_bad_keep(stored, earlier, line, bytes)
+        }
     }
 }
 
-/// Whether the op of this number is marked.
-fn is_marked(marks: &[bool; MARKS], op: u32) -> bool
-    ensures { result ≡ get_or marks.now op false }
-{
-    match marks.get(op as usize) {
-        Some(mark) => *mark,
-        None => false,
-    }
-}
-
-/// Marks the op that a line shifts.
-fn mark(marks: &mut [bool; MARKS], line: &FaultLine)
-    ensures { marks.new ≡ marked marks.old line.now }
-{
-    let place = line.op as usize;
-    if is_shift(line) && place < MARKS {
-        marks[place] = true;
-    }
-}
-
-fn is_shift(line: &FaultLine) -> bool
-    ensures { result ≡ is_shift line.now.kind }
-{
-    match line.kind {
-        FaultKind::Shift { .. } => true,
-        FaultKind::Flip { .. } => false,
-    }
-}
-
-/// The first fault line that can't be. Which ops the earlier lines shift is marked by their numbers.
+/// The first fault line that can't be.
 fn faults_fault(against: Against, script: &Script) -> Option<ScriptFault>
-    requires few { length script.now.ops ≤ 1024 }
     requires lines { length script.now.faults ≤ length script.now.lines }
-    ensures { result ≡ faults_fault against.entry.table.now against.entry.devices.now script.now.ops [] script.now.faults script.now.lines }
+    ensures { result ≡ faults_fault against.entry.table.now against.entry.devices.now against.entry.size script.now.ops [] script.now.faults script.now.lines }
 {
     let ops = script.ops.as_slice();
     let lines = script.lines.as_slice();
-    let mut marks = [false; MARKS];
-    for (i, fault) in script.faults.as_slice().iter().enumerate() {
-        if is_bad_fault(against, fault, ops, is_marked(&marks, fault.op)) {
+    let faults = script.faults.as_slice();
+    for (i, fault) in faults.iter().enumerate() {
+        if is_bad_fault(against, &faults[..i], fault, ops) {
             return Some(ScriptFault {
                 line: lines[i],
                 kind: ScriptKind::BadFault,
             });
         }
-        mark(&mut marks, fault);
     }
     None
 }

@@ -3,6 +3,7 @@
 ghost use Rattle.std.specs.Prelude.{◌≡◌};
 ghost use Rattle.script_text.specs.Crossings.{crossing_of};
 
+use crate::kinds::is_shift;
 use fault_schedule::{Crossing, FaultKind};
 use script_lines::Spot;
 
@@ -11,10 +12,7 @@ use script_lines::Spot;
 pub(crate) fn crossing_of(spot: Spot, kind: &FaultKind, is_read: bool) -> Crossing
     ensures { result ≡ crossing_of spot kind.now is_read }
 {
-    let is_shift = match kind {
-        FaultKind::Shift { .. } => true,
-        FaultKind::Flip { .. } => false,
-    };
+    let is_shift = is_shift(kind);
     match spot {
         Spot::Host if is_read => Crossing::AdapterToHost,
         Spot::Host => Crossing::HostToAdapter,

@@ -20,7 +20,9 @@ use crate::{MOST_ENTRIES, ScriptKind};
 use fault_schedule::{FaultKind, FaultLine, FaultList};
 use merge_queue::Limits;
 use pi_guard::GuardKind;
-use script_lines::{ModeLine, OpLine, ScriptLine, Section, VolumeList, WordList};
+use script_lines::{
+    ModeLine, OpLine, ScriptLine, ScriptVersion, Section, Spot, VolumeList, WordList,
+};
 use stack_ops::{Op, OpList};
 use std::alloc::Global;
 use stripe_volume::Stripe;
@@ -29,7 +31,7 @@ use volume_table::{Entry, EntryList};
 /// A script of which some lines were read.
 #[derive(Drop)]
 pub(crate) struct Draft {
-    pub(crate) is_new: bool,
+    pub(crate) version: ScriptVersion,
     pub(crate) section: Option<Section>,
     pub(crate) mode: ModeLine,
     pub(crate) app: u16,
@@ -64,7 +66,7 @@ impl Draft {
         ensures { drafted result ≡ nothing_read }
     {
         Draft {
-            is_new: false,
+            version: ScriptVersion::One,
             section: None,
             mode: ModeLine {
                 kind: GuardKind::Crc,
@@ -176,6 +178,12 @@ impl Draft {
                 spot,
                 kind: FaultKind::Shift { by },
             },
+            ScriptLine::Keep { op, k, bytes } => RawFault {
+                op,
+                k,
+                spot: Spot::Medium,
+                kind: FaultKind::Keep { bytes },
+            },
             _ => return Ok(()),
         };
         self.add_fault(number, fault)
@@ -279,7 +287,7 @@ impl Draft {
         ensures memory { IfErr result (λ k. k ≡ ScriptKind.Memory) }
     {
         let Draft {
-            is_new: _,
+            version: _,
             section: _,
             mode,
             app,

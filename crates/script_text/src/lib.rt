@@ -9,6 +9,7 @@ mod bind;
 mod crossing;
 mod draft;
 mod fault;
+mod kinds;
 mod mode;
 mod ops;
 mod print;
@@ -22,7 +23,7 @@ mod trees;
 
 pub use against::{Against, can_alter, is_bad_change, request_at};
 pub use big::big_script;
-pub use bind::bind_script;
+pub use bind::{bind_script, is_bad_keep, stored_bytes};
 pub use fault::ScriptFault;
 pub use print::print_script;
 pub use read::read_script;

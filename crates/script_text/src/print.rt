@@ -1,13 +1,16 @@
 //! The printer.
 
 ghost use Rattle.std.specs.Prelude.{◌≡◌, ◌++◌, IfOk, OnOk, length};
+ghost use Rattle.std.specs.List.{list_any};
 ghost use Rattle.fault_schedule.specs.declared.fault.FaultKind.{FaultKind};
 ghost use Rattle.rig_api.specs.declared.change.Change.{Change};
 ghost use Rattle.stack_ops.specs.declared.op.Op.{Op};
+ghost use Rattle.script_text.specs.Bindings.{is_keep_line};
 ghost use Rattle.volume_table.specs.declared.entry.Entry.{Entry};
-ghost use Rattle.script_text.specs.Printed.{app_text, block_text, change_text, cut_text, entries_text, entry_text, expect_text, expected_text, fault_by, fault_text, faults_text, front_text, guard_text, is_version_two, limits_text, mode_text, new_lines, op_text, op_words, ops_text, pages_text, pair_text, request_text, schedule_line, schedule_text, script_printed, seal_front, spot_text, tags_text, tuples_text, version_text};
+ghost use Rattle.script_text.specs.Printed.{app_text, block_text, change_text, cut_text, entries_text, entry_text, expect_text, expected_text, fault_by, fault_text, faults_text, front_text, guard_text, is_past_one, keep_text, limits_text, mode_text, new_lines, op_text, op_words, ops_text, pages_text, pair_text, request_text, schedule_line, schedule_text, script_printed, seal_front, spot_text, tags_text, tuples_text, version_for, version_text};
 
 use crate::Script;
+use crate::kinds::is_keep;
 use crate::text::Text;
 use block_path::Mode;
 use dix_base::ByteList;
@@ -17,6 +20,7 @@ use merge_queue::Limits;
 use page_pool::{Seg, SgList};
 use pi_guard::GuardKind;
 use rig_api::Change;
+use script_lines::ScriptVersion;
 use stack_ops::Op;
 use std::alloc::{AllocError, Global};
 use stripe_volume::Stripe;
@@ -90,24 +94,30 @@ impl Text {
         self.expect(app, mask)
     }
 
-    /// `block` and `expect`, in a script of version 2.
-    fn new_lines(&mut self, block: u32, app: u16, mask: u16) -> Result<(), AllocError>
-        ensures { OnOk result (self.new.bytes.items ≡ self.old.bytes.items ++ new_lines block app mask) }
+    /// `block` and `expect`, in a script of a version later than 1.
+    fn new_lines(
+        &mut self,
+        version: ScriptVersion,
+        block: u32,
+        app: u16,
+        mask: u16,
+    ) -> Result<(), AllocError>
+        ensures { OnOk result (self.new.bytes.items ≡ self.old.bytes.items ++ new_lines version block app mask) }
     {
-        if !is_version_two(block, mask) {
+        if !version.is_new() {
             return Ok(());
         }
         self.block(block)?;
         self.expected(app, mask)
     }
 
-    fn version(&mut self, is_two: bool) -> Result<(), AllocError>
-        ensures { OnOk result (self.new.bytes.items ≡ self.old.bytes.items ++ version_text is_two) }
+    fn version(&mut self, version: ScriptVersion) -> Result<(), AllocError>
+        ensures { OnOk result (self.new.bytes.items ≡ self.old.bytes.items ++ version_text version) }
     {
-        if is_two {
-            self.add(b"dix 2\n")
-        } else {
-            self.add(b"dix 1\n")
+        match version {
+            ScriptVersion::One => self.add(b"dix 1\n"),
+            ScriptVersion::Two => self.add(b"dix 2\n"),
+            ScriptVersion::Three => self.add(b"dix 3\n"),
         }
     }
 
@@ -115,11 +125,12 @@ impl Text {
     fn front(&mut self, script: &Script) -> Result<(), AllocError>
         ensures { OnOk result (self.new.bytes.items ≡ self.old.bytes.items ++ front_text script.now) }
     {
-        self.version(is_version_two(script.block, script.mode.mask))?;
+        let version = version_for(script.faults.as_slice(), script.block, script.mode.mask);
+        self.version(version)?;
         self.mode(script.mode)?;
         self.limits(script.limits)?;
         self.pages(script.pages)?;
-        self.new_lines(script.block, script.mode.app, script.mode.mask)
+        self.new_lines(version, script.block, script.mode.app, script.mode.mask)
     }
 
     /// Two numbers with a word between them.
@@ -203,12 +214,28 @@ impl Text {
         self.add(b"\n")
     }
 
+    fn keep_line(&mut self, op: u32, k: u32, bytes: u32) -> Result<(), AllocError>
+        ensures { OnOk result (self.new.bytes.items ≡ self.old.bytes.items ++ keep_text op k bytes) }
+    {
+        if bytes == 0 {
+            self.add(b"lose ")?;
+            self.pair(u64::from(op), b" ", u64::from(k))?;
+            return self.add(b"\n");
+        }
+        self.add(b"tear ")?;
+        self.pair(u64::from(op), b" ", u64::from(k))?;
+        self.add(b" ")?;
+        self.small(bytes)?;
+        self.add(b"\n")
+    }
+
     fn fault(&mut self, line: &FaultLine) -> Result<(), AllocError>
         ensures { OnOk result (self.new.bytes.items ≡ self.old.bytes.items ++ fault_text line.now) }
     {
         match &line.kind {
             FaultKind::Flip { off, bytes } => self.flip_line(line, *off, bytes.as_slice()),
             FaultKind::Shift { by } => self.shift_line(line, *by),
+            FaultKind::Keep { bytes } => self.keep_line(line.op, line.k, *bytes),
         }
     }
 
@@ -414,11 +441,31 @@ impl Text {
     }
 }
 
-/// Whether the script says what only version 2 can say.
-fn is_version_two(block: u32, mask: u16) -> bool
-    ensures { result ≡ is_version_two block mask }
+/// Whether one of these lines says what no version before 3 can.
+fn has_keeps(faults: &[FaultLine]) -> bool
+    ensures { result ≡ list_any is_keep_line faults.now }
+{
+    faults.iter().any(|line| is_keep(&line.kind))
+}
+
+/// Whether the script says what no version before 2 can.
+fn is_past_one(block: u32, mask: u16) -> bool
+    ensures { result ≡ is_past_one block mask }
 {
     block != 512 || mask != 0
+}
+
+/// The first version that can say all that a script does.
+fn version_for(faults: &[FaultLine], block: u32, mask: u16) -> ScriptVersion
+    ensures { result ≡ version_for faults.now block mask }
+{
+    if has_keeps(faults) {
+        return ScriptVersion::Three;
+    }
+    if is_past_one(block, mask) {
+        return ScriptVersion::Two;
+    }
+    ScriptVersion::One
 }
 
 /// The text of a script: its lines in their order with one space between words, one entry of the

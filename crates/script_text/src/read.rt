@@ -3,14 +3,14 @@
 ghost use Rattle.std.specs.Prelude.{◌≡◌, ◌∷◌};
 ghost use Rattle.script_lines.specs.Verbs.{verb_of};
 ghost use Rattle.script_text.specs.Drafts.{drafted};
-ghost use Rattle.script_text.specs.Language.{Answers, Takes, at_end, end_fault, header_taken, is_behind, is_comment, line_taken, script_in, text_taken, verb_taken, version_of, words_taken};
+ghost use Rattle.script_text.specs.Language.{Answers, Takes, at_end, end_fault, header_taken, is_behind, is_comment, line_taken, script_in, text_taken, verb_taken, version_in, version_of, words_taken};
 ghost use Rattle.script_text.specs.Rules.{broken_rule};
 
 use crate::draft::Draft;
 use crate::rules::{is_bad_fault, is_too_many, lacks_integrity};
 use crate::{Script, ScriptFault, ScriptKind};
 use dix_base::{LONGEST_LINE, MOST_BYTES};
-use script_lines::{ScriptLine, Section, Verb, Words, line_of, verb_of};
+use script_lines::{ScriptLine, ScriptVersion, Section, Verb, Words, line_of, verb_of};
 use script_words::{is_plain, next_line};
 use std::alloc::Global;
 
@@ -32,18 +32,34 @@ fn broken_rule(draft: &Draft, line: &ScriptLine) -> Option<ScriptKind>
 
 /// Whether a line of this verb may stand behind the last.
 fn is_in_order(draft: &Draft, verb: Verb) -> bool
-    ensures { result ≡ is_behind draft.now.is_new verb draft.now.section }
+    ensures { result ≡ is_behind draft.now.version verb draft.now.section }
 {
     match draft.section {
         None => false,
         Some(section) => {
-            (draft.is_new || !verb.is_new()) && section.comes_before(verb.section(), draft.is_new)
+            draft.version.has_lines_of(verb.version())
+                && section.comes_before(verb.section(), draft.version.is_new())
         }
     }
 }
 
-/// The version of the first line that isn't skipped, `dix 1` or `dix 2`: whether it is 2.
-fn version_of(first: &[u8], words: &mut Words) -> Option<bool>
+fn version_in(word: &[u8]) -> Option<ScriptVersion>
+    ensures { result ≡ version_in word.now }
+{
+    if word == b"1".as_slice() {
+        return Some(ScriptVersion::One);
+    }
+    if word == b"2".as_slice() {
+        return Some(ScriptVersion::Two);
+    }
+    if word == b"3".as_slice() {
+        return Some(ScriptVersion::Three);
+    }
+    None
+}
+
+/// The version of the first line that isn't skipped: `dix 1`, `dix 2` or `dix 3`.
+fn version_of(first: &[u8], words: &mut Words) -> Option<ScriptVersion>
     ensures { result ≡ version_of (first.now ∷ words.old) }
 {
     let version = words.next()?;
@@ -53,21 +69,15 @@ fn version_of(first: &[u8], words: &mut Words) -> Option<bool>
     if first != b"dix".as_slice() {
         return None;
     }
-    if version == b"1".as_slice() {
-        return Some(false);
-    }
-    if version == b"2".as_slice() {
-        return Some(true);
-    }
-    None
+    version_in(version)
 }
 
 fn take_header(draft: &mut Draft, first: &[u8], words: &mut Words) -> Result<(), ScriptKind>
     ensures { Takes (header_taken (version_of (first.now ∷ words.old)) (drafted draft.old)) result (drafted draft.new) }
 {
     match version_of(first, words) {
-        Some(is_new) => {
-            draft.is_new = is_new;
+        Some(version) => {
+            draft.version = version;
             draft.section = Some(Section::Dix);
             Ok(())
         }

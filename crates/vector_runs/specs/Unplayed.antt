@@ -6,7 +6,7 @@ use Rattle.stack_ops.specs.Ops.{is_overwrite}
 use Rattle.script_text.specs.declared.fault.ScriptFault.{ScriptFault}
 use Rattle.script_text.specs.declared.script.Script.{Script}
 
--- Which scripts have no vectors: those with a fault, a shift or an overwrite, which act behind the commands.
+-- Which scripts have no vectors: those with a fault, a shift, a lost or torn write, or an overwrite, which act behind the commands.
 
 -- the line of the first overwrite
 abbrev pub first_overwrite : (lines : List ℕ) → List Op → Option ℕ

@@ -39,7 +39,8 @@ fn unplayed_line(lines: &[u32], faults: &[FaultLine], ops: &[Op]) -> Option<u32>
     }
 }
 
-/// The first line of a script for which there are no vectors: a fault, a shift or an overwrite. It acts behind the
+/// The first line of a script for which there are no vectors: a fault, a shift, a lost or torn write, or an
+/// overwrite. It acts behind the
 /// commands, and a vector has nothing but a command.
 pub fn unplayed(script: &Script) -> Option<ScriptFault>
     ensures { result ≡ unplayed script.now }

@@ -1,6 +1,6 @@
 use Rattle.std.proofs.Common.{ℕ, ◌+◌, ◌<◌, List, length, get_or, Option, Some, sym, ap, ◌∙◌, arith}
 use Rattle.script_text.specs.declared.fault.ScriptFault.{ScriptFault}
-use Rattle.script_text.proofs.Marking.{no_ops_left, op_at_fault, op_passes}
+use Rattle.script_text.proofs.Lines.{no_ops_left, op_at_fault, op_passes}
 use Rattle.script_text.proofs.bind.ops_fault.Goals as goal
 
 pub loop-i-preserved : goal.loop-i-preserved
