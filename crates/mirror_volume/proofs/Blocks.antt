@@ -29,10 +29,11 @@ why_out r (Fails why) back log = refl
 why_out r (Refuses why) back log = refl
 why_out r (Stores carried stored) back log = refl
 
-left_out : (r : Route) (w : WayOut) (back : List ℕ) (log : List (List ℕ)) (c : ℕ) (blocks : List (List ℕ)) → scatter (c ∷ []) (written_by r w back log).written.blocks blocks ≡ stored_at c (stored_of w) blocks
-left_out r (Fails why) back log c blocks = refl
-left_out r (Refuses why) back log c blocks = refl
-left_out r (Stores carried stored) back log c blocks = refl
+left_out : (leaves : List ℕ → List ℕ → List ℕ) (r : Route) (w : WayOut) (back : List ℕ) (log : List (List ℕ)) (c : ℕ) (blocks : List (List ℕ)) →
+    scatter (c ∷ []) (map (leaves (get_or blocks c [])) (written_by r w back log).written.blocks) blocks ≡ stored_at c leaves (stored_of w) blocks
+left_out leaves r (Fails why) back log c blocks = refl
+left_out leaves r (Refuses why) back log c blocks = refl
+left_out leaves r (Stores carried stored) back log c blocks = refl
 
 -- what lands is as long as the block's cells
 abbrev IsLong : (size : ℕ) → Result (List ℕ) Why → Type 0
@@ -59,6 +60,7 @@ module _ (own m : Setting) where
     pub writes : (e : Brought) → writing own b e ≡ writing m a e
     pub reads : (blocks : List (List ℕ)) → reading own b blocks ≡ reading m a blocks
     pub stored : stored_cell own.site (route own b) ≡ stored_cell m.site (route m a)
+    pub leaves : (old frame : List ℕ) → own.site.device.leaves (route own b) old frame ≡ m.site.device.leaves (route m a) old frame
 
   -- ---- writes, one after another
 
@@ -80,8 +82,8 @@ module _ (own m : Setting) where
         let w = way_out own.site.faults own.site.device (route own (f j)) (own_frame (route own (f j)) app (gather 0 (body j) s.bytes)) in
         let same : stored_of w ≡ writing m (g j) (e j) = a.writes x ∙ ap (writing m (g j)) (brought j (omega arith) (omega arith)) in
         let why : (tell (act_of own (write_at j)) s).why ≡ why_of (writing m (g j) (e j)) = why_out (route own (f j)) w [] _ ∙ ap why_of same in
-        let left : next.blocks ≡ stored_at (stored_cell m.site (route m (g j))) (writing m (g j) (e j)) s.blocks
-        = left_out (route own (f j)) w [] _ (stored_cell own.site (route own (f j))) s.blocks ∙ (λ i. stored_at (a.stored i) (same i) s.blocks) in
+        let left : next.blocks ≡ stored_at (stored_cell m.site (route m (g j))) (m.site.device.leaves (route m (g j))) (writing m (g j) (e j)) s.blocks
+        = left_out (own.site.device.leaves (route own (f j))) (route own (f j)) w [] _ (stored_cell own.site (route own (f j))) s.blocks ∙ (λ i. stored_at (a.stored i) (λ old frame. a.leaves old frame i) (same i) s.blocks) in
         record {
           whys = λ i. why i ∷ r.whys i;
           blocks = r.blocks ∙ ap (written m (each_from (suc j) n g) (each_from (suc j) n e)) left;

@@ -10,7 +10,7 @@ use Rattle.integrity_payload.specs.declared.payload.Owner.{Owner}
 use Rattle.bio_core.specs.declared.fate.Why.{Why}
 use Rattle.bio_core.specs.declared.fate.Why.TheVariants.{Medium}
 use Rattle.block_path.specs.Acts.{Act, State, act, tell}
-use Rattle.block_path.specs.Blocks.{ActAnswer, fetched_cell, own_frame, read_by, silent, stored_cell, written_by}
+use Rattle.block_path.specs.Blocks.{ActAnswer, fetched_cell, own_frame, read_by, silent, stored_cell, stored_over, written_by}
 use Rattle.block_path.specs.Serial.{plain_tells}
 use Rattle.block_path.specs.WayIn.{Delivers, Spoils, Stops, WayIn, delivered_of, way_in}
 use Rattle.block_path.specs.WayOut.{Fails, Refuses, Stores, WayOut, from_adapter, mapped_out, stored_of, to_wire, way_out}
@@ -22,7 +22,7 @@ use Rattle.walk_laws.specs.Steps.{Reads, Step, Writes, each_from}
 use Rattle.walk_laws.proofs.CalmRuns.{room as block_ends}
 use Rattle.walk_laws.proofs.Passed.{AllBelow, Distinct}
 use Rattle.walk_laws.proofs.InSteps.{each_length, each_split, later_blocks, same_pages, stepped, stepped_append, tells_at}
-use Rattle.run_laws.specs.StoreFaults.{failing, fallen, leaving, may_fall, or_fallen}
+use Rattle.run_laws.specs.StoreFaults.{failing, fallen, leaving, may_fall, or_fallen, over_failing}
 use Rattle.run_laws.proofs.Parts.{landed}
 use Rattle.run_laws.proofs.Turns.{share_bound, turn_below, turn_distinct, turn_from, turn_length}
 use Rattle.mirror_laws.specs.OnLegs.{why_of}
@@ -64,7 +64,7 @@ module _ (own : Setting) (falls : Block → Option (List ℕ)) where
 
   -- what is stored by a write, by what is found of it
   pub record WritesSo (b : Block) (x : Brought) (s next : State) (why : Option Why) : Type 0 where
-    pub stores : why ≡ None → (stored : List ℕ) × ((writing own b x ≡ Ok stored) × (next.blocks ≡ set s.blocks (stored_cell own.site (route own b)) stored))
+    pub stores : why ≡ None → (stored : List ℕ) × ((writing own b x ≡ Ok stored) × (next.blocks ≡ set s.blocks (stored_cell own.site (route own b)) (own.site.device.leaves (route own b) (get_or s.blocks (stored_cell own.site (route own b)) []) stored)))
     pub may : (stored : List ℕ) → writing own b x ≡ Ok stored → (why ≡ None) ⊎ (why ≡ Some Medium)
     pub stays : (w : Why) → why ≡ Some w → IsOther w → next.blocks ≡ s.blocks
     pub elsewhere : (c : ℕ) → (stored_cell own.site (route own b) ≡ c → ⊥) → get_or next.blocks c [] ≡ get_or s.blocks c []
@@ -91,8 +91,12 @@ module _ (own : Setting) (falls : Block → Option (List ℕ)) where
     abbrev Is : (blocks : List (List ℕ)) (bytes : List ℕ) → Option Why → Type 0
     Is blocks bytes why = WritesSo b x s (record s { blocks = blocks; bytes = bytes }) why
 
+    -- what is left of a stored frame
+    abbrev left_over : List ℕ → List ℕ
+    left_over stored = own.site.device.leaves r (get_or s.blocks c []) stored
+
     -- as it is
-    straight : (w : WayOut) → stored_of w ≡ writing own b x → Is (scatter (c ∷ []) (written_by r w [] logged).written.blocks s.blocks) s.bytes (written_by r w [] logged).answer.why
+    straight : (w : WayOut) → stored_of w ≡ writing own b x → Is (scatter (c ∷ []) (map left_over (written_by r w [] logged).written.blocks) s.blocks) s.bytes (written_by r w [] logged).answer.why
     straight (Fails why) e = record {
       stores = λ n. absurd cc;
       may = λ stored q. absurd (let z = e ∙ q in cc);
@@ -113,14 +117,14 @@ module _ (own : Setting) (falls : Block → Option (List ℕ)) where
       stores = λ n. (stored, (sym e, refl));
       may = λ stored q. inl refl;
       stays = λ w q o. absurd cc;
-      elsewhere = λ d off. get_or-set_other s.blocks c d stored [] (λ z. off (sym z));
-      size = length-set s.blocks c stored;
+      elsewhere = λ d off. get_or-set_other s.blocks c d (left_over stored) [] (λ z. off (sym z));
+      size = length-set s.blocks c (left_over stored);
       bytes = refl;
     }
 
     -- and where its store call fails
     crooked : (left : List ℕ) (w : Result (List ℕ) Check) → to_wire own.site.faults r (mapped_out r frame) ≡ w →
-        Is (scatter (c ∷ []) (leaving left (written_by r (from_adapter failing r w) [] logged)).written.blocks s.blocks) s.bytes (leaving left (written_by r (from_adapter failing r w) [] logged)).answer.why
+        let e = leaving left (stored_over (over_failing own).site r (get_or s.blocks c []) (written_by r (from_adapter failing r w) [] logged)) in Is (scatter (c ∷ []) e.written.blocks s.blocks) s.bytes e.answer.why
     crooked left (Ok carried) e = record {
       stores = λ n. absurd cc;
       may = λ stored q. inr refl;
@@ -322,7 +326,7 @@ module _ (own : Setting) (falls : Block → Option (List ℕ)) where
 
       -- one of them
       pub record Wrote (k : ℕ) : Type 0 where
-        pub stores : get_or (whys write_at n s) k None ≡ None → (stored : List ℕ) × ((writing own (b k) (brought k) ≡ Ok stored) × (get_or (final write_at n s).blocks (cell_at k) [] ≡ stored))
+        pub stores : get_or (whys write_at n s) k None ≡ None → (stored : List ℕ) × ((writing own (b k) (brought k) ≡ Ok stored) × (get_or (final write_at n s).blocks (cell_at k) [] ≡ own.site.device.leaves (route own (b k)) (get_or s.blocks (cell_at k) []) stored))
         pub may : (stored : List ℕ) → writing own (b k) (brought k) ≡ Ok stored → (get_or (whys write_at n s) k None ≡ None) ⊎ (get_or (whys write_at n s) k None ≡ Some Medium)
         pub stays : (w : Why) → get_or (whys write_at n s) k None ≡ Some w → IsOther w → get_or (final write_at n s).blocks (cell_at k) [] ≡ get_or s.blocks (cell_at k) []
 
@@ -342,7 +346,14 @@ module _ (own : Setting) (falls : Block → Option (List ℕ)) where
           record {
             stores = λ e.
                 (let x = one.stores (sym at ∙ e) in
-                (x.0, (x.1.0, after ∙ ap (λ (bs : List (List ℕ)). get_or bs (cell_at k) []) x.1.1 ∙ get_or-set_same z.blocks (cell_at k) x.0 [] (omega (arith, inside, size)))));
+                let left = own.site.device.leaves (route own (b k)) in (
+                  x.0,
+                  (
+                    x.1.0,
+                    after ∙ ap (λ (bs : List (List ℕ)). get_or bs (cell_at k) []) x.1.1
+                        ∙ get_or-set_same z.blocks (cell_at k) (left (get_or z.blocks (cell_at k) []) x.0) [] (omega (arith, inside, size)) ∙ ap (λ old. left old x.0) before,
+                  ),
+                ));
             may = λ stored e. subst (λ (w : Option Why). (w ≡ None) ⊎ (w ≡ Some Medium)) (sym at) (one.may stored e);
             stays = λ w e o. after ∙ ap (λ (bs : List (List ℕ)). get_or bs (cell_at k) []) (one.stays w (sym at ∙ e) o) ∙ before;
           }

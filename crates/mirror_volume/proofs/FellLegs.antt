@@ -17,7 +17,7 @@ use Rattle.stack_ops.specs.declared.reply.Reply.TheVariants.{Silent}
 use Rattle.stack_ops.specs.Ops.{is_overwrite}
 use Rattle.walk_laws.specs.Past.{Brought, steps_from}
 use Rattle.walk_laws.specs.ScriptWalk.{bad_from, walk_from, whole_or_bad}
-use Rattle.walk_laws.specs.Settings.{Block, Setting}
+use Rattle.walk_laws.specs.Settings.{Block, Setting, route}
 use Rattle.walk_laws.specs.Steps.{Step, each_from}
 use Rattle.walk_laws.specs.UnderMap.{home}
 use Rattle.walk_laws.proofs.InSteps.{each_length}
@@ -66,7 +66,7 @@ whys-count own falls f n s =
 
 -- What a write of these blocks leaves, each with its data, by what is found of each: their cells before and after it.
 pub record WroteEach (m : Setting) (n : ℕ) (b : ℕ → Block) (x : ℕ → Brought) (old new : List (List ℕ)) (found : List (Option Why)) : Type 0 where
-  pub stores : (k : ℕ) → k < n → get_or found k None ≡ None → (stored : List ℕ) × ((writing m (b k) (x k) ≡ Ok stored) × (get_or new (home m (b k).virt) [] ≡ stored))
+  pub stores : (k : ℕ) → k < n → get_or found k None ≡ None → (stored : List ℕ) × ((writing m (b k) (x k) ≡ Ok stored) × (get_or new (home m (b k).virt) [] ≡ m.site.device.leaves (route m (b k)) (get_or old (home m (b k).virt) []) stored))
   pub may : (k : ℕ) → k < n → (stored : List ℕ) → writing m (b k) (x k) ≡ Ok stored → (get_or found k None ≡ None) ⊎ (get_or found k None ≡ Some Medium)
   pub stays : (k : ℕ) → k < n → (w : Why) → get_or found k None ≡ Some w → IsOther w → get_or new (home m (b k).virt) [] ≡ get_or old (home m (b k).virt) []
   pub elsewhere : (c : ℕ) → ((k : ℕ) → k < n → home m (b k).virt ≡ c → ⊥) → get_or new c [] ≡ get_or old c []

@@ -173,7 +173,16 @@ module _ (s : Script) (t : Table) (half : ℕ) (p : Piece) (is : IsMirrorScript 
 
       all : WroteEach m n there brought (blocks_told us) (blocks_told left) found
       all = record {
-        stores = λ k l e. (let x = (one k l).stores e in (x.0, (sym (same-write k l) ∙ x.1.0, sym (left-at k l) ∙ x.1.1)));
+        stores = λ k l e.
+            (let x = (one k l).stores e in (
+              x.0,
+              (
+                sym (same-write k l) ∙ x.1.0,
+                sym (left-at k l) ∙ x.1.1
+                    ∙ (alike s t half p is fits us (suc pages) k l).leaves (get_or (blocks_told us) (stored_cell own.site (route own (its k))) []) x.0
+                    ∙ ap (λ (c : ℕ). m.site.device.leaves (route m (there k)) (get_or (blocks_told us) c []) x.0) (cell-is k l),
+              ),
+            ));
         may = λ k l stored e. (one k l).may stored (same-write k l ∙ e);
         stays = λ k l why e o. sym (left-at k l) ∙ (one k l).stays why e o ∙ ap (λ (x : ℕ). get_or (blocks_told us) x []) (cell-is k l);
         elsewhere = λ c off. ap (λ (bs : List (List ℕ)). get_or bs c []) blocks-are

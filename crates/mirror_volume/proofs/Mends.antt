@@ -46,7 +46,7 @@ module _ (s : Script) (t : Table) (half : ℕ) (quiet : NoneOfZero s.faults) (is
   record WroteOne (k : ℕ) (on1 : Bool) (u : ℕ) (e : Brought) (us next : List Stored) (run : LegRun) : Type 0 where
     why : get_or (found_by 1 (replies_of run)) 0 None ≡ why_of (writing (steady base) (at k on1 u) e)
     shapes : shapes_of next ≡ units
-    blocks : blocks_told next ≡ stored_at (stored_cell (steady base).site (route (steady base) (at k on1 u))) (writing (steady base) (at k on1 u) e) (blocks_told us)
+    blocks : blocks_told next ≡ stored_at (stored_cell (steady base).site (route (steady base) (at k on1 u))) ((steady base).site.device.leaves (route (steady base) (at k on1 u))) (writing (steady base) (at k on1 u) e) (blocks_told us)
 
   write-one : (k : ℕ) (on1 : Bool) (u : ℕ) (e : Brought) (us next : List Stored) (run : LegRun) → u < half → length e.body ≡ s.block → shapes_of us ≡ units → run.own ≡ write_script s half (piece on1 u) e.app e.body
       → HasWalked run.own t us next (pool_of run) run.records (replies_of run) → WroteOne k on1 u e us next run
@@ -72,7 +72,7 @@ module _ (s : Script) (t : Table) (half : ℕ) (quiet : NoneOfZero s.faults) (is
             ∙ found-last 1 (pages_for (1 * s.block)) (whys_written (setting_of (without_faults s) t (shapes_of us) none_fails) (blocks_of half p) (brought_each s.block e.app 1 e.body)) (ap length whys) ∙ whys);
         shapes = mine.shapes ∙ same;
         blocks = g.blocks ∙ (λ i. written (here i) (bs i) (es i) (blocks_told us))
-            ∙ ap (λ came. stored_at (stored_cell q.site (route q (at k on1 u))) came (blocks_told us)) under;
+            ∙ ap (λ came. stored_at (stored_cell q.site (route q (at k on1 u))) (q.site.device.leaves (route q (at k on1 u))) came (blocks_told us)) under;
       }
 
   -- all that these blocks need, from block u on

@@ -49,7 +49,7 @@ use Rattle.mirror_volume.specs.Legs.{ReadOnLeg, WroteOnLeg, blocks_of, mirror_se
 use Rattle.mirror_volume.specs.MirrorScript.{IsMirrorScript, IsPiece}
 use Rattle.mirror_volume.proofs.Blocks.{Alike, AreRead, AreWritten, all_read, all_written}
 use Rattle.mirror_volume.proofs.Puts.{puts_walk, replies_puts, walk_puts}
-use Rattle.mirror_volume.proofs.Renumbered.{altered_same, in_same, medium_same, out_same, own_flips, still, wire_same}
+use Rattle.mirror_volume.proofs.Renumbered.{altered_same, in_same, kept_same, medium_same, out_same, own_flips, still, wire_same}
 use Rattle.mirror_volume.proofs.Turns.{body_cells, gathered}
 
 -- ---- pages for so many bytes
@@ -140,6 +140,7 @@ module _ (s : Script) (t : Table) (half : ℕ) (p : Piece) (is : IsMirrorScript 
               ap (λ at. delivered_of (way_in faults (target faults) (route own (block_of request v k)) OfBlock (get_or blocks (cell dev at) []))) medium
               ∙ ap delivered_of (in_same faults s.faults q r (v + k) dev lba t.ty s.block s.mode a unshifted OfBlock (get_or blocks (fetched_cell m.site (route m (there k))) []));
           stored = ap (cell dev) wire;
+          leaves = λ old frame. kept_same p request s.faults k l old frame;
         }
 
   -- its cells

@@ -18,10 +18,10 @@ use Rattle.block_path.specs.WayIn.{delivered_of, way_in}
 use Rattle.block_path.specs.WayOut.{stored_of}
 use Rattle.walk_laws.specs.Past.{Brought}
 use Rattle.walk_laws.specs.Settings.{Block, Setting, route}
-use Rattle.script_text.specs.Bindings.{is_shift, or_else, request_at}
+use Rattle.script_text.specs.Bindings.{or_else, request_at, stored_bytes}
 use Rattle.script_text.specs.declared.script.Script.{Script}
 use Rattle.mirror_volume.proofs.LegsPassed.{if-none, or-none}
-use Rattle.mirror_volume.specs.LegsPassed.{faults_fault, is_bad_line, is_past, length_fault, mirror_fault, mode_fault, ops_fault, Each}
+use Rattle.mirror_volume.specs.LegsPassed.{faults_fault, is_bad_kind, is_bad_line, is_past, length_fault, mirror_fault, mode_fault, ops_fault, Each}
 use Rattle.mirror_laws.specs.Repair.{reading, steady, writing}
 use Rattle.mirror_volume.specs.declared.piece.Piece.{Piece}
 use Rattle.mirror_volume.specs.Inner.{first_label, first_virt, own_faults, own_script, page_segs, pages_for, puts, read_pi_script, write_script}
@@ -36,22 +36,22 @@ NoneOfZero faults = Each (λ f. f.op ≡ 0 → ⊥) faults
 not-of-zero : (ops : List Op) (f : FaultLine) → is_past f.k (request_at ops f.op) ≡ false → f.op ≡ 0 → ⊥
 not-of-zero ops f h e = false≢true (sym h ∙ ap (λ (n : ℕ). is_past f.k (request_at ops n)) e)
 
-none-named : (protect : ℕ) (ops : List Op) (faults : List FaultLine) (lines : List ℕ) → length faults ≤ length lines → faults_fault protect ops faults lines ≡ None → NoneOfZero faults
-none-named protect ops [] lines l h = tt
-none-named protect ops (f ∷ faults) [] l h = absurd (omega arith)
-none-named protect ops (f ∷ faults) (line ∷ lines) l h =
-    let n = if-none (is_bad_line protect ops f) _ (faults_fault protect ops faults lines) h in
-    let a = or_parts (not (eqb protect 1)) (is_shift f.kind || is_past f.k (request_at ops f.op)) n.0 in
-    (not-of-zero ops f ((or_parts (is_shift f.kind) (is_past f.k (request_at ops f.op)) a.1).1), none-named protect ops faults lines (omega arith) n.1)
+none-named : (protect stored : ℕ) (ops : List Op) (earlier faults : List FaultLine) (lines : List ℕ) → length faults ≤ length lines → faults_fault protect stored ops earlier faults lines ≡ None → NoneOfZero faults
+none-named protect stored ops earlier [] lines l h = tt
+none-named protect stored ops earlier (f ∷ faults) [] l h = absurd (omega arith)
+none-named protect stored ops earlier (f ∷ faults) (line ∷ lines) l h =
+    let n = if-none (is_bad_line protect stored ops earlier f) _ (faults_fault protect stored ops (earlier ++ (f ∷ [])) faults lines) h in
+    let a = or_parts (not (eqb protect 1)) (is_past f.k (request_at ops f.op) || is_bad_kind stored earlier f f.kind) n.0 in
+    (not-of-zero ops f ((or_parts (is_past f.k (request_at ops f.op)) (is_bad_kind stored earlier f f.kind) a.1).0), none-named protect stored ops (earlier ++ (f ∷ [])) faults lines (omega arith) n.1)
 
 pub none-of-zero : (s : Script) (t : Table) (devices : List DeviceInfo) → length s.lines ≡ length s.faults + length s.ops → mirror_fault s t devices ≡ None → NoneOfZero s.faults
 none-of-zero s t devices l h =
     let ops = ops_fault s.mode.protect t devices s.block s.ops (drop (length s.faults) s.lines) in
-    let faults = faults_fault s.mode.protect s.ops s.faults s.lines in
+    let faults = faults_fault s.mode.protect (stored_bytes t.ty s.block) s.ops [] s.faults s.lines in
     let a = or-none (mode_fault s.mode t.ty) (or_else (length_fault (volume_len t.entries)) (or_else faults ops)) h in
     let b = or-none (length_fault (volume_len t.entries)) (or_else faults ops) a.1 in
     let c = or-none faults ops b.1 in
-    none-named s.mode.protect s.ops s.faults s.lines (omega (arith, l)) c.0
+    none-named s.mode.protect (stored_bytes t.ty s.block) s.ops [] s.faults s.lines (omega (arith, l)) c.0
 
 none-own : (p : Piece) (request : ℕ) (faults : List FaultLine) → p.op ≡ 0 → NoneOfZero faults → own_faults p request faults ≡ []
 none-own p request [] e h = refl

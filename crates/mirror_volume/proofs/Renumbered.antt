@@ -6,12 +6,12 @@ use Rattle.std.proofs.lemmas.Bool.Decides.{eqb_tells}
 use Rattle.std.proofs.Math.Bool.{and-false}
 use Rattle.pi_tuple.specs.declared.checks.Check.{Check}
 use Rattle.pi_tuple.specs.declared.checks.PiType.{PiType}
-use Rattle.fault_schedule.specs.Altered.{altered, flip_at, is_line_of, is_same, moved_by, named, named_by, shift_of, xored_from}
+use Rattle.fault_schedule.specs.Altered.{altered, flip_at, is_line_of, is_same, keep_by, keep_of, keep_or, kept, kept_by, kept_bytes, moved_by, named, named_by, shift_of, xored_from}
 use Rattle.fault_schedule.specs.declared.Label.{Label}
 use Rattle.fault_schedule.specs.declared.fault.Crossing.{Crossing}
 use Rattle.fault_schedule.specs.declared.fault.Crossing.TheVariants.{AdapterToHost, AdapterToTarget, HostToAdapter, MediumToTarget, TargetToAdapter, TargetToMedium}
 use Rattle.fault_schedule.specs.declared.fault.FaultKind.{FaultKind}
-use Rattle.fault_schedule.specs.declared.fault.FaultKind.TheVariants.{Flip, Shift}
+use Rattle.fault_schedule.specs.declared.fault.FaultKind.TheVariants.{Flip, Shift, Keep}
 use Rattle.fault_schedule.specs.declared.fault.FaultLine.{FaultLine}
 use Rattle.integrity_payload.specs.declared.payload.Owner.{Owner}
 use Rattle.bio_core.specs.declared.fate.Why.{Why}
@@ -32,7 +32,7 @@ use Rattle.mirror_volume.specs.Inner.{first_label, own_faults}
 
 -- ---- what is named
 
-eqb_same : (a b c d : ℕ) → (a ≡ b → c ≡ d) → (c ≡ d → a ≡ b) → eqb a b ≡ eqb c d
+pub eqb_same : (a b c d : ℕ) → (a ≡ b → c ≡ d) → (c ≡ d → a ≡ b) → eqb a b ≡ eqb c d
 eqb_same a b c d to back = elim (eqb_tells a b) [
   | inl same ↦ same.0 ∙ sym (eq-eqb c d (to same.1))
   | inr other ↦ elim (eqb_tells c d) [
@@ -90,6 +90,19 @@ module _ (p : Piece) (request : ℕ) where
   pub altered_same : (faults : List FaultLine) (k : ℕ) → k < p.n → (at : Crossing) (x : List ℕ) → altered (own_faults p request faults) at (own_label k) x ≡ altered faults at (mirror_label k) x
   altered_same faults k l at x = λ j. xored_from (λ i. named_same faults at k i l j) 0 x
 
+  keep_same : (faults : List FaultLine) (k : ℕ) → k < p.n → keep_of (own_faults p request faults) (own_label k) ≡ keep_of faults (mirror_label k)
+  keep_same [] k l = refl
+  keep_same (f ∷ faults) k l = by (is_own f) (keep_same faults k l) refl where
+    by : (c : Bool) → keep_of (own_faults p request faults) (own_label k) ≡ keep_of faults (mirror_label k) → is_own f ≡ c → keep_of (if c then own_line f ∷ own_faults p request faults else own_faults p request faults) (own_label k) ≡ keep_of (f ∷ faults) (mirror_label k)
+    by true rest h =
+        ap (λ c. keep_or (if c then kept_bytes f.kind else None) (keep_of (own_faults p request faults) (own_label k))) (line_same f TargetToMedium k h)
+        ∙ ap (keep_or (keep_by f (mirror_label k))) rest
+    by false rest h =
+        rest ∙ sym (ap (λ c. keep_or (if c then kept_bytes f.kind else None) (keep_of faults (mirror_label k))) (other_line f TargetToMedium k l h))
+
+  pub kept_same : (faults : List FaultLine) (k : ℕ) → k < p.n → (old frame : List ℕ) → kept (own_faults p request faults) (own_label k) old frame ≡ kept faults (mirror_label k) old frame
+  kept_same faults k l old frame = ap (λ n. kept_by n old frame) (keep_same faults k l)
+
   pub own_flips : (faults : List FaultLine) → Each (λ f. is_shift f.kind ≡ false) faults → Each (λ f. is_shift f.kind ≡ false) (own_faults p request faults)
   own_flips [] h = tt
   own_flips (f ∷ faults) h = by (is_own f) (own_flips faults h.1) where
@@ -102,6 +115,7 @@ module _ (p : Piece) (request : ℕ) where
 none_moved : (c : Bool) (kind : FaultKind) → is_shift kind ≡ false → (if c then moved_by kind else None) ≡ None
 none_moved true (Flip off bytes) h = refl
 none_moved true (Shift by) h = absurd (cc)
+none_moved true (Keep bytes) h = refl
 none_moved false kind h = refl
 
 pub still : (faults : List FaultLine) → Each (λ f. is_shift f.kind ≡ false) faults → (at : Crossing) (op : ℕ) → shift_of faults at op ≡ pos 0

@@ -7,7 +7,7 @@ use Rattle.fault_schedule.specs.declared.fault.Crossing.TheVariants.{MediumToTar
 use Rattle.fault_schedule.specs.declared.fault.FaultLine.{FaultLine}
 use Rattle.block_path.specs.Acts.{State}
 use Rattle.walk_laws.specs.Detectable.{found}
-use Rattle.walk_laws.specs.FirstLayer.{AtTarget, has_flip}
+use Rattle.walk_laws.specs.FirstLayer.{AtTarget, has_flip, is_stored_whole}
 use Rattle.walk_laws.specs.Settings.{Block, Setting}
 use Rattle.walk_laws.specs.UnderMap.{home}
 use Rattle.run_laws.specs.ShownRun.{IsChecked}
@@ -21,10 +21,11 @@ use Rattle.mirror_volume.proofs.Free.{comes, stores}
 use Rattle.mirror_volume.proofs.SparedShown.{comes-so, stops-so, stores-so}
 use Rattle.mirror_volume.proofs.SparedWrites.{IsFree, IsShown}
 
-pub is-free : (m : Setting) (opening : State) (half : ℕ) (still : (at : Crossing) (op : ℕ) → shift_of m.site.faults at op ≡ pos 0) → IsChecked m → (b : Block) → IsUnnamed m b → IsFree m m.size b
-is-free m opening half still is b unnamed =
+pub is-free : (m : Setting) (opening : State) (half : ℕ) (still : (at : Crossing) (op : ℕ) → shift_of m.site.faults at op ≡ pos 0) → IsChecked m → (b : Block) → IsUnnamed m b → is_stored_whole m b ≡ true → IsFree m m.size b
+is-free m opening half still is b unnamed all =
     let same : m ≡ checked m = checked_form m is in
     record {
+      whole = all;
       stores = λ e whole expected.
           (let x = stores m opening half still b unnamed e whole expected in
           (x.stored, (ap (λ (z : Setting). writing z b e) same ∙ x.is, x.holds)));
@@ -35,10 +36,11 @@ is-free m opening half still is b unnamed =
 
 pub is-shown-block : (m : Setting) (opening : State) (half : ℕ) (still : (at : Crossing) (op : ℕ) → shift_of m.site.faults at op ≡ pos 0) → IsChecked m → m.size % 2 ≡ 0 → All (λ (line : FaultLine). IsOfBytes line.kind) m.site.faults
     → (altered : Type 0) (stopped : List ℕ → Type 0) (b : Block) → ((x : List ℕ) → stopped x → is_some (found m b x AtTarget) ≡ true) → ((at : Crossing) → has_flip m b at ≡ true → is_shown m.size (kind_at m.mode.kind at) (mask_of m.size m.site.faults at (record { op = b.op; k = b.k })) ≡ true)
-    → (has_flip m b TargetToMedium ≡ true → altered) → (altered → has_flip m b MediumToTarget ≡ false) → IsShown m m.size altered stopped b
-is-shown-block m opening half still is even flips altered stopped b finds shown marks apart =
+    → (has_flip m b TargetToMedium ≡ true → altered) → (altered → has_flip m b MediumToTarget ≡ false) → is_stored_whole m b ≡ true → IsShown m m.size altered stopped b
+is-shown-block m opening half still is even flips altered stopped b finds shown marks apart all =
     let same : m ≡ checked m = checked_form m is in
     record {
+      whole = all;
       stores = λ e whole bytes stored q. stores-so m opening half still even flips altered b shown marks apart e whole bytes stored (sym (ap (λ (z : Setting). writing z b e) same) ∙ q);
       comes = λ e blocks h frame q. comes-so m opening half still even flips altered b shown marks apart e blocks h frame (sym (ap (λ (z : Setting). reading z b blocks) same) ∙ q);
       stops = λ blocks stopped frame q.

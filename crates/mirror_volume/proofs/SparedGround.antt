@@ -16,7 +16,7 @@ use Rattle.block_path.proofs.Cells.{below}
 use Rattle.run_laws.proofs.Passed.{below_take}
 use Rattle.stack_ops.specs.Ops.{first_virt}
 use Rattle.small_laws.proofs.Numbers.{even_size}
-use Rattle.walk_laws.specs.FirstLayer.{has_flip}
+use Rattle.walk_laws.specs.FirstLayer.{has_flip, is_stored_whole}
 use Rattle.walk_laws.specs.Past.{Brought, brought_by}
 use Rattle.walk_laws.specs.Settings.{Block, Setting}
 use Rattle.walk_laws.specs.UnderMap.{home}
@@ -112,13 +112,14 @@ module _ (s : Script) (devices : List DeviceInfo) (us : List Stored) (over : IsM
     is-checked = checked-over s devices us over p.ty p.protect
 
     -- a block of a request that no line names
-    pub free : (b : Block) → IsUnnamed m b → IsFree m s.block b
-    free b h = is-free m (opening_over s us) half (λ at op. (legs s devices us over).unshifted at op) is-checked b h
+    pub free : (b : Block) → IsUnnamed m b → is_stored_whole m b ≡ true → IsFree m s.block b
+    free b h all = is-free m (opening_over s us) half (λ at op. (legs s devices us over).unshifted at op) is-checked b h all
 
     -- that of op k on its leg
     pub free-at : (k : ℕ) → k < length s.ops → has_block (first_virt (op_at s.ops k)) (blocks_in (op_at s.ops k)) u ≡ true → IsFree m s.block (named_on s devices leg u (op_at s.ops k) (k + 1))
     free-at k under here =
         free (named_on s devices leg u (op_at s.ops k) (k + 1)) (λ at. false_from_ne_true (has_flip m (named_on s devices leg u (op_at s.ops k) (k + 1)) at) (λ f. p.unnamed k at (record { under = under; here = here; flips = f })))
+        (p.stored_whole k under here leg)
 
     -- and on the other
     pub shown-at : (k : ℕ) → k < length s.ops → has_block (first_virt (op_at s.ops k)) (blocks_in (op_at s.ops k)) u ≡ true → IsShown m s.block (Altered s devices us u leg) (Stopped s devices us u leg k) (named_on s devices (not leg) u (op_at s.ops k) (k + 1))
@@ -127,6 +128,7 @@ module _ (s : Script) (devices : List DeviceInfo) (us : List Stored) (over : IsM
         is-shown-block m (opening_over s us) half (λ at op. (legs s devices us over).unshifted at op) is-checked (even_size s.block over.bound.keeps.block_is) (lines-bytes s.block s.ops s.faults over.bound.keeps.faults_are)
         (Altered s devices us u leg) (Stopped s devices us u leg k) b (λ x found. found k (omega arith) under here) (λ at f. p.shown k at (record { under = under; here = here; flips = f })) (λ f. (k, record { under = under; here = here; flips = f }))
         (λ altered. false_from_ne_true (has_flip m b MediumToTarget) (λ f. p.apart altered.0 k altered.1 (record { under = under; here = here; flips = f })))
+        (p.stored_whole k under here (not leg))
 
     sound-at : (c : Bool) → SoundAs m (place_on s devices c u) (brought_by s.block (stored_on s devices us us c u)) (stored_on s devices us us c u)
     sound-at c =

@@ -1,13 +1,14 @@
 -- The repair of a mirror where store calls may fail: a leg's block that no request names is left as it is.
-use Rattle.std.proofs.Common.{◌≡◌, ◌<◌, ◌≤◌, inl, inr, ℕ, zero, suc, ◌+◌, ◌-◌, ◌*◌, Bool, true, false, ◌&&◌, ◌||◌, eqb, List, [], ◌∷◌, ◌++◌, length, min, get_or, replicate, take, drop, Option, None, refl, sym, ap, subst, ◌∙◌, arith}
+use Rattle.std.proofs.Common.{◌≡◌, ◌<◌, ◌≤◌, inl, inr, ℕ, zero, suc, ◌+◌, ◌-◌, ◌*◌, Bool, true, false, ◌&&◌, ◌||◌, eqb, if◌then◌else◌, List, [], ◌∷◌, ◌++◌, length, min, get_or, replicate, take, drop, Option, None, refl, sym, ap, subst, ◌∙◌, arith}
 use Rattle.std.specs.Prelude.{Ok, is_some}
 use Rattle.std.specs.List.{list_any}
 use Rattle.std.proofs.lemmas.Bool.{and_parts, eqb-true, false≢true, or_parts}
 use Rattle.std.proofs.lemmas.List.{get_or-drop, get_or-map, get_or-replicate, get_or-take, length-drop, length-map, length-replicate, length-take-le}
 use Rattle.pi_guard.specs.Guards.{crc}
 use Rattle.pi_tuple.proofs.TupleLaws.{same_fields}
-use Rattle.fault_schedule.specs.Altered.{is_line_of, is_same}
+use Rattle.fault_schedule.specs.Altered.{is_line_of, is_same, keep_of, keep_or, kept_bytes}
 use Rattle.fault_schedule.specs.declared.fault.Crossing.{Crossing}
+use Rattle.fault_schedule.specs.declared.fault.Crossing.TheVariants.{TargetToMedium}
 use Rattle.fault_schedule.specs.declared.fault.FaultLine.{FaultLine}
 use Rattle.fault_schedule.specs.declared.Label.{Label}
 use Rattle.bio_core.specs.declared.fate.Why.{Why}
@@ -15,7 +16,7 @@ use Rattle.rig_api.specs.Target.{Stored}
 use Rattle.volume_table.specs.Tables.{Table}
 use Rattle.volume_table.specs.declared.device.DeviceInfo.{DeviceInfo}
 use Rattle.dix_adapter.specs.Ways.{blocks_told, shapes_of}
-use Rattle.walk_laws.specs.FirstLayer.{is_flip}
+use Rattle.walk_laws.specs.FirstLayer.{is_all, is_flip, is_stored_whole}
 use Rattle.walk_laws.specs.Past.{Brought}
 use Rattle.walk_laws.specs.Settings.{Block, Setting}
 use Rattle.walk_laws.specs.UnderMap.{home}
@@ -59,6 +60,15 @@ none-flips (f ∷ faults) at label e h = by (is_line_of f at label) refl (none-f
       absurd (h.0 (eqb-true f.op label.op (and_parts (eqb f.op label.op) (eqb f.k label.k) (and_parts (is_same f.at at) (eqb f.op label.op && eqb f.k label.k) k).1).0 ∙ e))
   by false k rest = rest
 
+-- nor keeps a part of it from the medium
+none-keeps : (faults : List FaultLine) (label : Label) → label.op ≡ 0 → NoneOfZero faults → keep_of faults label ≡ None
+none-keeps [] label e h = refl
+none-keeps (f ∷ faults) label e h = by (is_line_of f TargetToMedium label) refl (none-keeps faults label e h.1) where
+  by : (c : Bool) → is_line_of f TargetToMedium label ≡ c → keep_of faults label ≡ None → keep_or (if c then kept_bytes f.kind else None) (keep_of faults label) ≡ None
+  by true k rest =
+      absurd (h.0 (eqb-true f.op label.op (and_parts (eqb f.op label.op) (eqb f.k label.k) (and_parts (is_same f.at TargetToMedium) (eqb f.op label.op && eqb f.k label.k) k).1).0 ∙ e))
+  by false k rest = rest
+
 -- a request that isn't named, and those behind it
 fails-parts : (v : ℕ) (r : LegRun) (runs : List LegRun) → fails_on_leg v (r ∷ runs) ≡ false → (names_medium v r.own.ops (replies_of r) ≡ false) × (fails_on_leg v runs ≡ false)
 fails-parts v r runs h = or_parts (names_medium v r.own.ops (replies_of r)) (fails_on_leg v runs) h
@@ -78,6 +88,9 @@ module _ (s : Script) (devices : List DeviceInfo) (us : List Stored) (over : IsM
 
   unnamed-zero : (b : Block) → b.op ≡ 0 → IsUnnamed m b
   unnamed-zero b z at = none-flips s.faults at (record { op = b.op; k = b.k }) z (none-of-zero s t devices over.bound.lines over.bound.bound)
+
+  whole-zero : (b : Block) → b.op ≡ 0 → is_stored_whole m b ≡ true
+  whole-zero b z = ap is_all (none-keeps s.faults (record { op = b.op; k = b.k }) z (none-of-zero s t devices over.bound.lines over.bound.bound))
 
   -- The leg is fresh, and has what the block was last written with.
   pub record Good (now : List Stored) (marks : List Marks) : Type 0 where
@@ -301,7 +314,7 @@ module _ (s : Script) (devices : List DeviceInfo) (us : List Stored) (over : IsM
         let under : j < n = omega (arith, l, a, wanted0-long) in
         let sound : SoundAs m (v + j) e (get_or (blocks_told now) (home m (v + j)) []) =
         subst (λ (x : ℕ). SoundAs m x e (get_or (blocks_told now) (home m x) [])) (ap (λ (c : Bool). place_on s devices c u) on ∙ sym at) g.sound in
-        let comes = (free s devices us over u leg p (block0 j) (unnamed-zero (block0 j) refl)).comes e (blocks_told now) sound in
+        let comes = (free s devices us over u leg p (block0 j) (unnamed-zero (block0 j) refl) (whole-zero (block0 j) refl)).comes e (blocks_told now) sound in
         let fine0 : fails_on_leg (v + j) by.looks0 ≡ false =
         subst (λ (x : ℕ). fails_on_leg x by.looks0 ≡ false) (ap (λ (c : Bool). place_on s devices c u) on ∙ sym at) (fails-first (place_on s devices leg u) by.looks0 (by.looks1 ++ by.mends) named-none) in
         let bit : get_or (fresh_on0 marks) j false ≡ true =
@@ -316,7 +329,7 @@ module _ (s : Script) (devices : List DeviceInfo) (us : List Stored) (over : IsM
         let place : place_on s devices leg u ≡ half + (v + j) = ap (λ (c : Bool). place_on s devices c u) on ∙ ap (λ (x : ℕ). half + x) (sym at) in
         let sound : SoundAs m (half + (v + j)) e (get_or (blocks_told now) (home m (half + (v + j))) []) =
         subst (λ (x : ℕ). SoundAs m x e (get_or (blocks_told now) (home m x) [])) place g.sound in
-        let comes = (free s devices us over u leg p (block1 j) (unnamed-zero (block1 j) refl)).comes e (blocks_told now) sound in
+        let comes = (free s devices us over u leg p (block1 j) (unnamed-zero (block1 j) refl) (whole-zero (block1 j) refl)).comes e (blocks_told now) sound in
         let fine1 : fails_on_leg (half + (v + j)) by.looks1 ≡ false =
         subst (λ (x : ℕ). fails_on_leg x by.looks1 ≡ false) place (fails-first (place_on s devices leg u) by.looks1 by.mends (fails-last (place_on s devices leg u) by.looks0 (by.looks1 ++ by.mends) named-none)) in
         let bit : get_or (fresh_on1 marks) j false ≡ true =

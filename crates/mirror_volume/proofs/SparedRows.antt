@@ -56,6 +56,7 @@ unaltered_row = record {
   unnamed = λ k at a. false≢true a.flips;
   shown = λ k at a. absurd (false≢true a.flips);
   apart = λ j k a b. false≢true a.flips;
+  stored_whole = λ k under here on. refl;
   right = right;
 }
 

@@ -10,6 +10,7 @@ use Rattle.walk_laws.specs.Past.{Brought, brought_by}
 use Rattle.walk_laws.specs.PlainMap.{as_expected}
 use Rattle.walk_laws.specs.ReadsAs.{listed_among, listed_in}
 use Rattle.walk_laws.specs.ScriptWalk.{bad_from, whole_or_bad}
+use Rattle.walk_laws.specs.FirstLayer.{is_stored_whole}
 use Rattle.walk_laws.specs.Settings.{Block, Setting}
 use Rattle.walk_laws.specs.UnderMap.{home}
 use Rattle.mirror_laws.specs.Mirror.{fresh, marked, marks_of, neither}
@@ -81,8 +82,9 @@ marks-in v (w ∷ whys) (o ∷ others) marks (suc k) e l h =
 
 -- ---- one block
 
--- a block that no fault line names: its write is stored, and what is stored right is delivered
+-- a block that no fault line names: its write is stored, all of it, and what is stored right is delivered
 pub record IsFree (m : Setting) (size : ℕ) (b : Block) : Type 0 where
+  pub whole : is_stored_whole m b ≡ true
   pub stores : (e : Brought) → IsWhole size e → as_expected m e.app ≡ true → (stored : List ℕ) × ((writing m b e ≡ Ok stored) × SoundAs m b.virt e stored)
   pub comes : (e : Brought) (blocks : List (List ℕ)) → SoundAs m b.virt e (get_or blocks (home m b.virt) []) → (frame : List ℕ) × ((reading m b blocks ≡ Ok frame) × ((length frame ≡ size + 8) × (brought_by size frame ≡ e)))
 
@@ -92,6 +94,7 @@ StandsOrStops m v e altered stopped x = StandsAs m v e altered x ⊎ stopped x
 
 -- A block whose alterations are shown, on a leg of which a line may have altered what is stored: what its write stores is right or spoilt, and of what is stored so a read delivers what is right alone. It delivers none of what is `stopped`.
 pub record IsShown (m : Setting) (size : ℕ) (altered : Type 0) (stopped : List ℕ → Type 0) (b : Block) : Type 0 where
+  pub whole : is_stored_whole m b ≡ true
   pub stores : (e : Brought) → IsWhole size e → AllBelow 256 e.body → (stored : List ℕ) → writing m b e ≡ Ok stored → StandsAs m b.virt e altered stored
   pub comes : (e : Brought) (blocks : List (List ℕ)) → StandsAs m b.virt e altered (get_or blocks (home m b.virt) []) → (frame : List ℕ) → reading m b blocks ≡ Ok frame → (length frame ≡ size + 8) × (brought_by size frame ≡ e)
   pub stops : (blocks : List (List ℕ)) → stopped (get_or blocks (home m b.virt) []) → (frame : List ℕ) → reading m b blocks ≡ Ok frame → ⊥

@@ -24,7 +24,9 @@ use Rattle.walk_laws.specs.Past.{Brought}
 use Rattle.walk_laws.specs.PlainMap.{as_expected}
 use Rattle.walk_laws.specs.ReadsAs.{listed_in}
 use Rattle.walk_laws.specs.ScriptWalk.{bad_from, whole_or_bad}
+use Rattle.walk_laws.specs.FirstLayer.{is_stored_whole}
 use Rattle.walk_laws.specs.Settings.{Block, Setting}
+use Rattle.walk_laws.proofs.Leaves.{leaves_whole}
 use Rattle.walk_laws.specs.UnderMap.{home}
 use Rattle.script_text.specs.declared.script.Script.{Script}
 use Rattle.script_stack.specs.Followed.{HasFallen, none_fails, setting_of}
@@ -224,13 +226,22 @@ module _ (s : Script) (devices : List DeviceInfo) (us : List Stored) (over : IsM
           let z = homes-apart s devices us over us refl (half + (v + a)) (v + j) (omega (arith, l, inside)) (omega (arith, at, in-range)) q in
           omega (arith, z, at, in-range)
 
+      -- it is stored whole on both legs
+      whole-on : (c : Bool) → is_stored_whole m (named_on s devices c u (Write v n body app) i) ≡ true
+      whole-on c = by leg c (free here).whole (shown here).whole where
+        by : (d c : Bool) → is_stored_whole m (named_on s devices d u (Write v n body app) i) ≡ true → is_stored_whole m (named_on s devices (not d) u (Write v n body app) i) ≡ true → is_stored_whole m (named_on s devices c u (Write v n body app) i) ≡ true
+        by false false here there = here
+        by false true here there = there
+        by true false here there = there
+        by true true here there = here
+
       wrote0 : LegWrote m (named_on s devices false u (Write v n body app) i) (brought j) (blocks_told left) (get_or found0 j None)
       wrote0 =
           let keep : get_or (blocks_told left) (home m (v + j)) [] ≡ get_or (blocks_told mid) (home m (v + j)) [] = l1.each.elsewhere (home m (v + j)) off0 in
           let b : block0 j ≡ named_on s devices false u (Write v n body app) i = λ x. record { op = i; k = j; virt = at x } in
           subst (λ (b : Block). LegWrote m b (brought j) (blocks_told left) (get_or found0 j None)) b
           (record {
-            stores = λ q. (let a = l0.each.stores j under q in (a.0, (a.1.0, keep ∙ a.1.1)));
+            stores = λ q. (let a = l0.each.stores j under q in (a.0, (a.1.0, keep ∙ a.1.1 ∙ leaves_whole m (block0 j) (whole-on false) (get_or (blocks_told now) (home m (v + j)) []) a.0)));
             may = λ stored q. l0.each.may j under stored q;
           })
 
@@ -238,7 +249,10 @@ module _ (s : Script) (devices : List DeviceInfo) (us : List Stored) (over : IsM
       wrote1 =
           let b : block1 j ≡ named_on s devices true u (Write v n body app) i = λ x. record { op = i; k = n + j; virt = half + at x } in
           subst (λ (b : Block). LegWrote m b (brought j) (blocks_told left) (get_or found1 j None)) b
-          (record { stores = λ q. l1.each.stores j under q; may = λ stored q. l1.each.may j under stored q })
+          (record {
+            stores = λ q. (let a = l1.each.stores j under q in (a.0, (a.1.0, a.1.1 ∙ leaves_whole m (block1 j) (whole-on true) (get_or (blocks_told mid) (home m (half + (v + j))) []) a.0)));
+            may = λ stored q. l1.each.may j under stored q;
+          })
 
       off : (c : Bool) → leg ≡ c → on_leg c (get_or found0 j None) (get_or found1 j None) ≡ Some Medium → ⊥
       off false g q =

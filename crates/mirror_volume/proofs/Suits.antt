@@ -2,7 +2,7 @@
 use Rattle.std.proofs.Common.{◌≡◌, ◌<◌, ◌≤◌, ℕ, zero, suc, ◌+◌, ◌-◌, ◌*◌, Bool, true, false, not, eqb, ◌&&◌, ◌||◌, if◌then◌else◌, List, [], ◌∷◌, ◌++◌, length, replicate, take, drop, Option, Some, None, refl, sym, ap, subst, ◌∙◌, arith, length-append, ◌⊎◌, inl, inr}
 use Rattle.std.specs.Prelude.{◌%◌, max, min, nat_le, nat_lt, slice_get}
 use Rattle.std.specs.List.{list_any}
-use Rattle.std.proofs.lemmas.Bool.{and_from, and_parts, eq-eqb, le-leb, le-ltb, leb-true, lt-ltb, ltb-true, ne_eqb}
+use Rattle.std.proofs.lemmas.Bool.{and_from, and_parts, eq-eqb, eqb-true, le-leb, le-ltb, leb-true, lt-ltb, ltb-true, ne_eqb, or_from, or_parts}
 use Rattle.std.proofs.lemmas.List.{append-nil, length-drop, length-replicate, length-take}
 use Rattle.std.proofs.lemmas.List.Folds.{list_any-append}
 use Rattle.pi_tuple.specs.declared.checks.PiType.{PiType}
@@ -12,7 +12,7 @@ use Rattle.page_pool.specs.Cuts.{behind, cut, front, past, upto}
 use Rattle.page_pool.specs.Places.{shares, total}
 use Rattle.page_pool.proofs.Cutting.{upto-0}
 use Rattle.fault_schedule.specs.declared.fault.FaultKind.{FaultKind}
-use Rattle.fault_schedule.specs.declared.fault.FaultKind.TheVariants.{Flip, Shift}
+use Rattle.fault_schedule.specs.declared.fault.FaultKind.TheVariants.{Flip, Shift, Keep}
 use Rattle.fault_schedule.specs.declared.fault.FaultLine.{FaultLine}
 use Rattle.stack_ops.specs.declared.op.Op.{Op}
 use Rattle.stack_ops.specs.declared.op.Op.TheVariants.{Fetch, FetchPi, Put, Write}
@@ -20,7 +20,7 @@ use Rattle.volume_table.specs.Places.{volume_len}
 use Rattle.volume_table.specs.Tables.{Table}
 use Rattle.volume_table.specs.declared.device.DeviceInfo.{DeviceInfo}
 use Rattle.script_lines.specs.declared.kind.ScriptKind.TheVariants.{BadFault, BadRange, BadSegments, SegOverlap, TooMany, NoIntegrity}
-use Rattle.script_text.specs.Bindings.{at_line, expect_fault, faults_fault, has_no_tuples, is_bad_kind, is_bad_on, is_shift, ops_fault, or_else, range_fault, request_at, request_by, shifts}
+use Rattle.script_text.specs.Bindings.{at_line, expect_fault, faults_fault, has_no_tuples, is_at_medium, is_bad_kind, is_bad_on, is_keep, is_shift, keeps_block, ops_fault, or_else, range_fault, request_at, request_by, stored_bytes}
 use Rattle.script_text.specs.Ops.{are_tuples, both_fault, data_fault, is_body, unless, where_inside}
 use Rattle.script_text.specs.Rules.{is_count}
 use Rattle.script_text.specs.Segments.{any_share, are_few_each, are_inside, are_whole_tuples, do_overlap, few_from, is_inside, is_whole}
@@ -31,10 +31,10 @@ use Rattle.mirror_script.specs.MirrorFaults.{names_blocks}
 use Rattle.mirror_volume.specs.declared.piece.Piece.{Piece}
 use Rattle.mirror_volume.specs.Inner.{first_label, first_virt, own_faults, page_segs, pages_for, puts, read_pi_script, read_script, write_script}
 use Rattle.mirror_volume.specs.Legs.{IsReady}
-use Rattle.mirror_volume.specs.MirrorScript.{IsMirrorScript, IsPiece, IsPieceWithTuples}
+use Rattle.mirror_volume.specs.MirrorScript.{AllFit, IsMirrorScript, IsPiece, IsPieceWithTuples, is_unfit}
 use Rattle.mirror_volume.proofs.OnLeg.{pages_least, pages_room}
 use Rattle.mirror_volume.proofs.Puts.{puts_length}
-use Rattle.mirror_volume.proofs.Renumbered.{is_own, own_line}
+use Rattle.mirror_volume.proofs.Renumbered.{eqb_same, is_own, own_line}
 use Rattle.script_stack.proofs.Passed.{tag_twice}
 
 -- ---- a limit
@@ -276,31 +276,96 @@ expects s ty h = by (Some (record { line = s.expect_line; kind = NoIntegrity }))
   by fault true b e = ap (λ (c : Bool). if c then fault else None) e
   by fault false b e = refl
 
-good_kind : (t : Table) (devices : List DeviceInfo) (was : Bool) (f : FaultLine) (request : ℕ × ℕ) (kind : FaultKind) → is_shift kind ≡ false → is_bad_kind t devices was f request kind ≡ false
-good_kind t devices was f request (Flip off bytes) h = refl
-good_kind t devices was f request (Shift moves) h = absurd (cc)
+good_kind : (t : Table) (devices : List DeviceInfo) (size : ℕ) (earlier : List FaultLine) (f : FaultLine) (request : ℕ × ℕ) (kind : FaultKind) → is_shift kind ≡ false → is_unfit (stored_bytes t.ty size) earlier f kind ≡ false →
+    is_bad_kind t devices size earlier f request kind ≡ false
+good_kind t devices size earlier f request (Flip off bytes) h k = refl
+good_kind t devices size earlier f request (Shift moves) h k = absurd (cc)
+good_kind t devices size earlier f request (Keep bytes) h k = k
 
-good_line : (t : Table) (devices : List DeviceInfo) (was : Bool) (f : FaultLine) (v n : ℕ) → f.k < n → is_shift f.kind ≡ false → is_bad_on t devices was f (Some (v, n)) ≡ false
-good_line t devices was f v n l h = ap (λ (c : Bool). not c || is_bad_kind t devices was f (v, n) f.kind) (lt-ltb f.k n l) ∙ good_kind t devices was f (v, n) f.kind h
+good_line : (t : Table) (devices : List DeviceInfo) (size : ℕ) (earlier : List FaultLine) (f : FaultLine) (v n : ℕ) → f.k < n → is_shift f.kind ≡ false → is_unfit (stored_bytes t.ty size) earlier f f.kind ≡ false →
+    is_bad_on t devices size earlier f (Some (v, n)) ≡ false
+good_line t devices size earlier f v n l h k = ap (λ (c : Bool). not c || is_bad_kind t devices size earlier f (v, n) f.kind) (lt-ltb f.k n l) ∙ good_kind t devices size earlier f (v, n) f.kind h k
 
-module _ (t : Table) (devices : List DeviceInfo) (ops : List Op) (p : Piece) (request v : ℕ) (there : request_at ops request ≡ Some (v, p.n)) where
-  own_fine : (faults : List FaultLine) → Each (λ f. is_shift f.kind ≡ false) faults → (earlier : List FaultLine) (lines : List ℕ) → faults_fault t devices ops earlier (own_faults p request faults) lines ≡ None
-  own_fine [] h earlier lines = refl
-  own_fine (f ∷ faults) h earlier lines = by (is_own p request f) refl (own_fine faults h.1) lines where
-    by : (c : Bool) → is_own p request f ≡ c → ((earlier : List FaultLine) (lines : List ℕ) → faults_fault t devices ops earlier (own_faults p request faults) lines ≡ None) → (lines : List ℕ) →
-        faults_fault t devices ops earlier (if c then own_line p request f ∷ own_faults p request faults else own_faults p request faults) lines ≡ None
+module _ (p : Piece) (request : ℕ) where
+  record IsIn (f : FaultLine) : Type 0 where
+    op : f.op ≡ p.op
+    low : first_label p ≤ f.k
+    high : f.k < first_label p + p.n
+
+  in_piece : (f : FaultLine) → is_own p request f ≡ true → IsIn f
+  in_piece f e =
+      let a = and_parts (eqb f.op p.op) (nat_le (first_label p) f.k && nat_lt f.k (first_label p + p.n)) e in
+      let b = and_parts (nat_le (first_label p) f.k) (nat_lt f.k (first_label p + p.n)) a.1 in
+      record { op = eqb-true f.op p.op a.0; low = leb-true (first_label p) f.k b.0; high = ltb-true f.k (first_label p + p.n) b.1 }
+
+  -- of two lines of the piece, the one keeps the other's block in its own script as in the mirror's
+  keeps_same : (f x : FaultLine) → IsIn f → IsIn x → keeps_block request (f.k - first_label p) (own_line p request x) ≡ keeps_block f.op f.k x
+  keeps_same f x a b =
+      let op : eqb request request ≡ eqb f.op x.op = eq-eqb request request refl ∙ sym (eq-eqb f.op x.op (a.op ∙ sym b.op)) in
+      let la = a.low in
+      let lb = b.low in
+      let k : eqb (f.k - first_label p) (x.k - first_label p) ≡ eqb f.k x.k = eqb_same (f.k - first_label p) (x.k - first_label p) f.k x.k (λ e. omega (arith, e, la, lb)) (λ e. omega (arith, e)) in
+      λ i. op i && (k i && is_keep x.kind)
+
+  none_keeps : (f : FaultLine) → IsIn f → (earlier : List FaultLine) → list_any (keeps_block f.op f.k) earlier ≡ false → list_any (keeps_block request (f.k - first_label p)) (own_faults p request earlier) ≡ false
+  none_keeps f a [] h = refl
+  none_keeps f a (x ∷ earlier) h = by (is_own p request x) refl (none_keeps f a earlier q.1) where
+    q : (keeps_block f.op f.k x ≡ false) × (list_any (keeps_block f.op f.k) earlier ≡ false)
+    q = or_parts (keeps_block f.op f.k x) (list_any (keeps_block f.op f.k) earlier) h
+
+    by : (c : Bool) → is_own p request x ≡ c → list_any (keeps_block request (f.k - first_label p)) (own_faults p request earlier) ≡ false →
+        list_any (keeps_block request (f.k - first_label p)) (if c then own_line p request x ∷ own_faults p request earlier else own_faults p request earlier) ≡ false
+    by true e rest =
+        or_from (keeps_block request (f.k - first_label p) (own_line p request x)) (list_any (keeps_block request (f.k - first_label p)) (own_faults p request earlier)) (keeps_same f x a (in_piece x e) ∙ q.0) rest
+    by false e rest = rest
+
+  own_fit : (stored : ℕ) (f : FaultLine) → IsIn f → (earlier : List FaultLine) (kind : FaultKind) → is_unfit stored earlier f kind ≡ false → is_unfit stored (own_faults p request earlier) (own_line p request f) kind ≡ false
+  own_fit stored f a earlier (Flip off bytes) h = refl
+  own_fit stored f a earlier (Shift moves) h = refl
+  own_fit stored f a earlier (Keep bytes) h =
+      let q = or_parts (not (is_at_medium f.at)) (nat_le stored bytes || list_any (keeps_block f.op f.k) earlier) h in
+      let r = or_parts (nat_le stored bytes) (list_any (keeps_block f.op f.k) earlier) q.1 in
+      or_from (not (is_at_medium f.at)) (nat_le stored bytes || list_any (keeps_block request (f.k - first_label p)) (own_faults p request earlier)) q.0
+      (or_from (nat_le stored bytes) (list_any (keeps_block request (f.k - first_label p)) (own_faults p request earlier)) r.0 (none_keeps f a earlier r.1))
+
+  own_behind : (earlier : List FaultLine) (f : FaultLine) → own_faults p request (earlier ++ (f ∷ [])) ≡ own_faults p request earlier ++ (if is_own p request f then own_line p request f ∷ [] else [])
+  own_behind [] f = by (is_own p request f) where
+    by : (c : Bool) → (let none : List FaultLine = [] in (if c then own_line p request f ∷ none else none) ≡ none ++ (if c then own_line p request f ∷ none else none))
+    by true = refl
+    by false = refl
+  own_behind (x ∷ earlier) f = by (is_own p request x) (own_behind earlier f) where
+    by : (c : Bool) → own_faults p request (earlier ++ (f ∷ [])) ≡ own_faults p request earlier ++ (if is_own p request f then own_line p request f ∷ [] else []) →
+        (if c then own_line p request x ∷ own_faults p request (earlier ++ (f ∷ [])) else own_faults p request (earlier ++ (f ∷ [])))
+        ≡ (if c then own_line p request x ∷ own_faults p request earlier else own_faults p request earlier) ++ (if is_own p request f then own_line p request f ∷ [] else [])
+    by true rest = ap (λ (xs : List FaultLine). own_line p request x ∷ xs) rest
+    by false rest = rest
+
+module _ (t : Table) (devices : List DeviceInfo) (size : ℕ) (ops : List Op) (p : Piece) (request v : ℕ) (there : request_at ops request ≡ Some (v, p.n)) where
+  own_fine : (faults : List FaultLine) → Each (λ f. is_shift f.kind ≡ false) faults → (earlier : List FaultLine) → AllFit (stored_bytes t.ty size) earlier faults → (lines : List ℕ) →
+      faults_fault t devices size ops (own_faults p request earlier) (own_faults p request faults) lines ≡ None
+  own_fine [] h earlier k lines = refl
+  own_fine (f ∷ faults) h earlier k lines = by (is_own p request f) refl (own_fine faults h.1 (earlier ++ (f ∷ [])) k.1) lines where
+    Fine : (was : List FaultLine) → Type 0
+    Fine was = (lines : List ℕ) → faults_fault t devices size ops was (own_faults p request faults) lines ≡ None
+
+    next : (c : Bool) → is_own p request f ≡ c → own_faults p request (earlier ++ (f ∷ [])) ≡ own_faults p request earlier ++ (if c then own_line p request f ∷ [] else [])
+    next c e = own_behind p request earlier f ∙ ap (λ (c : Bool). own_faults p request earlier ++ (if c then own_line p request f ∷ [] else [])) e
+
+    by : (c : Bool) → is_own p request f ≡ c → Fine (own_faults p request (earlier ++ (f ∷ []))) → (lines : List ℕ) →
+        faults_fault t devices size ops (own_faults p request earlier) (if c then own_line p request f ∷ own_faults p request faults else own_faults p request faults) lines ≡ None
     by true e rest [] = refl
     by true e rest (line ∷ lines) =
         let mine = own_line p request f in
-        let was = list_any (shifts request) earlier in
-        let a = and_parts (eqb f.op p.op) (nat_le (first_label p) f.k && nat_lt f.k (first_label p + p.n)) e in
-        let b = and_parts (nat_le (first_label p) f.k) (nat_lt f.k (first_label p + p.n)) a.1 in
-        let low = leb-true (first_label p) f.k b.0 in
-        let high = ltb-true f.k (first_label p + p.n) b.1 in
-        let good : is_bad_on t devices was mine (request_at ops request) ≡ false = ap (is_bad_on t devices was mine) there ∙ good_line t devices was mine v p.n (omega arith) h.0 in
-        ap (λ (c : Bool). if c then Some (record { line = line; kind = BadFault }) else faults_fault t devices ops (earlier ++ (mine ∷ [])) (own_faults p request faults) lines) good
-        ∙ rest (earlier ++ (mine ∷ [])) lines
-    by false e rest lines = rest earlier lines
+        let was = own_faults p request earlier in
+        let its = in_piece p request f e in
+        let low = its.low in
+        let high = its.high in
+        let good : is_bad_on t devices size was mine (request_at ops request) ≡ false =
+        ap (is_bad_on t devices size was mine) there ∙ good_line t devices size was mine v p.n (omega arith) h.0 (own_fit p request (stored_bytes t.ty size) f its earlier f.kind k.0) in
+        ap (λ (c : Bool). if c then Some (record { line = line; kind = BadFault }) else faults_fault t devices size ops (was ++ (mine ∷ [])) (own_faults p request faults) lines) good
+        ∙ ap (λ (xs : List FaultLine). faults_fault t devices size ops xs (own_faults p request faults) lines) (sym (next true e)) ∙ rest lines
+    by false e rest lines =
+        ap (λ (xs : List FaultLine). faults_fault t devices size ops xs (own_faults p request faults) lines) (sym (append-nil (own_faults p request earlier)) ∙ sym (next false e)) ∙ rest lines
 
 -- ops behind puts
 ops_behind : (t : Table) (devices : List DeviceInfo) (size page pages : ℕ) (bytes : List ℕ) (ops : List Op) → ((lines : List ℕ) → ops_fault t devices size ops lines ≡ None) → (lines : List ℕ) →
@@ -373,8 +438,8 @@ module _ (s : Script) (t : Table) (devices : List DeviceInfo) (half : ℕ) (p : 
         };
         lines = length-replicate {A = ℕ} (length own + 1) 0;
         bound =
-            all_none (expect_fault (read_script s half p) t.ty) (faults_fault t devices ops [] own lines) (ops_fault t devices s.block ops (drop (length own) lines)) (expected (read_script s half p))
-            (own_fine t devices ops p 1 (first_virt half p) refl s.faults is.flips [] lines)
+            all_none (expect_fault (read_script s half p) t.ty) (faults_fault t devices s.block ops [] own lines) (ops_fault t devices s.block ops (drop (length own) lines)) (expected (read_script s half p))
+            (own_fine t devices s.block ops p 1 (first_virt half p) refl s.faults is.flips [] is.keeps lines)
             (read_fine t devices s.block (first_virt half p) p.n segs lies (drop (length own) lines));
       }
 
@@ -402,8 +467,8 @@ module _ (s : Script) (t : Table) (devices : List DeviceInfo) (half : ℕ) (p : 
         };
         lines = length-replicate {A = ℕ} (length own + length ops) 0;
         bound =
-            all_none (expect_fault (write_script s half p app bytes) t.ty) (faults_fault t devices ops [] own lines) (ops_fault t devices s.block ops (drop (length own) lines)) (expected (write_script s half p app bytes))
-            (own_fine t devices ops p (suc pages) (first_virt half p) (ap request_by (got_behind 0 pages bytes op)) s.faults is.flips [] lines)
+            all_none (expect_fault (write_script s half p app bytes) t.ty) (faults_fault t devices s.block ops [] own lines) (ops_fault t devices s.block ops (drop (length own) lines)) (expected (write_script s half p app bytes))
+            (own_fine t devices s.block ops p (suc pages) (first_virt half p) (ap request_by (got_behind 0 pages bytes op)) s.faults is.flips [] is.keeps lines)
             (ops_behind t devices s.block 0 pages bytes (op ∷ []) (write_fine t devices s.block (first_virt half p) p.n app segs lies) (drop (length own) lines));
       }
 
@@ -439,8 +504,8 @@ module _ (s : Script) (t : Table) (devices : List DeviceInfo) (half : ℕ) (p : 
         };
         lines = length-replicate {A = ℕ} (length own + 1) 0;
         bound =
-            all_none (expect_fault (read_pi_script s half p) t.ty) (faults_fault t devices ops [] own lines) (ops_fault t devices s.block ops (drop (length own) lines))
+            all_none (expect_fault (read_pi_script s half p) t.ty) (faults_fault t devices s.block ops [] own lines) (ops_fault t devices s.block ops (drop (length own) lines))
             (expects (read_pi_script s half p) t.ty (has_tuples t.ty is.type_is))
-            (own_fine t devices ops p 1 (first_virt half p) refl s.faults is.flips [] lines)
+            (own_fine t devices s.block ops p 1 (first_virt half p) refl s.faults is.flips [] is.keeps lines)
             (read_pi_fine t devices s.block (first_virt half p) p.n data_segs tuples (omega (arith, w, g)) (drop (length own) lines));
       }

@@ -1,8 +1,11 @@
 -- What the scripts of a mirror's legs stand on.
-use Rattle.std.specs.Prelude.{ℕ, ◌≡◌, ◌⊎◌, ◌+◌, ◌*◌, ◌≤◌, true, false, []}
+use Rattle.std.specs.Prelude.{ℕ, ◌≡◌, ◌⊎◌, ◌+◌, ◌*◌, ◌≤◌, Bool, true, false, List, [], ◌∷◌, ◌++◌}
 use Rattle.volume_table.specs.Places.{volume_len}
 use Rattle.volume_table.specs.Tables.{Table}
-use Rattle.script_text.specs.Bindings.{is_shift}
+use Rattle.fault_schedule.specs.declared.fault.FaultKind.{FaultKind}
+use Rattle.fault_schedule.specs.declared.fault.FaultKind.TheVariants.{Flip, Shift, Keep}
+use Rattle.fault_schedule.specs.declared.fault.FaultLine.{FaultLine}
+use Rattle.script_text.specs.Bindings.{is_bad_keep, is_shift, stored_bytes}
 use Rattle.script_text.specs.declared.script.Script.{Script}
 use Rattle.script_stack.specs.Passed.{Each, IsProtect, IsWithin}
 use Rattle.mirror_script.specs.MirrorFaults.{names_blocks}
@@ -11,7 +14,18 @@ use Rattle.mirror_volume.specs.Inner.{pages_for}
 use Rattle.pi_tuple.specs.declared.TheConstants.{TUPLE}
 use Rattle.script_lines.specs.declared.TheConstants.{MOST_MEMORY}
 
--- A script on a mirror of `half` blocks: its requests bring tuples from the host to units of type 1 or 2, and no fault line is a shift. Its mode, limits and block size are such as a stack takes.
+-- A line that loses or tears a block can't be.
+abbrev pub is_unfit : (stored : ℕ) → (earlier : List FaultLine) → FaultLine → FaultKind → Bool
+is_unfit stored earlier f (Flip off bytes) = false
+is_unfit stored earlier f (Shift by) = false
+is_unfit stored earlier f (Keep bytes) = is_bad_keep stored earlier f bytes
+
+-- All of these can be, behind the earlier ones.
+abbrev pub AllFit : (stored : ℕ) → (earlier faults : List FaultLine) → Type 0
+AllFit stored earlier [] = Unit {0}
+AllFit stored earlier (f ∷ faults) = (is_unfit stored earlier f f.kind ≡ false) × AllFit stored (earlier ++ (f ∷ [])) faults
+
+-- A script on a mirror of `half` blocks: its requests bring tuples from the host to units of type 1 or 2, no fault line is a shift, and each that loses or tears a block can be. Its mode, limits and block size are such as a stack takes.
 pub record IsMirrorScript (s : Script) (t : Table) (half : ℕ) : Type 0 where
   pub protect_is : IsProtect s.mode.protect
   pub dix : s.mode.dix ≡ true
@@ -20,6 +34,7 @@ pub record IsMirrorScript (s : Script) (t : Table) (half : ℕ) : Type 0 where
   pub type_is : names_blocks t.ty ≡ true
   pub long : volume_len t.entries ≡ half + half
   pub flips : Each (λ f. is_shift f.kind ≡ false) s.faults
+  pub keeps : AllFit (stored_bytes t.ty s.block) [] s.faults
 
 -- The piece has blocks, they lie on the mirror, and their data have room in 256 pages.
 pub record IsPiece (size half : ℕ) (p : Piece) : Type 0 where

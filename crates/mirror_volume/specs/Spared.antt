@@ -24,7 +24,7 @@ use Rattle.stack_ops.specs.declared.reply.Reply.TheVariants.{Bad, Medium, Shown,
 use Rattle.volume_table.specs.declared.device.DeviceInfo.{DeviceInfo}
 use Rattle.volume_table.specs.Places.{place_in}
 use Rattle.walk_laws.specs.Detectable.{found}
-use Rattle.walk_laws.specs.FirstLayer.{AtTarget, has_flip}
+use Rattle.walk_laws.specs.FirstLayer.{AtTarget, has_flip, is_stored_whole}
 use Rattle.walk_laws.specs.Past.{Brought, brought_by}
 use Rattle.walk_laws.specs.PlainMap.{as_expected}
 use Rattle.walk_laws.specs.ReadsAs.{listed_in}
@@ -105,7 +105,7 @@ abbrev pub IsShownAt : Script → (at : Crossing) → Block → Type 0
 IsShownAt s at b = is_shown s.block (kind_at s.mode.kind at) (mask_of s.block s.faults at (record { op = b.op; k = b.k })) ≡ true
 
 -- The volume is of type 1, and commands have protect field 001b. Block u is clean on both legs, with the same data and application tag, and each write of it has the expected application tag, which is no escape.
--- On this leg no fault line alters it, and no op overwrites it. On the other its lines are shown wherever they alter it, and none alters it on its way from the medium if one does on its way there.
+-- On this leg no fault line alters it, and no op overwrites it. On the other its lines are shown wherever they alter it, and none alters it on its way from the medium if one does on its way there. On neither is but a part of it stored, or nothing: a leg that was told of a write that is lost is believed.
 pub record IsUnaltered (s : Script) (devices : List DeviceInfo) (us : List Stored) (u : ℕ) (leg : Bool) : Type 0 where
   pub ty : (table_of s devices).ty ≡ One
   pub protect : s.mode.protect ≡ 1
@@ -115,6 +115,7 @@ pub record IsUnaltered (s : Script) (devices : List DeviceInfo) (us : List Store
   pub unnamed : (k : ℕ) (at : Crossing) → IsAltered s devices us leg u k at → ⊥
   pub shown : (k : ℕ) (at : Crossing) → IsAltered s devices us (not leg) u k at → IsShownAt s at (named_on s devices (not leg) u (op_at s.ops k) (k + 1))
   pub apart : (j k : ℕ) → IsAltered s devices us (not leg) u j TargetToMedium → IsAltered s devices us (not leg) u k MediumToTarget → ⊥
+  pub stored_whole : (k : ℕ) → k < length s.ops → has_block (first_virt (op_at s.ops k)) (blocks_in (op_at s.ops k)) u ≡ true → (on : Bool) → is_stored_whole (mirror_setting s devices us) (named_on s devices on u (op_at s.ops k) (k + 1)) ≡ true
   pub right : (k : ℕ) → k < length s.ops → LeavesRight s devices us u leg (op_at s.ops k)
 
 -- ---- an overwrite of it on the other leg

@@ -25,6 +25,7 @@ fn copy_of(kind: &FaultKind) -> FaultKind
             bytes: bytes.copy(),
         },
         FaultKind::Shift { by } => FaultKind::Shift { by: *by },
+        FaultKind::Keep { bytes } => FaultKind::Keep { bytes: *bytes },
     }
 }
 
