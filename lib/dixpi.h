@@ -139,6 +139,12 @@ DIXPI_STATUS dixpi_strip_all(const uint8_t *blocks, size_t len, uint8_t *data, s
 /* dixpi_verify_from of blocks that lie over parts: a block may begin in one and end in another. */
 DIXPI_STATUS dixpi_verifyv(const struct iovec *blocks, size_t count, const struct dixpi_layout *layout,
                            const struct dixpi_want *want, uint64_t start, struct dixpi_found *found);
+/* dixpi_generate and dixpi_remap of such blocks: what the parts name is written, and the parts themselves are not. No two
+   of them overlap. */
+DIXPI_STATUS dixpi_generatev(const struct iovec *blocks, size_t count, const struct dixpi_layout *layout, uint16_t app,
+                             uint32_t first_ref);
+DIXPI_STATUS dixpi_remapv(const struct iovec *blocks, size_t count, const struct dixpi_layout *layout, uint32_t from,
+                          uint32_t to);
 
 /* The information of NVMe with a guard of 32 or 64 bits (NVM Command Set Specification, "End-to-end Data Protection"):
    sixteen bytes of metadata, high bytes first: guard, application tag of 16 bits, storage tag, reference tag. */

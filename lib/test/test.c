@@ -481,7 +481,10 @@ static void move_refusals(uint8_t *blocks, const struct iovec *parts, size_t cou
     IS(dixpi_strip_all(blocks, len, data, data_len + 1, bits, N / 8, l, &w, &f) == DIXPI_BAD_LENGTH);
     IS(dixpi_strip_all(blocks, len, data, data_len, bits, N / 8, l, &none, &f) == DIXPI_BAD_FIELD);
     IS(dixpi_verifyv(&one, 1, l, &w, 0, &f) == DIXPI_BAD_LENGTH);
+    IS(dixpi_generatev(&one, 1, l, 1, 2) == DIXPI_BAD_LENGTH && dixpi_remapv(&one, 1, l, 1, 2) == DIXPI_BAD_LENGTH);
     one.iov_len = len;
+    IS(dixpi_generatev(&one, 1, &bad, 1, 2) == DIXPI_BAD_LAYOUT);
+    IS(dixpi_remapv(&one, 1, &bad, 1, 2) == DIXPI_BAD_LAYOUT);
     IS(dixpi_verifyv(&one, 1, &bad, &w, 0, &f) == DIXPI_BAD_LAYOUT);
     IS(dixpi_verifyv(&one, 1, l, &none, 0, &f) == DIXPI_BAD_FIELD);
     IS(!memcmp(before, blocks, len) && !memcmp(kept, data, data_len) && bits[0] == 7 && bits[1] == 7 && bits[2] == 7);
@@ -489,6 +492,8 @@ static void move_refusals(uint8_t *blocks, const struct iovec *parts, size_t cou
     IS(dixpi_strip(NULL, 0, NULL, 0, l, &w, &f) == DIXPI_OK);
     IS(dixpi_strip_all(NULL, 0, NULL, 0, NULL, 0, l, &w, &f) == DIXPI_OK);
     IS(dixpi_verifyv(NULL, 0, l, &w, 0, &f) == DIXPI_OK && dixpi_verifyv(nothing, 2, l, &w, 9, &f) == DIXPI_OK);
+    IS(dixpi_generatev(NULL, 0, l, 1, 2) == DIXPI_OK && dixpi_generatev(nothing, 2, l, 1, 2) == DIXPI_OK);
+    IS(dixpi_remapv(NULL, 0, l, 1, 2) == DIXPI_OK && dixpi_remapv(nothing, 2, l, 1, 2) == DIXPI_OK);
     IS(same(f, NOTHING));
 }
 
@@ -528,6 +533,84 @@ static void moves(const struct dixpi_layout *l, struct dixpi_want w) {
         blocks[at] ^= flip;
         *byte_of(pieces, at) ^= flip;
     }
+}
+
+static int are_joined(const struct iovec *parts, size_t count, const uint8_t *bytes) {
+    size_t at = 0, differ = 0;
+    for (size_t i = 0; i < count; at += parts[i++].iov_len)
+        differ += parts[i].iov_len && memcmp(parts[i].iov_base, bytes + at, parts[i].iov_len);
+    return !differ;
+}
+
+/* Blocks over parts are made and remapped as the loops do. What lists the parts can't be written. */
+static void over_parts(const struct dixpi_layout *l, uint16_t app, uint32_t first) {
+    static uint8_t by_hand[N * MOST];
+    size_t len = (size_t)N * (l->data_size + l->meta_size), spoilt = drawn() % len;
+    struct iovec *parts = (struct iovec *)(void *)fenced(4096);
+    fill(by_hand, len);
+    size_t count = cut(by_hand, len, parts, 40);
+    if (mprotect(parts, 4096, PROT_READ))
+        exit(70);
+    IS(dixpi_generatev(parts, count, l, app, first) == DIXPI_OK);
+    generated(by_hand, N, l, app, first);
+    IS(are_joined(parts, count, by_hand));
+    by_hand[spoilt] ^= 1;
+    *byte_of(parts, spoilt) ^= 1;
+    IS(dixpi_remapv(parts, count, l, first, first + 1000) == DIXPI_OK);
+    remapped(by_hand, N, l, first, first + 1000);
+    IS(are_joined(parts, count, by_hand));
+}
+
+/* Three blocks of the smallest layouts, cut in three at each two places. */
+enum { FEW = 3, SHORT = FEW * 18, ROOM = SHORT + 8 };
+
+/* Lays bytes in three parts with others about them. */
+static void lay(uint8_t *room, const uint8_t *bytes, size_t first, size_t second, size_t len) {
+    memset(room, 0xEE, ROOM);
+    memcpy(room + 2, bytes, first);
+    memcpy(room + 4 + first, bytes + first, second - first);
+    memcpy(room + 6 + second, bytes + second, len - second);
+}
+
+static void cut_at(const struct dixpi_layout *l, const uint8_t *bytes, size_t first, size_t second) {
+    size_t len = FEW * (l->data_size + l->meta_size);
+    uint8_t room[ROOM], wanted[ROOM], line[SHORT], by_hand[SHORT];
+    struct iovec none = {NULL, 0};
+    struct iovec parts[] = {none, {room + 2, first}, none, {room + 4 + first, second - first}, none,
+                            {room + 6 + second, len - second}, none};
+    memcpy(line, bytes, len);
+    memcpy(by_hand, bytes, len);
+    lay(room, bytes, first, second, len);
+    IS(dixpi_generatev(parts, 7, l, 0x1234, 0xFFFFFFFE) == dixpi_generate(line, len, l, 0x1234, 0xFFFFFFFE));
+    generated(by_hand, FEW, l, 0x1234, 0xFFFFFFFE);
+    lay(wanted, by_hand, first, second, len);
+    IS(!memcmp(room, wanted, ROOM) && !memcmp(line, by_hand, len));
+    line[l->data_size + l->tuple_at + 5] ^= 4;
+    by_hand[l->data_size + l->tuple_at + 5] ^= 4;
+    lay(room, by_hand, first, second, len);
+    IS(dixpi_remapv(parts, 7, l, 0xFFFFFFFE, 7) == dixpi_remap(line, len, l, 0xFFFFFFFE, 7));
+    remapped(by_hand, FEW, l, 0xFFFFFFFE, 7);
+    lay(wanted, by_hand, first, second, len);
+    IS(!memcmp(room, wanted, ROOM) && !memcmp(line, by_hand, len));
+    parts[6] = (struct iovec){room, 1};
+    IS(dixpi_generatev(parts, 7, l, 1, 2) == DIXPI_BAD_LENGTH && dixpi_remapv(parts, 7, l, 7, 9) == DIXPI_BAD_LENGTH);
+    IS(!memcmp(room, wanted, ROOM));
+}
+
+static void each_cut(void) {
+    static const struct dixpi_layout small[] = {{0, 8, 0, 0, 0}, {7, 11, 2, 0, 0}, {0, 13, 5, 0, 0}};
+    uint8_t bytes[SHORT];
+    fill(bytes, SHORT);
+    for (size_t i = 0; i < sizeof small / sizeof *small; i++)
+        for (uint32_t k = 0; k < 6; k++) {
+            struct dixpi_layout l = small[i];
+            size_t len = FEW * (l.data_size + l.meta_size);
+            l.type = 1 + k % 3;
+            l.guard = k / 3;
+            for (size_t second = 0; second <= len; second += every)
+                for (size_t first = 0; first <= second; first++)
+                    cut_at(&l, bytes, first, second);
+        }
 }
 
 /* Parts of no bytes, which have no address, stand anywhere among others. */
@@ -607,6 +690,7 @@ static void blocks_in_line(struct dixpi_layout l) {
         generates(&l, w.app, first);
         apart(&l, w);
         moves(&l, w);
+        over_parts(&l, w.app, first);
     }
 }
 
@@ -1243,7 +1327,7 @@ int main(int count, char **words) {
     every = count > 1 ? 7 : 1;
     IS(dixpi_version() == 0x000300);
     void (*tests[])(void) = {guards,      tuples,        senses,         sent_senses, described_senses, texts, commands,
-                             empty_parts, sent_commands, drawn_commands, wide_guards, nvme_layouts};
+                             empty_parts, each_cut, sent_commands, drawn_commands, wide_guards, nvme_layouts};
     for (size_t i = 0; i < sizeof tests / sizeof *tests; i++) {
         tests[i]();
         give_back();

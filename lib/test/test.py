@@ -106,6 +106,8 @@ TYPES = {
         c_uint32, c_void_p, c_size_t, c_void_p, c_size_t, c_void_p, c_size_t, layout_at, want_at, found_at,
     ),
     "verifyv": (c_uint32, parts_at, c_size_t, layout_at, want_at, c_uint64, found_at),
+    "generatev": (c_uint32, parts_at, c_size_t, layout_at, c_uint16, c_uint32),
+    "remapv": (c_uint32, parts_at, c_size_t, layout_at, c_uint32, c_uint32),
     "cdb_encode": (c_uint32, cdb_at, c_void_p, number_at),
     "cdb_decode": (c_uint32, c_void_p, c_size_t, cdb_at),
     "cdb_len": (c_uint32, c_void_p, c_size_t),
@@ -248,6 +250,13 @@ holds("verifyv", dixpi.dixpi_verifyv(pieces, 4, layout, want, 0, found) == 1 and
 holds("verifyv behind it", dixpi.dixpi_verifyv(pieces, 4, layout, want, 2, found) == 1)
 holds("the tag in parts", tell(found) == (4, 8, 2, 3))
 holds("verifyv, a length", dixpi.dixpi_verifyv(pieces, 3, layout, want, 0, found) == 3)
+cuts = b"".join(it + bytes(8) for it in data)
+pieces, kept = parts(cuts[:515], b"", cuts[515:1050], cuts[1050:])
+holds("generatev", dixpi.dixpi_generatev(pieces, 4, layout, 0x1234, FIRST) == 0)
+holds("made over parts", b"".join(map(bytes, kept)) == whole)
+holds("remapv", dixpi.dixpi_remapv(pieces, 4, layout, FIRST, 5) == 0)
+holds("remapped over parts", b"".join(map(bytes, kept)) == moved)
+holds("generatev, a length", dixpi.dixpi_generatev(pieces, 3, layout, 0x1234, FIRST) == 3)
 
 sense, length, by_target = Sense(0x1234, 0xB, 0x10, 3, 1), c_uint32(), c_uint32()
 out = memory(bytes(20))

@@ -65,6 +65,8 @@ impl Judge for Table {
             "strip" => moves::stripped(alloc, layout, &mut words),
             "strip_all" => moves::all_stripped(alloc, layout, &mut words),
             "verifyv" => moves::verified(alloc, layout, &mut words),
+            "generatev" => moves::spread_generated(alloc, layout, &mut words),
+            "remapv" => moves::spread_remapped(alloc, layout, &mut words),
             "dix_verify" => apart::verified(alloc, layout, &mut words),
             "dix_generate" => apart::generated(alloc, layout, &mut words),
             "crc16v" | "ip_sumv" | "crc16_after" | "run_crc" | "run_ip" => {

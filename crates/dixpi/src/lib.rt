@@ -23,7 +23,9 @@ pub use blocks::{dixpi_generate, dixpi_remap, dixpi_verify, dixpi_verify_from};
 pub use commands::{dixpi_cdb_decode, dixpi_cdb_encode};
 pub use device::{dixpi_cdb_len, dixpi_command_decode, dixpi_command_encode, dixpi_protect_checks};
 pub use guards::{dixpi_crc16, dixpi_crc16_after, dixpi_crc16v, dixpi_ip_sum, dixpi_ip_sumv};
-pub use moves::{dixpi_insert, dixpi_strip, dixpi_strip_all, dixpi_verifyv};
+pub use moves::{
+    dixpi_generatev, dixpi_insert, dixpi_remapv, dixpi_strip, dixpi_strip_all, dixpi_verifyv,
+};
 pub use nvme::{
     dixpi_crc32c, dixpi_crc32c_after, dixpi_crc64_nvme, dixpi_crc64_nvme_after,
     dixpi_nvme_dix_generate, dixpi_nvme_dix_verify, dixpi_nvme_generate, dixpi_nvme_insert,

@@ -4,12 +4,17 @@ ghost use Rattle.std.specs.Prelude.{◌≡◌, ◌*◌, ◌/◌, ◌%◌, ◌^�
 ghost use Rattle.pi_blocks.specs.Blocks.{AreFineFrom, IsFirst, in_line};
 ghost use Rattle.pi_blocks.specs.Inserted.{AreMoved, inserted};
 ghost use Rattle.pi_blocks.specs.Layouts.{are_flags, is_good, stride_of};
-ghost use Rattle.pi_blocks.specs.Parts.{all_parts};
+ghost use Rattle.pi_blocks.specs.Made.{made_in_line};
+ghost use Rattle.pi_blocks.specs.Mapped.{all_mapped};
+ghost use Rattle.pi_blocks.specs.Parts.{StaySame, all_parts, all_parts_mut};
 ghost use Rattle.pi_blocks.specs.Spread.{AreSpread};
 ghost use Rattle.pi_blocks.specs.Stripped.{AreMarked, all_marked, all_stripped, bytes_for, stripped};
 
 use crate::status::{OK, status_of_none, told};
-use pi_blocks::{Found, Layout, Part, Want, insert, strip, strip_all, verify_spread};
+use pi_blocks::{
+    Found, Layout, Part, PartMut, Want, generate_spread, insert, remap_spread, strip, strip_all,
+    verify_spread,
+};
 
 /// Makes blocks of data that lie in parts: each block takes its data and gets its tuple, as `dixpi_generate` makes it.
 /// All other bytes of its metadata stay. Answers `OK`, or why data and blocks don't go together; then all stays.
@@ -125,4 +130,51 @@ pub extern "C" fn dixpi_verifyv(
     ensures stays { ¬ (result ≡ 1) → found.new ≡ found.old }
 {
     told(verify_spread(blocks, layout, want, start), found)
+}
+
+/// Makes the tuples of blocks that lie over parts, as `dixpi_generate` does of those in one piece: the parts may end
+/// anywhere, also within a tuple. Every other byte stays. Answers `OK`, or why the blocks are none; then all stays.
+#[unsafe(no_mangle)]
+pub extern "C" fn dixpi_generatev(
+    blocks: &mut [PartMut],
+    layout: &Layout,
+    app: u16,
+    first_ref: u32,
+) -> u32
+    ensures made { result ≡ 0 → AreSpread layout.now (length (all_parts_mut blocks.old))
+        × (all_parts_mut blocks.new ≡ made_in_line layout.now app first_ref
+        (length (all_parts_mut blocks.old) / stride_of layout.now) (all_parts_mut blocks.old)) }
+    ensures bad_layout { result ≡ 2 → (is_good layout.now ≡ false) × (blocks.new ≡ blocks.old) }
+    ensures bad_length { result ≡ 3 → (is_good layout.now ≡ true)
+        × ¬ ((length (all_parts_mut blocks.old) % stride_of layout.now ≡ 0)
+        × (length (all_parts_mut blocks.old) < 2 ^ 64))
+        × (blocks.new ≡ blocks.old) }
+    ensures one_of { (result ≡ 0) ⊎ ((result ≡ 2) ⊎ (result ≡ 3)) }
+    ensures same { StaySame blocks.old blocks.new }
+{
+    match generate_spread(blocks, layout, app, first_ref) {
+        Ok(()) => OK,
+        Err(why) => status_of_none(why),
+    }
+}
+
+/// Maps the reference tags of blocks that lie over parts, as `dixpi_remap` does of those in one piece: the parts may end
+/// anywhere, also within a tag. Every other byte stays. Answers `OK`, or why the blocks are none; then all stays.
+#[unsafe(no_mangle)]
+pub extern "C" fn dixpi_remapv(blocks: &mut [PartMut], layout: &Layout, from: u32, to: u32) -> u32
+    ensures mapped { result ≡ 0 → AreSpread layout.now (length (all_parts_mut blocks.old))
+        × (all_parts_mut blocks.new ≡ all_mapped layout.now from to
+        (length (all_parts_mut blocks.old) / stride_of layout.now) (all_parts_mut blocks.old)) }
+    ensures bad_layout { result ≡ 2 → (is_good layout.now ≡ false) × (blocks.new ≡ blocks.old) }
+    ensures bad_length { result ≡ 3 → (is_good layout.now ≡ true)
+        × ¬ ((length (all_parts_mut blocks.old) % stride_of layout.now ≡ 0)
+        × (length (all_parts_mut blocks.old) < 2 ^ 64))
+        × (blocks.new ≡ blocks.old) }
+    ensures one_of { (result ≡ 0) ⊎ ((result ≡ 2) ⊎ (result ≡ 3)) }
+    ensures same { StaySame blocks.old blocks.new }
+{
+    match remap_spread(blocks, layout, from, to) {
+        Ok(()) => OK,
+        Err(why) => status_of_none(why),
+    }
 }

@@ -15,3 +15,4 @@ pub mod Seeing
 pub mod Spreads
 pub mod StayLaws
 pub mod Tuples
+pub mod Written

@@ -1,6 +1,7 @@
 -- One more tag mapped in place; without reference tags nothing is.
 use Rattle.std.proofs.Common.{◌≡◌, ℕ, ◌+◌, ◌-◌, ◌*◌, ◌≤◌, Bool, true, false, ◌&&◌, eqb, if◌then◌else◌, List, length, take, drop, refl, ap, ◌∙◌, sym, arith}
 use Rattle.std.specs.Int.{w32, from_be_bytes, to_be_bytes}
+use Rattle.std.proofs.lemmas.Bool.{ne_eqb}
 use Rattle.std.proofs.lemmas.List.{length-drop, length-take, length-take-le, take_min}
 use Rattle.pi_tuple.specs.Finds.{has_ref_tag}
 use Rattle.pi_tuple.specs.Tuples.{ref_tag}
@@ -15,6 +16,11 @@ use Rattle.small_laws.proofs.Numbers.{next_block}
 
 exchange_or : (b : Bool) (from to : ℕ) (tag : List ℕ) → b ≡ true → (if b && eqb (from_be_bytes w32 tag) (ref_tag from) then to_be_bytes w32 (ref_tag to) else tag) ≡ exchanged from to tag
 exchange_or b from to tag e = ap (λ t. if t && eqb (from_be_bytes w32 tag) (ref_tag from) then to_be_bytes w32 (ref_tag to) else tag) e
+
+-- a tag that isn't that of the one address stays
+pub kept_by_exchange : (from to value own : ℕ) (tag : List ℕ) → from_be_bytes w32 tag ≡ value → own ≡ ref_tag from → ¬ (value ≡ own) → exchanged from to tag ≡ tag
+kept_by_exchange from to value own tag v o differ =
+    ap (λ t. if t then to_be_bytes w32 (ref_tag to) else tag) (ne_eqb (from_be_bytes w32 tag) (ref_tag from) (λ e. differ (sym v ∙ (e ∙ sym o))))
 
 -- in a type with reference tags one that is the block's is exchanged
 pub mapped_by_exchange : (ty : PiType) (from to : ℕ) (tag : List ℕ) → has_ref_tag ty ≡ true → remapped_tag ty from to tag ≡ exchanged from to tag

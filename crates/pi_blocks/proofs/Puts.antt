@@ -13,7 +13,7 @@ pub put_is_part : (at width : ℕ) (piece bytes : List ℕ) → length piece ≡
 put_is_part at width piece bytes e = ap (λ (rest : List ℕ). take at bytes ++ (piece ++ rest)) (ap (λ n. drop (at + n) bytes) e ∙ sym (drop-drop width at bytes))
 
 -- what lies behind a piece stays
-behind : (at n : ℕ) (piece bytes : List ℕ) → at + length piece ≤ n → at ≤ length bytes → drop n (put_at at piece bytes) ≡ drop n bytes
+pub behind : (at n : ℕ) (piece bytes : List ℕ) → at + length piece ≤ n → at ≤ length bytes → drop n (put_at at piece bytes) ≡ drop n bytes
 behind at n piece bytes h le = ap (drop n) (put_is_part at (length piece) piece bytes refl) ∙ drop-put_mid at (length piece) bytes piece n h le refl
 
 -- what a loop keeps that puts pieces from the front on: n are put, and from a place on all is as it was
@@ -55,7 +55,7 @@ less place piece n total h = record {
   in_turn = λ i j lt under. h.in_turn i j lt (omega arith);
 }
 
-put-length : (at : ℕ) (piece bytes : List ℕ) → at + length piece ≤ length bytes → length (put_at at piece bytes) ≡ length bytes
+pub put-length : (at : ℕ) (piece bytes : List ℕ) → at + length piece ≤ length bytes → length (put_at at piece bytes) ≡ length bytes
 put-length at piece bytes h =
     let a = length-append (take at bytes) (piece ++ drop (at + length piece) bytes) in
     let b = length-append piece (drop (at + length piece) bytes) in

@@ -120,7 +120,7 @@ fn place_of(parts: &[Part], layout: Layout, count: usize, start: u64) -> Place
     ensures placed { IsIn parts.now result }
     ensures left { start ≤ count → left_of parts.now result ≡ drop (start * layout.data_size) (all_parts parts.now) }
 {
-    let mut place = front();
+    let mut place = front(parts);
     let before = start.min(count as u64);
     skip(parts, &mut place, before as u128 * layout.data_size as u128);
     place
@@ -172,7 +172,7 @@ pub fn dix_generate(
         × (meta.new ≡ meta.old)) }
 {
     let layout = *layout;
-    let mut place = front();
+    let mut place = front(body);
     for i in 0..count_blocks(layout, body, meta)? {
         make(body, &mut place, meta, layout, i, app, first_ref);
     }

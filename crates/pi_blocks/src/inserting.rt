@@ -82,7 +82,7 @@ pub fn insert(
 {
     let layout = *layout;
     let stride = layout.stride();
-    let mut place = front();
+    let mut place = front(body);
     for i in 0..count_blocks(layout, body, blocks.len())? {
         let at = i * stride;
         fill(

@@ -15,6 +15,7 @@ mod layout;
 mod making;
 mod mapping;
 mod marks;
+mod over_parts;
 mod parts;
 mod run;
 mod seen;
@@ -23,6 +24,7 @@ mod single;
 mod spread;
 mod stripping;
 mod texts;
+mod writing;
 
 pub use apart::{dix_generate, dix_verify};
 pub use block::{Found, Want};
@@ -38,7 +40,8 @@ pub use laws::{
 pub use layout::{Layout, Refusal, Unchecked};
 pub use making::generate;
 pub use mapping::remap;
-pub use parts::{Part, crc16v, ip_sumv};
+pub use over_parts::{generate_spread, remap_spread};
+pub use parts::{Part, PartMut, crc16v, ip_sumv};
 pub use run::Run;
 pub use seen::Seen;
 pub use sensing::SenseFields;

@@ -3,8 +3,7 @@
 ghost use Rattle.std.specs.Prelude.{◌≡◌, ℕ, List, ◌++◌, ◌+◌, ◌-◌, ◌^◌, ◌<◌, ◌≤◌, length, take, drop};
 ghost use Rattle.pi_guard.specs.Guards.{crc, guard_of, ip};
 ghost use Rattle.pi_guard.specs.Stands.{Stands, kind_of};
-ghost use Rattle.pi_blocks.specs.Parts.{IsIn, all_parts, left_of, part_of};
-ghost use Rattle.pi_blocks.specs.declared.parts.Part.{Part as AnyPart};
+ghost use Rattle.pi_blocks.specs.Parts.{IsInside, all_of, all_parts, bytes_of_mut, bytes_of, first_of, left_in};
 
 use pi_guard::{GuardKind, GuardRun};
 
@@ -14,6 +13,39 @@ use pi_guard::{GuardKind, GuardRun};
 pub struct Part<'a> {
     /// The part's bytes.
     pub bytes: &'a [u8],
+}
+
+/// A part that may be written: in C a `struct iovec`.
+#[repr(C)]
+#[derive(Drop)]
+pub struct PartMut<'a> {
+    /// The part's bytes.
+    pub bytes: &'a mut [u8],
+}
+
+/// Parts of both kinds, as they are read.
+pub(crate) trait Readable {
+    ghost read: { Self → List ℕ };
+
+    /// The part's bytes.
+    fn bytes(&self) -> &[u8]
+        ensures { result.now ≡ read self.now };
+}
+
+impl Readable for Part<'_> {
+    ghost read = { bytes_of };
+
+    fn bytes(&self) -> &[u8] {
+        self.bytes
+    }
+}
+
+impl Readable for PartMut<'_> {
+    ghost read = { bytes_of_mut };
+
+    fn bytes(&self) -> &[u8] {
+        self.bytes
+    }
 }
 
 fn run_over(kind: GuardKind, parts: &[Part]) -> u16
@@ -43,14 +75,14 @@ pub fn ip_sumv(parts: &[Part]) -> u16
 /// A place in parts: the number of a part, and how many of its bytes lie before.
 #[derive(Clone, Copy)]
 pub(crate) struct Place {
-    part: usize,
-    at: usize,
+    pub(crate) part: usize,
+    pub(crate) at: usize,
 }
 
 /// The place before all bytes.
-pub(crate) fn front() -> Place
-    ensures inside { (parts : List AnyPart) → IsIn parts result }
-    ensures left { (parts : List AnyPart) → left_of parts result ≡ all_parts parts }
+pub(crate) fn front<P: Readable>(_parts: &[P]) -> Place
+    ensures inside { IsInside P.read _parts.now result }
+    ensures left { left_in P.read _parts.now result ≡ all_of P.read _parts.now }
 {
     Place { part: 0, at: 0 }
 }
@@ -63,27 +95,27 @@ fn behind(bytes: &[u8], at: usize) -> &[u8]
     &bytes[at..]
 }
 
-// The bytes of the part from the place on.
-fn rest_of<'a>(parts: &[Part<'a>], place: Place) -> &'a [u8]
-    requires inside { IsIn parts.now place }
-    requires more { 0 < length (left_of parts.now place) }
-    ensures rest { left_of parts.now place ≡ result.now ++ all_parts (drop (place.part + 1) parts.now) }
-    ensures ends { place.at + length result.now ≡ length (part_of (drop place.part parts.now)) }
+/// The bytes of the part from the place on.
+pub(crate) fn rest_of<P: Readable>(parts: &[P], place: Place) -> &[u8]
+    requires inside { IsInside P.read parts.now place }
+    requires more { 0 < length (left_in P.read parts.now place) }
+    ensures rest { left_in P.read parts.now place ≡ result.now ++ all_of P.read (drop (place.part + 1) parts.now) }
+    ensures ends { place.at + length result.now ≡ length (first_of P.read (drop place.part parts.now)) }
     ensures there { place.part < length parts.now }
     ensures fits { place.at + length result.now < 2 ^ 64 }
 {
-    behind(parts[place.part].bytes, place.at)
+    behind(parts[place.part].bytes(), place.at)
 }
 
 // Takes the next bytes that lie in one part, at most so many.
-fn take_part<'a>(parts: &[Part<'a>], place: &mut Place, wanted: usize) -> &'a [u8]
-    requires inside { IsIn parts.now place.old }
+fn take_part<'a, P: Readable>(parts: &'a [P], place: &mut Place, wanted: usize) -> &'a [u8]
+    requires inside { IsInside P.read parts.now place.old }
     requires some { 0 < wanted }
-    requires enough { wanted ≤ length (left_of parts.now place.old) }
+    requires enough { wanted ≤ length (left_in P.read parts.now place.old) }
     ensures taken { length result.now ≤ wanted }
-    ensures bytes { result.now ≡ take (length result.now) (left_of parts.now place.old) }
-    ensures inside { IsIn parts.now place.new }
-    ensures left { left_of parts.now place.new ≡ drop (length result.now) (left_of parts.now place.old) }
+    ensures bytes { result.now ≡ take (length result.now) (left_in P.read parts.now place.old) }
+    ensures inside { IsInside P.read parts.now place.new }
+    ensures left { left_in P.read parts.now place.new ≡ drop (length result.now) (left_in P.read parts.now place.old) }
     ensures less { wanted - length result.now + (length parts.now - place.new.part)
         < wanted + (length parts.now - place.old.part) }
 {
@@ -98,13 +130,13 @@ fn take_part<'a>(parts: &[Part<'a>], place: &mut Place, wanted: usize) -> &'a [u
 }
 
 // Takes so many bytes into a run.
-fn feed(parts: &[Part], place: &mut Place, run: &mut GuardRun, count: usize)
-    requires inside { IsIn parts.now place.old }
-    requires enough { count ≤ length (left_of parts.now place.old) }
-    ensures inside { IsIn parts.now place.new }
-    ensures left { left_of parts.now place.new ≡ drop count (left_of parts.now place.old) }
+fn feed<P: Readable>(parts: &[P], place: &mut Place, run: &mut GuardRun, count: usize)
+    requires inside { IsInside P.read parts.now place.old }
+    requires enough { count ≤ length (left_in P.read parts.now place.old) }
+    ensures inside { IsInside P.read parts.now place.new }
+    ensures left { left_in P.read parts.now place.new ≡ drop count (left_in P.read parts.now place.old) }
     ensures kind { kind_of run.new ≡ kind_of run.old }
-    ensures more { (b : List ℕ) → Stands run.old b → Stands run.new (b ++ take count (left_of parts.now place.old)) }
+    ensures more { (b : List ℕ) → Stands run.old b → Stands run.new (b ++ take count (left_in P.read parts.now place.old)) }
 {
     let mut wanted = count;
     while wanted > 0 {
@@ -115,12 +147,12 @@ fn feed(parts: &[Part], place: &mut Place, run: &mut GuardRun, count: usize)
 }
 
 /// Copies the next bytes of the parts, as many as there is room for.
-pub(crate) fn copy_next(parts: &[Part], place: &mut Place, out: &mut [u8])
-    requires inside { IsIn parts.now place.old }
-    requires enough { length out.old ≤ length (left_of parts.now place.old) }
-    ensures copied { out.new ≡ take (length out.old) (left_of parts.now place.old) }
-    ensures inside { IsIn parts.now place.new }
-    ensures left { left_of parts.now place.new ≡ drop (length out.old) (left_of parts.now place.old) }
+pub(crate) fn copy_next<P: Readable>(parts: &[P], place: &mut Place, out: &mut [u8])
+    requires inside { IsInside P.read parts.now place.old }
+    requires enough { length out.old ≤ length (left_in P.read parts.now place.old) }
+    ensures copied { out.new ≡ take (length out.old) (left_in P.read parts.now place.old) }
+    ensures inside { IsInside P.read parts.now place.new }
+    ensures left { left_in P.read parts.now place.new ≡ drop (length out.old) (left_in P.read parts.now place.old) }
 {
     let mut done = 0;
     while done < out.len() {
@@ -131,11 +163,11 @@ pub(crate) fn copy_next(parts: &[Part], place: &mut Place, out: &mut [u8])
 }
 
 /// Goes past so many bytes, which may be more than an address space has, as parts may share memory.
-pub(crate) fn skip(parts: &[Part], place: &mut Place, count: u128)
-    requires inside { IsIn parts.now place.old }
-    requires enough { count ≤ length (left_of parts.now place.old) }
-    ensures inside { IsIn parts.now place.new }
-    ensures left { left_of parts.now place.new ≡ drop count (left_of parts.now place.old) }
+pub(crate) fn skip<P: Readable>(parts: &[P], place: &mut Place, count: u128)
+    requires inside { IsInside P.read parts.now place.old }
+    requires enough { count ≤ length (left_in P.read parts.now place.old) }
+    ensures inside { IsInside P.read parts.now place.new }
+    ensures left { left_in P.read parts.now place.new ≡ drop count (left_in P.read parts.now place.old) }
 {
     let mut wanted = count;
     while wanted > 0 {
@@ -145,18 +177,18 @@ pub(crate) fn skip(parts: &[Part], place: &mut Place, count: u128)
 }
 
 /// The guard of the next so many bytes of the parts and of these behind them.
-pub(crate) fn guard_of_next(
-    parts: &[Part],
+pub(crate) fn guard_of_next<P: Readable>(
+    parts: &[P],
     place: &mut Place,
     kind: GuardKind,
     count: usize,
     behind: &[u8],
 ) -> u16
-    requires inside { IsIn parts.now place.old }
-    requires enough { count ≤ length (left_of parts.now place.old) }
-    ensures guard { result ≡ guard_of kind (take count (left_of parts.now place.old) ++ behind.now) }
-    ensures inside { IsIn parts.now place.new }
-    ensures left { left_of parts.now place.new ≡ drop count (left_of parts.now place.old) }
+    requires inside { IsInside P.read parts.now place.old }
+    requires enough { count ≤ length (left_in P.read parts.now place.old) }
+    ensures guard { result ≡ guard_of kind (take count (left_in P.read parts.now place.old) ++ behind.now) }
+    ensures inside { IsInside P.read parts.now place.new }
+    ensures left { left_in P.read parts.now place.new ≡ drop count (left_in P.read parts.now place.old) }
 {
     let mut run = GuardRun::new(kind);
     feed(parts, place, &mut run, count);

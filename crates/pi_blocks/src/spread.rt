@@ -4,31 +4,31 @@ ghost use Rattle.std.specs.Prelude.{◌≡◌, ℕ, List, ◌*◌, ◌/◌, ◌^
 ghost use Rattle.pi_tuple.specs.Tuples.{tuple_in};
 ghost use Rattle.pi_blocks.specs.Blocks.{Checked, in_line, looked};
 ghost use Rattle.pi_blocks.specs.Layouts.{NotChecked, are_flags, is_good, stride_of};
-ghost use Rattle.pi_blocks.specs.Parts.{IsIn, all_parts, left_of};
+ghost use Rattle.pi_blocks.specs.Parts.{IsIn, all_of, all_parts, left_of};
 ghost use Rattle.pi_blocks.specs.Spread.{AreSpread, NotSpread};
 
 use crate::block::compare;
-use crate::parts::{Place, copy_next, front, guard_of_next, skip};
+use crate::parts::{Place, Readable, copy_next, front, guard_of_next, skip};
 use crate::{Found, Layout, Part, Refusal, Unchecked, Want};
 use pi_tuple::{TUPLE, Tuple};
 
 // How many bytes the parts have, unless they are more than an address space has, as parts may share memory.
-fn total(parts: &[Part]) -> Option<usize>
-    ensures value { IfSome result (λ n. n ≡ length (all_parts parts.now)) }
-    ensures none { result ≡ None → ¬ (length (all_parts parts.now) < 2 ^ 64) }
+fn total<P: Readable>(parts: &[P]) -> Option<usize>
+    ensures value { IfSome result (λ n. n ≡ length (all_of P.read parts.now)) }
+    ensures none { result ≡ None → ¬ (length (all_of P.read parts.now) < 2 ^ 64) }
 {
     let mut total = 0usize;
     for part in parts {
-        total = total.checked_add(part.bytes.len())?;
+        total = total.checked_add(part.bytes().len())?;
     }
     Some(total)
 }
 
-// How many blocks the parts' bytes are.
-fn count_blocks(layout: Layout, parts: &[Part]) -> Result<usize, Refusal>
-    ensures count { IfOk result (λ n. AreSpread layout (length (all_parts parts.now))
-        × (n ≡ length (all_parts parts.now) / stride_of layout)) }
-    ensures refused { IfErr result (λ e. NotSpread layout (length (all_parts parts.now)) e) }
+/// How many blocks the parts' bytes are.
+pub(crate) fn count_blocks<P: Readable>(layout: Layout, parts: &[P]) -> Result<usize, Refusal>
+    ensures count { IfOk result (λ n. AreSpread layout (length (all_of P.read parts.now))
+        × (n ≡ length (all_of P.read parts.now) / stride_of layout)) }
+    ensures refused { IfErr result (λ e. NotSpread layout (length (all_of P.read parts.now)) e) }
 {
     if !layout.is_good() {
         return Err(Refusal::BadLayout);
@@ -77,7 +77,7 @@ fn place_of(parts: &[Part], layout: Layout, count: usize, start: u64) -> Place
     ensures placed { IsIn parts.now result }
     ensures left { start ≤ count → left_of parts.now result ≡ drop (start * stride_of layout) (all_parts parts.now) }
 {
-    let mut place = front();
+    let mut place = front(parts);
     let before = start.min(count as u64);
     skip(parts, &mut place, before as u128 * layout.stride() as u128);
     place

@@ -11,8 +11,8 @@ loop-i-init c =
     let l = c.args.layout.now in
     record {
       made = puts_none (place_apart l) (made_bytes l c.args.app c.args.first_ref (apart l (all_parts c.args.body.now) c.args.meta.now)) (0 * l.meta_size) c.args.meta.now;
-      placed = c.front-place.ensures.inside c.args.body.now;
-      left = c.front-place.ensures.left c.args.body.now ∙ all_left l.data_size (all_parts c.args.body.now);
+      placed = c.front-place.ensures.inside;
+      left = c.front-place.ensures.left ∙ all_left l.data_size (all_parts c.args.body.now);
     }
 
 pub loop-i-preserved : goal.loop-i-preserved

@@ -13,8 +13,8 @@ loop-i-init c =
     let body = all_parts c.args.body.now in
     record {
       made = puts_none (place_of_block l) (inserted_block l c.args.app c.args.first_ref body c.args.blocks.now) (0 * stride_of l) c.args.blocks.now;
-      placed = c.front-place.ensures.inside c.args.body.now;
-      left = c.front-place.ensures.left c.args.body.now ∙ all_left l.data_size body;
+      placed = c.front-place.ensures.inside;
+      left = c.front-place.ensures.left ∙ all_left l.data_size body;
     }
 
 pub loop-i-preserved : goal.loop-i-preserved

@@ -1,17 +1,17 @@
 use Rattle.std.proofs.Common.{◌≡◌, ◌≤◌, ◌-◌, ◌+◌, ◌++◌, List, ℕ, length, take, drop}
 use Rattle.pi_guard.specs.Stands.{Stands, kind_of}
-use Rattle.pi_blocks.specs.Parts.{IsIn, left_of}
+use Rattle.pi_blocks.specs.Parts.{IsInside, left_in}
 use Rattle.pi_blocks.proofs.parts.feed.Given as goal
 
 abbrev pub invariant-loop-wanted : goal.invariant-loop-wanted
-invariant-loop-wanted l = record {
-  inside : IsIn l.parts l.place;
+invariant-loop-wanted g l = record {
+  inside : IsInside g.P.Readable.read l.parts l.place;
   within : l.wanted ≤ l.count;
-  enough : l.wanted ≤ length (left_of l.parts l.place);
-  left : left_of l.parts l.place ≡ drop (l.count - l.wanted) (left_of l.parts l.initial.place);
+  enough : l.wanted ≤ length (left_in g.P.Readable.read l.parts l.place);
+  left : left_in g.P.Readable.read l.parts l.place ≡ drop (l.count - l.wanted) (left_in g.P.Readable.read l.parts l.initial.place);
   kind : kind_of l.run ≡ kind_of l.initial.run;
-  read : (b : List ℕ) → Stands l.initial.run b → Stands l.run (b ++ take (l.count - l.wanted) (left_of l.parts l.initial.place));
+  read : (b : List ℕ) → Stands l.initial.run b → Stands l.run (b ++ take (l.count - l.wanted) (left_in g.P.Readable.read l.parts l.initial.place));
 }
 
 abbrev pub decreases-loop-wanted : goal.decreases-loop-wanted
-decreases-loop-wanted l = l.wanted + (length l.parts - l.place.part)
+decreases-loop-wanted g l = l.wanted + (length l.parts - l.place.part)
