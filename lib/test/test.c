@@ -1322,12 +1322,38 @@ static void nvme_layouts(void) {
                         nvme_blocks((struct dixpi_nvme_layout){SIZES[k][0], SIZES[k][1], at_end, STORAGE[i][0], type, STORAGE[i][1]});
 }
 
+/* Memory that a call only reads may be given twice, or lie within other memory that it reads. */
+static void shared_reading(void) {
+    struct dixpi_layout l = {512, 8, 0, 1, DIXPI_CRC};
+    struct dixpi_want w = {7, 0, 0, DIXPI_CHECK_GUARD | DIXPI_CHECK_REF};
+    struct dixpi_found found;
+    uint8_t *block = fenced(520), *two = fenced(1040), *joined = fenced(1024);
+    for (size_t k = 0; k < 520; k++)
+        block[k] = (uint8_t)(k * 7 + 3);
+    IS(dixpi_generate(block, 520, &l, 0, 7) == DIXPI_OK);
+    struct iovec same[] = {{block, 512}, {block, 512}}, within[] = {{block, 300}, {block + 200, 312}};
+    memcpy(joined, block, 512);
+    memcpy(joined + 512, block, 512);
+    IS(dixpi_crc16v(same, 2) == crc_by_bits(0, joined, 1024));
+    memcpy(joined + 300, block + 200, 312);
+    IS(dixpi_crc16v(within, 2) == crc_by_bits(0, joined, 612));
+    /* both blocks are the first: the second has the tag before its own */
+    struct iovec twice[] = {{block, 520}, {block, 520}};
+    IS(dixpi_verifyv(twice, 2, &l, &w, 0, &found) == DIXPI_DIFFERS);
+    IS(found.block == 1 && found.check == DIXPI_CHECK_REF && found.expected == 8 && found.actual == 7);
+    IS(dixpi_insert(same, 2, two, 1040, &l, 0, 7) == DIXPI_OK);
+    IS(!memcmp(two, block, 520) && !memcmp(two + 520, block, 512) && two[1039] == 8);
+    /* data and metadata of one buffer */
+    struct iovec data = {block, 512};
+    IS(dixpi_dix_verify(&data, 1, block + 512, 8, &l, &w, &found) == DIXPI_OK);
+}
+
 int main(int count, char **words) {
     (void)words;
     every = count > 1 ? 7 : 1;
     IS(dixpi_version() == 0x000300);
     void (*tests[])(void) = {guards,      tuples,        senses,         sent_senses, described_senses, texts, commands,
-                             empty_parts, each_cut, sent_commands, drawn_commands, wide_guards, nvme_layouts};
+                             empty_parts, shared_reading, each_cut, sent_commands, drawn_commands, wide_guards, nvme_layouts};
     for (size_t i = 0; i < sizeof tests / sizeof *tests; i++) {
         tests[i]();
         give_back();
