@@ -1,5 +1,5 @@
--- A block is altered and kept, and an op shifted, by the lines of its op alone, and these stand between the first and the last of them.
-use Rattle.std.proofs.Common.{◌≡◌, ℕ, suc, ◌+◌, ◌-◌, ◌%◌, ◌<◌, ◌≤◌, min, eqb, List, [], ◌∷◌, ◌++◌, length, get_or, set, take, drop, refl, sym, ap, ◌∙◌, arith, inl, inr, bit_xor, cond, unwrap_or, length-take, length-drop}
+-- A block is altered, kept and failed, and an op shifted, by the lines of its op alone, and these stand between the first and the last of them.
+use Rattle.std.proofs.Common.{◌≡◌, ℕ, suc, ◌+◌, ◌-◌, ◌%◌, ◌<◌, ◌≤◌, min, eqb, List, [], ◌∷◌, ◌++◌, length, get_or, set, take, drop, refl, sym, ap, ◌∙◌, arith, inl, inr, bit_xor, cond, ◌||◌, unwrap_or, length-take, length-drop}
 use Rattle.std.proofs.lemmas.List.{append-nil, get_or-drop, get_or-take, get_or_default, get_or-set_other, get_or-set_same, take-append-drop}
 use Rattle.std.proofs.lemmas.List.Elements.{filter-append}
 use Rattle.std.proofs.lemmas.Bool.{cases_eq, ne_eqb, and_right}
@@ -9,7 +9,7 @@ use Rattle.fault_schedule.specs.declared.fault.Crossing.{Crossing}
 use Rattle.fault_schedule.specs.declared.fault.FaultLine.{FaultLine}
 use Rattle.fault_schedule.specs.declared.tamper.Span.{Span}
 use Rattle.fault_schedule.specs.declared.fault.Crossing.TheVariants.{TargetToMedium}
-use Rattle.fault_schedule.specs.Altered.{altered, is_same, keep_by, keep_of, keep_or, named, named_by, shift_by, shift_of}
+use Rattle.fault_schedule.specs.Altered.{altered, fails_by, fails_of, is_fail, is_same, keep_by, keep_of, keep_or, named, named_by, shift_by, shift_of}
 use Rattle.fault_schedule.specs.AnyOrder.{xored-same}
 use Rattle.fault_schedule.specs.Spans.{IsAround, lines_of_op}
 use Rattle.small_laws.proofs.Tests.{second_no}
@@ -47,6 +47,17 @@ keep-by-op (line ∷ lines) label = elim (eqb_tells line.op label.op) [
 -- and keep as many bytes of its block
 pub keep-same : (some lines : List FaultLine) (label : Label) → lines_of_op label.op some ≡ lines_of_op label.op lines → keep_of some label ≡ keep_of lines label
 keep-same some lines label e = sym (keep-by-op some label) ∙ (ap (λ t. keep_of t label) e ∙ keep-by-op lines label)
+
+fails-by-op : (lines : List FaultLine) (label : Label) → fails_of (lines_of_op label.op lines) label ≡ fails_of lines label
+fails-by-op [] label = refl
+fails-by-op (line ∷ lines) label = elim (eqb_tells line.op label.op) [
+  | inl e ↦ ap (λ b. fails_of (cond b (line ∷ lines_of_op label.op lines) (lines_of_op label.op lines)) label) e.0 ∙ ap (λ t. fails_by line label || t) (fails-by-op lines label)
+  | inr e ↦ rw (second_no (is_fail line.kind) (eqb line.op label.op) (eqb line.k label.k) e.0, e.0, fails-by-op lines label) refl
+]
+
+-- and say alike whether the medium fails it
+pub fails-same : (some lines : List FaultLine) (label : Label) → lines_of_op label.op some ≡ lines_of_op label.op lines → fails_of some label ≡ fails_of lines label
+fails-same some lines label e = sym (fails-by-op some label) ∙ (ap (λ t. fails_of t label) e ∙ fails-by-op lines label)
 
 none-of-op : (op : ℕ) (xs : List FaultLine) → ((k : ℕ) (d : FaultLine) → k < length xs → (get_or xs k d).op ≡ op → ⊥) → lines_of_op op xs ≡ []
 none-of-op op [] none = refl

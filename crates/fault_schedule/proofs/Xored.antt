@@ -5,7 +5,7 @@ use Rattle.std.proofs.lemmas.Bool.{cases_eq}
 use Rattle.std.proofs.lemmas.Grind.{common_steps}
 use Rattle.std.specs.Int.Bits.{xor_assoc, xor_zero_r}
 use Rattle.fault_schedule.specs.declared.fault.Crossing.{Crossing}
-use Rattle.fault_schedule.specs.declared.fault.FaultKind.TheVariants.{Keep, Shift}
+use Rattle.fault_schedule.specs.declared.fault.FaultKind.TheVariants.{Fail, Keep, Shift}
 use Rattle.fault_schedule.specs.declared.fault.FaultLine.{FaultLine}
 use Rattle.fault_schedule.specs.declared.Label.{Label}
 use Rattle.fault_schedule.specs.Altered.{altered, byte_at, is_line_of, named, named_by, xored_from}
@@ -64,6 +64,10 @@ shift-line line at label block by h is = none-xored _ 0 block (λ k. rw (h, is) 
 -- of which the medium keeps so much
 pub keep-line : (line : FaultLine) (at : Crossing) (label : Label) (block : List ℕ) (bytes : ℕ) → is_line_of line at label ≡ true → line.kind ≡ Keep bytes → block ≡ xored_from (named_by line at label) 0 block
 keep-line line at label block bytes h is = none-xored _ 0 block (λ k. rw (h, is) refl)
+
+-- which the medium fails
+pub fail-line : (line : FaultLine) (at : Crossing) (label : Label) (block : List ℕ) → is_line_of line at label ≡ true → line.kind ≡ Fail → block ≡ xored_from (named_by line at label) 0 block
+fail-line line at label block h is = none-xored _ 0 block (λ k. rw (h, is) refl)
 
 xored-twice : (f g : ℕ → ℕ) (i : ℕ) (xs : List ℕ) → xored_from g i (xored_from f i xs) ≡ xored_from (λ k. bit_xor (f k) (g k)) i xs
 xored-twice f g i [] = refl

@@ -1,9 +1,10 @@
 use Rattle.std.specs.Prelude.{ℕ, ◌+◌, ◌-◌, Bool, true, false, ◌&&◌, eqb, leb, if◌then◌else◌, List, [], ◌∷◌, slice_index, ℤ, pos, Option, Some, None, unwrap_or, bit_xor, ◌++◌, take, drop}
+use Rattle.std.specs.List.{list_any}
 use Rattle.fault_schedule.specs.declared.Label.{Label}
 use Rattle.fault_schedule.specs.declared.fault.Crossing.{Crossing}
 use Rattle.fault_schedule.specs.declared.fault.Crossing.TheVariants.{HostToAdapter, AdapterToTarget, TargetToMedium, MediumToTarget, TargetToAdapter, AdapterToHost}
 use Rattle.fault_schedule.specs.declared.fault.FaultKind.{FaultKind}
-use Rattle.fault_schedule.specs.declared.fault.FaultKind.TheVariants.{Flip, Shift, Keep}
+use Rattle.fault_schedule.specs.declared.fault.FaultKind.TheVariants.{Flip, Shift, Keep, Fail}
 use Rattle.fault_schedule.specs.declared.fault.FaultLine.{FaultLine}
 
 -- The two crossings are one.
@@ -29,6 +30,7 @@ abbrev pub flip_at : FaultKind → ℕ → ℕ
 flip_at (Flip off bytes) i = byte_at off bytes i
 flip_at (Shift by) i = 0
 flip_at (Keep bytes) i = 0
+flip_at Fail i = 0
 
 -- the byte that a line names for place i of the block of this label at this crossing
 abbrev pub named_by : FaultLine → Crossing → Label → ℕ → ℕ
@@ -53,6 +55,7 @@ abbrev pub moved_by : FaultKind → Option ℤ
 moved_by (Flip off bytes) = None
 moved_by (Shift by) = Some by
 moved_by (Keep bytes) = None
+moved_by Fail = None
 
 -- what a line moves the address of this op by, at this crossing
 abbrev pub shift_by : FaultLine → Crossing → ℕ → Option ℤ
@@ -68,6 +71,7 @@ abbrev pub kept_bytes : FaultKind → Option ℕ
 kept_bytes (Flip off bytes) = None
 kept_bytes (Shift by) = None
 kept_bytes (Keep bytes) = Some bytes
+kept_bytes Fail = None
 
 -- how many of the block of this label a line lets it store
 abbrev pub keep_by : FaultLine → Label → Option ℕ
@@ -90,3 +94,22 @@ kept_by (Some n) old frame = take n frame ++ drop n old
 -- what stands in the place of the block of this label when its frame is stored over an old one
 abbrev pub kept : List FaultLine → Label → (old frame : List ℕ) → List ℕ
 kept lines label old frame = kept_by (keep_of lines label) old frame
+
+-- a fault of the medium itself, at which a command ends
+abbrev pub is_fail : FaultKind → Bool
+is_fail (Flip off bytes) = false
+is_fail (Shift by) = false
+is_fail (Keep bytes) = false
+is_fail Fail = true
+
+-- The line says that the medium can't store or send the block of this label, whatever its crossing.
+abbrev pub fails_by : FaultLine → Label → Bool
+fails_by line label = is_fail line.kind && (eqb line.op label.op && eqb line.k label.k)
+
+-- One of the lines does.
+abbrev pub fails_of : List FaultLine → Label → Bool
+fails_of lines label = list_any (λ line. fails_by line label) lines
+
+-- Some line says so of some block.
+abbrev pub has_fail : List FaultLine → Bool
+has_fail lines = list_any (λ line. is_fail line.kind) lines

@@ -35,6 +35,9 @@ pub enum FaultKind {
     /// Of the frame that is stored, only so many bytes are, from its front; behind them stands what
     /// stood there. The write is acknowledged as ever: a lost one keeps none, a torn one a part.
     Keep { bytes: u32 },
+    /// The medium can't store or send the block, and the command ends at it: what stood there stays.
+    /// Its crossing says nothing.
+    Fail,
 }
 
 impl FaultKind {
@@ -48,6 +51,7 @@ impl FaultKind {
             },
             FaultKind::Shift { by } => FaultKind::Shift { by: *by },
             FaultKind::Keep { bytes } => FaultKind::Keep { bytes: *bytes },
+            FaultKind::Fail => FaultKind::Fail,
         }
     }
 }

@@ -1,7 +1,7 @@
 //! The faults of a schedule, as they act on what crosses.
 
 ghost use Rattle.std.specs.Prelude.{◌≡◌};
-ghost use Rattle.fault_schedule.specs.Altered.{altered, byte_at, is_line_of, keep_by, keep_of, named_by, shift_by, shift_of, xored_from};
+ghost use Rattle.fault_schedule.specs.Altered.{altered, byte_at, fails_by, fails_of, is_line_of, keep_by, keep_of, named_by, shift_by, shift_of, xored_from};
 ghost use Rattle.fault_schedule.specs.Spans.{AreWithin, lines_of_op};
 
 use crate::{Crossing, FaultKind, FaultLine, FaultList, Label};
@@ -82,6 +82,7 @@ impl FaultLine {
             FaultKind::Flip { off, bytes } => xor_into(block, *off as usize, bytes.as_slice()),
             FaultKind::Shift { .. } => {}
             FaultKind::Keep { .. } => {}
+            FaultKind::Fail => {}
         }
     }
 
@@ -105,6 +106,21 @@ impl FaultLine {
             _ => None,
         }
     }
+
+    fn fails(&self, label: Label) -> bool
+        ensures { result ≡ fails_by self.now label }
+    {
+        match self.kind {
+            FaultKind::Fail => self.op == label.op && self.k == label.k,
+            _ => false,
+        }
+    }
+}
+
+fn any_fails(lines: &[FaultLine], label: Label) -> bool
+    ensures { result ≡ fails_of lines.now label }
+{
+    lines.iter().any(|line| line.fails(label))
 }
 
 impl Tamper {
@@ -166,5 +182,12 @@ impl Tamper {
             }
         }
         None
+    }
+
+    /// Whether the medium can't store or send this block.
+    pub fn fails(&self, label: Label) -> bool
+        ensures { result ≡ fails_of self.now label }
+    {
+        any_fails(self.lines_of(label.op), label)
     }
 }

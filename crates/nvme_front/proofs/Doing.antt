@@ -10,6 +10,7 @@ use Rattle.rig_api.specs.Log.{IsMedium, IsMediumSense, entry_of}
 use Rattle.rig_api.specs.Telling.{IsAnswer, IsStanding, answer_of, spec_at, unit_at, units_told}
 use Rattle.rig_api.specs.declared.rig.Outcome.{Outcome}
 use Rattle.rig_api.specs.State.{Exchanged, RigState}
+use Rattle.rig_api.proofs.State.{unlabelled-rose}
 use Rattle.volume_table.specs.declared.device.DeviceInfo.{DeviceInfo}
 use Rattle.nvme_front.specs.Answers.{HasNamespaces, Submitted, device_of}
 use Rattle.nvme_front.specs.Buffers.{sent_by}
@@ -108,7 +109,7 @@ all-clauses devices d c body meta body' meta' result old new image r device ther
     submitted = subst (λ (x : DeviceInfo). Submitted x c old.standing body meta body' meta' result old.log new.log) device (submitted (c.nsid - 1) d c body meta body' meta' result old new refl r);
     told = λ us u. (let k = r.exchanged.stopped us u in (k.0, k.1, (told-of devices d c body meta body' meta' result old new image us k.0 r device there some has laid ready u k.2).answer));
     never = never-of devices d c body meta body' meta' result old new image r device there some has laid ready;
-    medium = medium-of c.count r.outcome result old.faults new.faults r.result_is r.exchanged.medium;
+    medium = medium-of c.count r.outcome result old.faults new.faults r.result_is (λ m. unlabelled-rose old.armed r.outcome.done old.faults new.faults (r.exchanged.medium m));
   };
   calm = λ us u calm. (told-of devices d c body meta body' meta' result old new image us None r device there some has laid ready u (r.exchanged.calm us u calm)).answer;
 }

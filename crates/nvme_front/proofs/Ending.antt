@@ -14,13 +14,13 @@ use Rattle.cdb_codec.proofs.Inverse.{decoded_form}
 use Rattle.sense_codes.specs.declared.Sense.{Sense}
 use Rattle.fault_schedule.specs.declared.fault.FaultLine.{FaultLine}
 use Rattle.rig_api.specs.Frames.{data_of, frames_of, joined, sent_size}
-use Rattle.rig_api.specs.Passing.{found_in, from_medium, to_medium, unless}
+use Rattle.rig_api.specs.Passing.{found_in, from_medium, to_medium}
 use Rattle.rig_api.specs.Requests.{is_foreign, request_of}
-use Rattle.rig_api.specs.Target.{Answer, Stop, Stored, answer_unless, bytes_of, carried_out, check_sense, each, first_of, first_sense, has_blocks, illegal, kept_over, medium_address, medium_sense, passage, passed, read_by, read_end, refusal, refusals_of, refused, shape_of, stored_from, target_answer, whole, wire_address, write_end, written_by}
+use Rattle.rig_api.specs.Target.{Answer, Broken, Flaw, Found, Stop, Stored, answer_unless, bytes_of, carried_out, check_sense, each, first_of, first_sense, has_blocks, illegal, kept_over, medium_address, medium_sense, off_medium, onto_medium, passage, passed, read_by, read_end, refusal, refusals_of, refused, sent_unless, shape_of, stored_from, stored_unless, target_answer, whole, wire_address, write_end, written_by}
 use Rattle.rig_api.specs.declared.request.Request.TheVariants.{Read, Write}
 use Rattle.rig_api.specs.declared.units.UnitSpec.{UnitSpec}
 use Rattle.rig_api.proofs.KeptLaws.{kept-many}
-use Rattle.rig_api.proofs.FrameLaws.{frames_length, unless_crossed}
+use Rattle.rig_api.proofs.FrameLaws.{frames_length, unless_crossed, unless_found}
 use Rattle.rig_api.specs.declared.rig.Outcome.{Outcome}
 use Rattle.nvme_front.specs.Answers.{outcome_of}
 use Rattle.nvme_front.specs.Completions.{by_end, completed, is_internal, out_of_range, read_error, success, write_fault}
@@ -42,32 +42,62 @@ by-check Guard l = refl
 by-check AppTag l = refl
 by-check RefTag l = refl
 
-whole-or-found : (l : ℕ) (js : List (Result (List ℕ) Check)) → (length (passed js) ≡ length js) ⊎ ((c : Check) × (a : ℕ) × (first_sense l js ≡ Some (check_sense c a)))
-whole-or-found l [] = inl refl
-whole-or-found l (Ok f ∷ js) = ⊎_elim (λ (e : length (passed js) ≡ length js). inl (ap suc e)) (λ (w : (c : Check) × (a : ℕ) × (first_sense (l + 1) js ≡ Some (check_sense c a))). inr w) (whole-or-found (l + 1) js)
-whole-or-found l (Err c ∷ js) = inr (c, l, refl)
+-- Without labels no line says that the medium fails.
+abbrev IsFound : Result (List ℕ) Flaw → Type 0
+IsFound (Ok frame) = Unit {0}
+IsFound (Err (Found check)) = Unit {0}
+IsFound (Err (Broken asc)) = ⊥
 
-whole-named : (n l : ℕ) (js : List (Result (List ℕ) Check)) → length js ≡ n → IsNamed n (record { done = length (passed js); sense = first_sense l js })
-whole-named n l js e =
+abbrev AreFound : List (Result (List ℕ) Flaw) → Type 0
+AreFound [] = Unit {0}
+AreFound (j ∷ js) = IsFound j × AreFound js
+
+found-stored : (came : Result (List ℕ) Check) → IsFound (stored_unless false came)
+found-stored (Ok frame) = tt
+found-stored (Err check) = tt
+
+found-sent : (came : Result (List ℕ) Check) → IsFound (sent_unless false came)
+found-sent (Ok frame) = tt
+found-sent (Err check) = tt
+
+each-found : (judge : ℕ → List ℕ → Result (List ℕ) Flaw) (k : ℕ) (frames : List (List ℕ)) → ((k : ℕ) (frame : List ℕ) → IsFound (judge k frame)) → AreFound (each judge k frames)
+each-found judge k [] h = tt
+each-found judge k (f ∷ frames) h = (h k f, each-found judge (k + 1) frames h)
+
+kept-found : (armed : List FaultLine) (k : ℕ) (olds : List (List ℕ)) (js : List (Result (List ℕ) Flaw)) → AreFound js → AreFound (kept_over armed [] k olds js)
+kept-found armed k olds [] h = tt
+kept-found armed k [] (j ∷ js) h = h
+kept-found armed k (old ∷ olds) (Ok frame ∷ js) h = (tt, kept-found armed (k + 1) olds js h.1)
+kept-found armed k (old ∷ olds) (Err (Found check) ∷ js) h = (tt, kept-found armed (k + 1) olds js h.1)
+kept-found armed k (old ∷ olds) (Err (Broken asc) ∷ js) h = absurd h.0
+
+whole-or-found : (l : ℕ) (js : List (Result (List ℕ) Flaw)) → AreFound js → (length (passed js) ≡ length js) ⊎ ((c : Check) × (a : ℕ) × (first_sense l js ≡ Some (check_sense c a)))
+whole-or-found l [] h = inl refl
+whole-or-found l (Ok f ∷ js) h = ⊎_elim (λ (e : length (passed js) ≡ length js). inl (ap suc e)) (λ (w : (c : Check) × (a : ℕ) × (first_sense (l + 1) js ≡ Some (check_sense c a))). inr w) (whole-or-found (l + 1) js h.1)
+whole-or-found l (Err (Found c) ∷ js) h = inr (c, l, refl)
+whole-or-found l (Err (Broken asc) ∷ js) h = absurd h.0
+
+whole-named : (n l : ℕ) (js : List (Result (List ℕ) Flaw)) → AreFound js → length js ≡ n → IsNamed n (record { done = length (passed js); sense = first_sense l js })
+whole-named n l js h e =
     ⊎_elim
     (λ (p : length (passed js) ≡ length js). (let t : eqb (length (passed js)) n ≡ true = grind arith in ap (λ b. is_internal (if b then success else by_end (first_sense l js))) t))
     (λ (w : (c : Check) × (a : ℕ) × (first_sense l js ≡ Some (check_sense c a))). either (eqb (length (passed js)) n) (by_end (first_sense l js)) (ap (λ s. is_internal (by_end s)) w.2 ∙ by-check w.0 w.1))
-    (whole-or-found l js)
+    (whole-or-found l js h)
 
-write-named : (n l : ℕ) (js : List (Result (List ℕ) Check)) (stop : Option Stop) → length js ≡ n → IsNamed n (record { done = (write_end l js stop).done; sense = (write_end l js stop).sense })
-write-named n l js None e = whole-named n l js e
-write-named n l js (Some s) e =
+write-named : (n l : ℕ) (js : List (Result (List ℕ) Flaw)) (stop : Option Stop) → AreFound js → length js ≡ n → IsNamed n (record { done = (write_end l js stop).done; sense = (write_end l js stop).sense })
+write-named n l js None h e = whole-named n l js h e
+write-named n l js (Some s) h e =
     ⊎_elim
     (λ (t : ltb s.at (length (passed js)) ≡ true). rw t (either (eqb s.at n) write_fault refl))
-    (λ (t : ltb s.at (length (passed js)) ≡ false). rw t (whole-named n l js e))
+    (λ (t : ltb s.at (length (passed js)) ≡ false). rw t (whole-named n l js h e))
     (cases_Bool (ltb s.at (length (passed js))))
 
-read-named : (n l : ℕ) (js : List (Result (List ℕ) Check)) (stop : Option Stop) → length js ≡ n → IsNamed n (record { done = (read_end l js stop).done; sense = (read_end l js stop).sense })
-read-named n l js None e = whole-named n l js e
-read-named n l js (Some s) e =
+read-named : (n l : ℕ) (js : List (Result (List ℕ) Flaw)) (stop : Option Stop) → AreFound js → length js ≡ n → IsNamed n (record { done = (read_end l js stop).done; sense = (read_end l js stop).sense })
+read-named n l js None h e = whole-named n l js h e
+read-named n l js (Some s) h e =
     ⊎_elim
     (λ (t : (ltb s.at (length (passed js) + 1) && ltb s.at (length js)) ≡ true). rw t (either (eqb s.at n) read_error refl))
-    (λ (t : (ltb s.at (length (passed js) + 1) && ltb s.at (length js)) ≡ false). rw t (whole-named n l js e))
+    (λ (t : (ltb s.at (length (passed js) + 1) && ltb s.at (length js)) ≡ false). rw t (whole-named n l js h e))
     (cases_Bool (ltb s.at (length (passed js) + 1) && ltb s.at (length js)))
 
 refused-named : (n : ℕ) → IsNamed n (record { done = 0; sense = Some (illegal 0x21) })
@@ -105,7 +135,7 @@ answer-by unit cmd armed out room stop f = ap (λ (d : Result Cdb CdbFault). ans
 
 -- ---- lengths
 
-each-long : (judge : ℕ → List ℕ → Result (List ℕ) Check) (k : ℕ) (frames : List (List ℕ)) → length (each judge k frames) ≡ length frames
+each-long : (judge : ℕ → List ℕ → Result (List ℕ) Flaw) (k : ℕ) (frames : List (List ℕ)) → length (each judge k frames) ≡ length frames
 each-long judge k [] = refl
 each-long judge k (f ∷ frames) = ap suc (each-long judge (k + 1) frames)
 
@@ -137,7 +167,7 @@ abbrev front_of : Rw → (size : ℕ) → List ℕ → List ℕ
 front_of c size frame = if eqb c.protect 0 then data_of size frame else frame
 
 judged-is : (armed : List FaultLine) (unit : UnitSpec) (c : Rw) (lba k : ℕ) (frame : List ℕ) →
-    from_medium armed (passage unit c lba [] k) frame ≡ unless (found_in (passage unit c lba [] k) frame) (front_of c unit.size frame)
+    off_medium armed (passage unit c lba [] k) frame ≡ unless_found (found_in (passage unit c lba [] k) frame) (front_of c unit.size frame)
 unfolding from_medium
 judged-is armed unit c lba k frame = unless_crossed armed (found_in (passage unit c lba [] k) frame) (front_of c unit.size frame)
 
@@ -148,11 +178,11 @@ front-long c size stored frame l e = by (eqb c.protect 0) e
     by true e = let x = length-take-le size frame (omega (arith, e, l)) in x ∙ e
     by false e = l
 
-passed-one : (w : ℕ) (x : Option Check) (frame : List ℕ) (js : List (Result (List ℕ) Check)) → length frame ≡ w → AllLong w (passed js) → AllLong w (passed (unless x frame ∷ js))
+passed-one : (w : ℕ) (x : Option Check) (frame : List ℕ) (js : List (Result (List ℕ) Flaw)) → length frame ≡ w → AllLong w (passed js) → AllLong w (passed (unless_found x frame ∷ js))
 passed-one w None frame js l h = (l, h)
 passed-one w (Some c) frame js l h = tt
 
-passed-long : (armed : List FaultLine) (unit : UnitSpec) (c : Rw) (lba k w : ℕ) (frames : List (List ℕ)) → AllLong w frames → sent_size c.protect unit.size ≡ w → AllLong w (passed (each (λ k frame. from_medium armed (passage unit c lba [] k) frame) k frames))
+passed-long : (armed : List FaultLine) (unit : UnitSpec) (c : Rw) (lba k w : ℕ) (frames : List (List ℕ)) → AllLong w frames → sent_size c.protect unit.size ≡ w → AllLong w (passed (each (λ k frame. off_medium armed (passage unit c lba [] k) frame) k frames))
 passed-long armed unit c lba k w [] h e = tt
 passed-long armed unit c lba k w (f ∷ fs) h e =
     let more = passed-long armed unit c lba (k + 1) w fs h.1 e in
@@ -207,16 +237,18 @@ write-ends unit cmd c armed out w stop a q l =
     let r = refusal-of-write (shape_of unit) cmd c armed (length out) 0 q a.own a.tuples (l ∙ ap (λ x. c.n * x) (sym a.width)) in
     let lba = nat_abs (wire_address armed [] c) in
     let js = kept_over armed [] 0 (stored_from unit lba c.n) (written_by (shape_of unit) c lba armed [] out) in
-    let count : length js ≡ c.n = kept-many armed [] 0 (stored_from unit lba c.n) (written_by (shape_of unit) c lba armed [] out) ∙ each-long (λ k frame. to_medium armed (passage (shape_of unit) c lba [] k) frame) 0 (frames_of (sent_size c.protect unit.size) c.n out) ∙ frames_length (sent_size c.protect unit.size) c.n out in
+    let count : length js ≡ c.n = kept-many armed [] 0 (stored_from unit lba c.n) (written_by (shape_of unit) c lba armed [] out) ∙ each-long (λ k frame. onto_medium armed (passage (shape_of unit) c lba [] k) frame) 0 (frames_of (sent_size c.protect unit.size) c.n out) ∙ frames_length (sent_size c.protect unit.size) c.n out in
+    let found : AreFound js = kept-found armed 0 (stored_from unit lba c.n) (written_by (shape_of unit) c lba armed [] out)
+    (each-found (λ k frame. onto_medium armed (passage (shape_of unit) c lba [] k) frame) 0 (frames_of (sent_size c.protect unit.size) c.n out) (λ k frame. found-stored (to_medium armed (passage (shape_of unit) c lba [] k) frame))) in
     ⊎_elim
     (λ (e : (if o then Some (illegal 0x21) else None) ≡ Some (illegal 0x21)). named-at c.n _ _ (of-refused unit cmd armed out 0 stop _ (illegal 0x21) a.fits r e) (refused-named c.n))
-    (λ (e : (if o then Some (illegal 0x21) else None) ≡ None). named-at c.n _ _ (of-carried unit cmd armed out 0 stop _ a.fits r e ∙ ap (λ x. carried_out unit x armed [] out stop) q) (write-named c.n lba js stop count))
+    (λ (e : (if o then Some (illegal 0x21) else None) ≡ None). named-at c.n _ _ (of-carried unit cmd armed out 0 stop _ a.fits r e ∙ ap (λ x. carried_out unit x armed [] out stop) q) (write-named c.n lba js stop found count))
     (when-not o (illegal 0x21))
 
-whole-frames : (n w : ℕ) (js : List (Result (List ℕ) Check)) → AllLong w (passed js) → length (passed js) ≡ n → length (joined (passed js)) ≡ n * w
+whole-frames : (n w : ℕ) (js : List (Result (List ℕ) Flaw)) → AllLong w (passed js) → length (passed js) ≡ n → length (joined (passed js)) ≡ n * w
 whole-frames n w js h e = joined-long w (passed js) h ∙ ap (λ m. m * w) e
 
-read-frames : (n l w : ℕ) (js : List (Result (List ℕ) Check)) (stop : Option Stop) → length js ≡ n → AllLong w (passed js) → (read_end l js stop).done ≡ n → length (joined (read_end l js stop).frames) ≡ n * w
+read-frames : (n l w : ℕ) (js : List (Result (List ℕ) Flaw)) (stop : Option Stop) → length js ≡ n → AllLong w (passed js) → (read_end l js stop).done ≡ n → length (joined (read_end l js stop).frames) ≡ n * w
 read-frames n l w js None c h e = whole-frames n w js h e
 read-frames n l w js (Some s) c h e =
     by (ltb s.at (length (passed js) + 1) && ltb s.at (length js)) refl e
@@ -258,8 +290,9 @@ read-ends unit cmd c armed room w stop a q l long =
     (λ (e : ((if o then Some (illegal 0x21) else (if f then Some (illegal 0x21) else None)) ≡ None) × (o ≡ false) × (f ≡ false)).
     (let m : medium_address armed [] c ≡ pos c.lba = ap (λ z. z +ℤ pos 0) (shiftless c.lba) ∙ shiftless c.lba in
     let t : has_blocks (shape_of unit) (pos from) c.n ≡ true = ap (λ z. has_blocks (shape_of unit) (pos (nat_abs z)) c.n) m ∙ ap (λ z. has_blocks (shape_of unit) z c.n) (sym m) ∙ not-none c.n (has_blocks (shape_of unit) (medium_address armed [] c) c.n) a.some e.2 in
-    let count : length js ≡ c.n = each-long (λ k frame. from_medium armed (passage (shape_of unit) c lba [] k) frame) 0 stored ∙ stored-count unit from c.n t in
+    let count : length js ≡ c.n = each-long (λ k frame. off_medium armed (passage (shape_of unit) c lba [] k) frame) 0 stored ∙ stored-count unit from c.n t in
+    let found : AreFound js = each-found (λ k frame. off_medium armed (passage (shape_of unit) c lba [] k) frame) 0 stored (λ k frame. found-sent (from_medium armed (passage (shape_of unit) c lba [] k) frame)) in
     let wide = passed-long armed (shape_of unit) c lba 0 w stored (take-long w c.n (drop (from - unit.first) unit.blocks) (drop-long w (from - unit.first) unit.blocks long)) a.width in
     ends-at c.n w _ _ (of-carried unit cmd armed [] room stop _ a.fits r e.0 ∙ ap (λ x. carried_out unit x armed [] [] stop) q)
-    (record { named = read-named c.n lba js stop count; long = read-frames c.n lba w js stop count wide })))
+    (record { named = read-named c.n lba js stop found count; long = read-frames c.n lba w js stop count wide })))
     (when-neither o f (illegal 0x21))

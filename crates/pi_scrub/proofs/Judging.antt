@@ -14,9 +14,9 @@ use Rattle.cdb_codec.specs.declared.command.Rw.{Rw}
 use Rattle.cdb_codec.proofs.Inverse.{decoded_form}
 use Rattle.sense_codes.specs.declared.Sense.{Sense}
 use Rattle.fault_schedule.specs.declared.fault.FaultLine.{FaultLine}
-use Rattle.rig_api.specs.Passing.{found_in, from_medium, unless}
-use Rattle.rig_api.specs.Target.{Answer, Stop, Stored, answer_unless, each, first_sense, keeping, passage, passed, read_by, refusal, shape_of, stored_from, target_answer, whole}
-use Rattle.rig_api.proofs.FrameLaws.{unless_crossed}
+use Rattle.rig_api.specs.Passing.{found_in, from_medium}
+use Rattle.rig_api.specs.Target.{Answer, Flaw, Found, Stop, Stored, answer_unless, each, first_sense, keeping, off_medium, passage, passed, read_by, refusal, shape_of, stored_from, target_answer, whole}
+use Rattle.rig_api.proofs.FrameLaws.{unless_crossed, unless_found}
 use Rattle.rig_api.specs.Telling.{IsAnswer, Standing, answer_of, unit_at, units_told, with_blocks}
 use Rattle.rig_api.specs.declared.rig.Outcome.{Outcome}
 use Rattle.rig_api.proofs.UnitLaws.{own_blocks}
@@ -31,10 +31,10 @@ use Rattle.small_laws.proofs.Tests.{ltb_suc}
 abbrev pub by_form : Bool → Rw → Cdb
 by_form b c = if b then Verify10 c else Verify16 c
 
-abbrev judge : List FaultLine → PiType → (blocks size first lba n : ℕ) → ℕ → List ℕ → Result (List ℕ) Check
-judge armed ty blocks size first lba n k frame = from_medium armed (passage (record { ty = ty; blocks = blocks; size = size; first = first }) (untagged lba n (protect_for ty)) lba [] k) frame
+abbrev judge : List FaultLine → PiType → (blocks size first lba n : ℕ) → ℕ → List ℕ → Result (List ℕ) Flaw
+judge armed ty blocks size first lba n k frame = off_medium armed (passage (record { ty = ty; blocks = blocks; size = size; first = first }) (untagged lba n (protect_for ty)) lba [] k) frame
 
-judged_is : (armed : List FaultLine) (ty : PiType) (blocks size first lba n k : ℕ) (frame : List ℕ) → (sent : List ℕ) × (judge armed ty blocks size first lba n k frame ≡ unless (stored_finding ty size (lba + k) frame) sent)
+judged_is : (armed : List FaultLine) (ty : PiType) (blocks size first lba n k : ℕ) (frame : List ℕ) → (sent : List ℕ) × (judge armed ty blocks size first lba n k frame ≡ unless_found (stored_finding ty size (lba + k) frame) sent)
 unfolding from_medium found_in
 judged_is armed Zero blocks size first lba n k frame = (_, unless_crossed armed (stored_finding Zero size (lba + k) frame) _)
 judged_is armed One blocks size first lba n k frame = (_, unless_crossed armed (stored_finding One size (lba + k) frame) _)
@@ -51,17 +51,17 @@ settled_shift m d = rw (ltb_suc d m) (by (ltb d m))
     by true = omega arith
     by false = refl
 
-abbrev ended : List (Result (List ℕ) Check) → ℕ → Outcome
+abbrev ended : List (Result (List ℕ) Flaw) → ℕ → Outcome
 ended js l = record { done = length (passed js); sense = first_sense l js }
 
-bad_one : (ty : PiType) (size dev l : ℕ) (frame : List ℕ) (frames : List (List ℕ)) (c : Check) (rest : List (Result (List ℕ) Check)) → stored_finding ty size l frame ≡ Some c →
-    found_at dev l (suc (length frames)) (ended (Err c ∷ rest) l) ≡ faults_from ty size dev l (take (settled (suc (length frames)) 0) (frame ∷ frames))
+bad_one : (ty : PiType) (size dev l : ℕ) (frame : List ℕ) (frames : List (List ℕ)) (c : Check) (rest : List (Result (List ℕ) Flaw)) → stored_finding ty size l frame ≡ Some c →
+    found_at dev l (suc (length frames)) (ended (Err (Found c) ∷ rest) l) ≡ faults_from ty size dev l (take (settled (suc (length frames)) 0) (frame ∷ frames))
 bad_one ty size dev l frame frames c rest y =
     let t : ltb 0 (suc (length frames)) ≡ true = grind arith in
     let z : l + 0 ≡ l = omega arith in
     rw (t, y, z, check_named c l) refl
 
-one_judged : (ty : PiType) (size dev l : ℕ) (frame sent : List ℕ) (frames : List (List ℕ)) (y : Option Check) (j : Result (List ℕ) Check) (rest : List (Result (List ℕ) Check)) → j ≡ unless y sent → stored_finding ty size l frame ≡ y →
+one_judged : (ty : PiType) (size dev l : ℕ) (frame sent : List ℕ) (frames : List (List ℕ)) (y : Option Check) (j : Result (List ℕ) Flaw) (rest : List (Result (List ℕ) Flaw)) → j ≡ unless_found y sent → stored_finding ty size l frame ≡ y →
     found_at dev (l + 1) (length frames) (ended rest (l + 1)) ≡ faults_from ty size dev (l + 1) (take (settled (length frames) (length (passed rest))) frames) →
     found_at dev l (suc (length frames)) (ended (j ∷ rest) l) ≡ faults_from ty size dev l (take (settled (suc (length frames)) (length (passed (j ∷ rest)))) (frame ∷ frames))
 one_judged ty size dev l frame sent frames None j rest e y more =

@@ -11,7 +11,7 @@ use Rattle.pi_tuple.specs.Finds.{is_zero}
 use Rattle.pi_tuple.specs.declared.checks.PiType.{PiType}
 use Rattle.pi_tuple.specs.declared.checks.PiType.TheVariants.{Zero, One, Two, Three}
 use Rattle.pi_tuple.specs.declared.checks.Check.{Check}
-use Rattle.rig_api.specs.Passed.{data_of, joined, sent_size, stored_size, crossed, found_in, from_medium, released, unless, request_of, Answer, Refusal, Stored, answer_unless, capacity_data, carried_out, each, first_of, foreign_form, illegal, medium_address, no_tuples, outside, fetched_outside, passage, passed, read_by, refusal, refusals_of, refused, shape_of, stored_from, target_answer, wire_address, wrong_room, bytes_of, Sense, decoded, Cdb, CdbFault, Rw, Label, FaultLine, MediumToTarget, TargetToAdapter}
+use Rattle.rig_api.specs.Passed.{Flaw, data_of, fails_under, off_medium, sent_unless, joined, sent_size, stored_size, crossed, found_in, from_medium, released, unless, request_of, Answer, Refusal, Stored, answer_unless, capacity_data, carried_out, each, first_of, foreign_form, illegal, medium_address, no_tuples, outside, fetched_outside, passage, passed, read_by, refusal, refusals_of, refused, shape_of, stored_from, target_answer, wire_address, wrong_room, bytes_of, Sense, decoded, Cdb, CdbFault, Rw, Label, FaultLine, MediumToTarget, TargetToAdapter}
 use Rattle.rig_api.specs.declared.passage.Passage.{Passage}
 use Rattle.rig_api.specs.declared.request.Request.{Request}
 use Rattle.rig_api.specs.declared.request.Request.TheVariants.{Read, ReadCapacity, Verify, Write}
@@ -53,17 +53,25 @@ released_long p stored l some =
     by None false Two l s = l
     by None false Three l s = l
 
-one_long : (w : ℕ) (came : Result (List ℕ) Check) (rest : List (Result (List ℕ) Check)) → IfOk came (λ f. length f ≡ w) → AllLong w (passed rest) → AllLong w (passed (came ∷ rest))
+-- Where no line is armed, none says that the medium fails.
+flawless : (label : Option Label) (came : Result (List ℕ) Check) (P : List ℕ → Type 0) → IfOk came P → IfOk (sent_unless (fails_under [] label) came) P
+flawless None (Ok frame) P h = h
+flawless None (Err check) P h = tt
+flawless (Some label) (Ok frame) P h = h
+flawless (Some label) (Err check) P h = tt
+
+one_long : (w : ℕ) (came : Result (List ℕ) Flaw) (rest : List (Result (List ℕ) Flaw)) → IfOk came (λ f. length f ≡ w) → AllLong w (passed rest) → AllLong w (passed (came ∷ rest))
 one_long w (Ok frame) rest h k = (h, k)
-one_long w (Err check) rest h k = tt
+one_long w (Err flaw) rest h k = tt
 
 module _ (u : Stored) (c : Rw) (lba : ℕ) (labels : List Label) (some : (is_zero u.ty && not (eqb c.protect 0)) ≡ false) where
   all_long : (k : ℕ) (stored : List (List ℕ)) → All (λ b. length {A = ℕ} b ≡ stored_size u.ty u.size) stored →
-      AllLong (sent_size c.protect u.size) (passed (each (λ k frame. from_medium [] (passage (shape_of u) c lba labels k) frame) k stored))
+      AllLong (sent_size c.protect u.size) (passed (each (λ k frame. off_medium [] (passage (shape_of u) c lba labels k) frame) k stored))
   all_long k [] h = tt
   all_long k (b ∷ bs) h =
-      one_long (sent_size c.protect u.size) (from_medium [] (passage (shape_of u) c lba labels k) b) (each (λ k frame. from_medium [] (passage (shape_of u) c lba labels k) frame) (k + 1) bs)
-      (released_long (passage (shape_of u) c lba labels k) b (All-head (λ b. length {A = ℕ} b ≡ stored_size u.ty u.size) b bs h) some)
+      one_long (sent_size c.protect u.size) (off_medium [] (passage (shape_of u) c lba labels k) b) (each (λ k frame. off_medium [] (passage (shape_of u) c lba labels k) frame) (k + 1) bs)
+      (flawless (passage (shape_of u) c lba labels k).label (from_medium [] (passage (shape_of u) c lba labels k) b) (λ f. length f ≡ sent_size c.protect u.size)
+      (released_long (passage (shape_of u) c lba labels k) b (All-head (λ b. length {A = ℕ} b ≡ stored_size u.ty u.size) b bs h) some))
       (all_long (k + 1) bs (All-tail (λ b. length {A = ℕ} b ≡ stored_size u.ty u.size) b bs h))
 
 -- ---- into whichever buffer

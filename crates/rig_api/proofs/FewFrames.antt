@@ -1,12 +1,11 @@
 -- A command that ends early sends no more frames than it has blocks.
 use Rattle.std.proofs.Common.{List, Result, ℕ, length, ◌≤◌, [], arith, Ok, ◌∷◌, Err, Bool, Option, ◌≡◌, true, ◌<◌, if◌then◌else◌, take, ◌++◌, refl, ◌+◌, length-append, ◌∙◌, ap, false, None, Some, ltb}
-use Rattle.pi_tuple.specs.declared.checks.Check.{Check}
-use Rattle.rig_api.specs.Target.{passed, Ended, Stop, write_end, whole}
+use Rattle.rig_api.specs.Target.{passed, Ended, Flaw, Stop, write_end, whole}
 use Rattle.sense_codes.specs.declared.Sense.{Sense}
 use Rattle.std.proofs.lemmas.List.{length-take}
 use Rattle.std.proofs.lemmas.Bool.{ltb-true}
 
-pub few_passed : (rs : List (Result (List ℕ) Check)) → length (passed rs) ≤ length rs
+pub few_passed : (rs : List (Result (List ℕ) Flaw)) → length (passed rs) ≤ length rs
 few_passed [] = omega arith
 few_passed (Ok f ∷ rs) = let h = few_passed rs in omega (arith, h)
 few_passed (Err c ∷ rs) = omega arith
@@ -19,6 +18,6 @@ few_cut true k n left frames other done sense h l t =
     omega (arith, e)
 few_cut false k n left frames other done sense h l t = l
 
-pub few_written : (lba : ℕ) (rs : List (Result (List ℕ) Check)) (stop : Option Stop) → length (write_end lba rs stop).frames ≤ length rs
+pub few_written : (lba : ℕ) (rs : List (Result (List ℕ) Flaw)) (stop : Option Stop) → length (write_end lba rs stop).frames ≤ length rs
 few_written lba rs None = few_passed rs
 few_written lba rs (Some s) = few_cut (ltb s.at (length (passed rs))) s.at (length rs) s.left (passed rs) (whole lba rs) s.at _ (few_passed rs) (few_passed rs) (ltb-true s.at (length (passed rs)))

@@ -1,14 +1,12 @@
 -- What a write leaves where a line lets the medium store but a part of a block.
-use Rattle.std.proofs.Common.{ℕ, suc, ◌≡◌, ◌+◌, ◌-◌, ◌≤◌, Bool, true, false, ltb, if◌then◌else◌, List, [], ◌∷◌, ◌++◌, length, take, drop, Option, Some, None, Result, Ok, Err, refl, sym, ap, ◌∙◌, arith, append-nil, length-append}
+use Rattle.std.proofs.Common.{ℕ, suc, ◌≡◌, ◌+◌, ◌≤◌, Bool, true, false, ltb, if◌then◌else◌, List, [], ◌∷◌, ◌++◌, length, take, Option, Some, None, Result, Ok, Err, refl, ap, arith, append-nil, length-append}
 use Rattle.std.specs.Prelude.{slice_get}
 use Rattle.std.proofs.lemmas.List.{length-take, length-drop, take_all, drop_all}
-use Rattle.pi_tuple.specs.declared.checks.Check.{Check}
-use Rattle.sense_codes.specs.declared.Sense.{Sense}
 use Rattle.fault_schedule.specs.Altered.{keep_of, kept_by}
 use Rattle.fault_schedule.specs.declared.Label.{Label}
 use Rattle.fault_schedule.specs.declared.fault.FaultLine.{FaultLine}
 use Rattle.sense_codes.specs.declared.codes.TheConstants.{WRITE_ERROR}
-use Rattle.rig_api.specs.Target.{Ended, Stop, first_sense, kept_over, kept_under, medium_sense, passed, then_kept, whole, write_end}
+use Rattle.rig_api.specs.Target.{Ended, Flaw, Stop, first_sense, kept_over, kept_under, medium_sense, passed, then_kept, whole, write_end}
 
 -- it has the length of a block that is stored whole
 pub kept-by-length : (bytes : Option ℕ) (old frame : List ℕ) → length old ≡ length frame → length (kept_by bytes old frame) ≡ length frame
@@ -19,50 +17,39 @@ pub kept-length : (faults : List FaultLine) (label : Option Label) (old frame : 
 kept-length faults None old frame e = refl
 kept-length faults (Some label) old frame e = kept-by-length (keep_of faults label) old frame e
 
--- so much is kept that it is the whole block
-pub kept-by-whole : (n : ℕ) (old frame : List ℕ) → length frame ≤ n → length old ≤ n → kept_by (Some n) old frame ≡ frame
-kept-by-whole n old frame f o = rw (take_all n frame f, drop_all n old o) (append-nil frame)
-
 -- where no line keeps anything back, a block is stored whole
-pub stored-whole : (faults : List FaultLine) (label : Option Label) (old : List ℕ) (judged : Result (List ℕ) Check) → ((l : Label) → label ≡ Some l → keep_of faults l ≡ None) → then_kept faults label old judged ≡ judged
+pub stored-whole : (faults : List FaultLine) (label : Option Label) (old : List ℕ) (judged : Result (List ℕ) Flaw) → ((l : Label) → label ≡ Some l → keep_of faults l ≡ None) → then_kept faults label old judged ≡ judged
 stored-whole faults None old (Ok frame) none = refl
 stored-whole faults (Some l) old (Ok frame) none = rw (none l refl) refl
-stored-whole faults label old (Err check) none = refl
+stored-whole faults label old (Err flaw) none = refl
 
-pub all-stored-whole : (faults : List FaultLine) (labels : List Label) (k : ℕ) (olds : List (List ℕ)) (judged : List (Result (List ℕ) Check)) → ((l : Label) → keep_of faults l ≡ None) → kept_over faults labels k olds judged ≡ judged
+pub all-stored-whole : (faults : List FaultLine) (labels : List Label) (k : ℕ) (olds : List (List ℕ)) (judged : List (Result (List ℕ) Flaw)) → ((l : Label) → keep_of faults l ≡ None) → kept_over faults labels k olds judged ≡ judged
 all-stored-whole faults labels k olds [] none = refl
 all-stored-whole faults labels k [] (j ∷ js) none = refl
 all-stored-whole faults labels k (old ∷ olds) (j ∷ js) none =
     rw (stored-whole faults (slice_get labels k) old j (λ l e. none l), all-stored-whole faults labels (k + 1) olds js none) refl
 
 -- without lines
-pub no-lines-keep : (labels : List Label) (k : ℕ) (olds : List (List ℕ)) (judged : List (Result (List ℕ) Check)) → kept_over [] labels k olds judged ≡ judged
+pub no-lines-keep : (labels : List Label) (k : ℕ) (olds : List (List ℕ)) (judged : List (Result (List ℕ) Flaw)) → kept_over [] labels k olds judged ≡ judged
 no-lines-keep labels k olds judged = all-stored-whole [] labels k olds judged (λ l. refl)
 
--- without labels
-pub no-labels-keep : (faults : List FaultLine) (k : ℕ) (olds : List (List ℕ)) (judged : List (Result (List ℕ) Check)) → kept_over faults [] k olds judged ≡ judged
-no-labels-keep faults k olds [] = refl
-no-labels-keep faults k [] (j ∷ js) = refl
-no-labels-keep faults k (old ∷ olds) (Ok frame ∷ js) = ap (λ t. Ok frame ∷ t) (no-labels-keep faults (k + 1) olds js)
-no-labels-keep faults k (old ∷ olds) (Err check ∷ js) = ap (λ t. Err check ∷ t) (no-labels-keep faults (k + 1) olds js)
-
 -- How a write ends is the same, and so is how many blocks it stores.
-pub kept-many : (faults : List FaultLine) (labels : List Label) (k : ℕ) (olds : List (List ℕ)) (judged : List (Result (List ℕ) Check)) → length (kept_over faults labels k olds judged) ≡ length judged
+pub kept-many : (faults : List FaultLine) (labels : List Label) (k : ℕ) (olds : List (List ℕ)) (judged : List (Result (List ℕ) Flaw)) → length (kept_over faults labels k olds judged) ≡ length judged
 kept-many faults labels k olds [] = refl
 kept-many faults labels k [] (j ∷ js) = refl
 kept-many faults labels k (old ∷ olds) (j ∷ js) = ap suc (kept-many faults labels (k + 1) olds js)
 
-pub kept-passed : (faults : List FaultLine) (labels : List Label) (k : ℕ) (olds : List (List ℕ)) (judged : List (Result (List ℕ) Check)) → length (passed (kept_over faults labels k olds judged)) ≡ length (passed judged)
+pub kept-passed : (faults : List FaultLine) (labels : List Label) (k : ℕ) (olds : List (List ℕ)) (judged : List (Result (List ℕ) Flaw)) → length (passed (kept_over faults labels k olds judged)) ≡ length (passed judged)
 kept-passed faults labels k olds [] = refl
 kept-passed faults labels k [] (j ∷ js) = refl
 kept-passed faults labels k (old ∷ olds) (Ok frame ∷ js) = ap suc (kept-passed faults labels (k + 1) olds js)
-kept-passed faults labels k (old ∷ olds) (Err check ∷ js) = refl
+kept-passed faults labels k (old ∷ olds) (Err flaw ∷ js) = refl
 
-pub kept-sense : (faults : List FaultLine) (labels : List Label) (k lba : ℕ) (olds : List (List ℕ)) (judged : List (Result (List ℕ) Check)) → first_sense lba (kept_over faults labels k olds judged) ≡ first_sense lba judged
+pub kept-sense : (faults : List FaultLine) (labels : List Label) (k lba : ℕ) (olds : List (List ℕ)) (judged : List (Result (List ℕ) Flaw)) → first_sense lba (kept_over faults labels k olds judged) ≡ first_sense lba judged
 kept-sense faults labels k lba olds [] = refl
 kept-sense faults labels k lba [] (j ∷ js) = refl
 kept-sense faults labels k lba (old ∷ olds) (Ok frame ∷ js) = kept-sense faults labels (k + 1) (lba + 1) olds js
-kept-sense faults labels k lba (old ∷ olds) (Err check ∷ js) = refl
+kept-sense faults labels k lba (old ∷ olds) (Err flaw ∷ js) = refl
 
 end-alike : (lba at a b : ℕ) (left : List ℕ) (x y : Ended) (p q : List (List ℕ)) → a ≡ b → x.done ≡ y.done → x.sense ≡ y.sense →
     ((if ltb at a then (record { done = at; sense = Some (medium_sense WRITE_ERROR (lba + at)); frames = p ++ (left ∷ []) }) else x).done
@@ -80,10 +67,10 @@ end-alike lba at a b left x y p q e d s = rw e (by (ltb at b))
     by false = (d, s)
 
 -- the outcome of a write
-pub kept-end : (faults : List FaultLine) (labels : List Label) (k lba : ℕ) (olds : List (List ℕ)) (judged : List (Result (List ℕ) Check)) (stop : Option Stop)
+pub kept-end : (faults : List FaultLine) (labels : List Label) (k lba : ℕ) (olds : List (List ℕ)) (judged : List (Result (List ℕ) Flaw)) (stop : Option Stop)
     → ((write_end lba (kept_over faults labels k olds judged) stop).done ≡ (write_end lba judged stop).done) × ((write_end lba (kept_over faults labels k olds judged) stop).sense ≡ (write_end lba judged stop).sense)
 kept-end faults labels k lba olds judged None = (kept-passed faults labels k olds judged, kept-sense faults labels k lba olds judged)
 kept-end faults labels k lba olds judged (Some s) =
-    let kept : List (Result (List ℕ) Check) = kept_over faults labels k olds judged in
+    let kept : List (Result (List ℕ) Flaw) = kept_over faults labels k olds judged in
     end-alike lba s.at (length (passed kept)) (length (passed judged)) s.left (whole lba kept) (whole lba judged) (take s.at (passed kept)) (take s.at (passed judged))
     (kept-passed faults labels k olds judged) (kept-passed faults labels k olds judged) (kept-sense faults labels k lba olds judged)

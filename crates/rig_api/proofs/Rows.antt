@@ -8,7 +8,7 @@ use Rattle.pi_tuple.specs.declared.checks.PiType.TheVariants.{Zero, One, Two, Th
 use Rattle.fault_schedule.specs.declared.Label.{Label}
 use Rattle.fault_schedule.specs.declared.fault.Crossing.{Crossing}
 use Rattle.fault_schedule.specs.declared.fault.Crossing.TheVariants.{AdapterToTarget, TargetToMedium, MediumToTarget, TargetToAdapter}
-use Rattle.fault_schedule.specs.declared.fault.FaultKind.TheVariants.{Flip, Keep, Shift}
+use Rattle.fault_schedule.specs.declared.fault.FaultKind.TheVariants.{Fail, Flip, Keep, Shift}
 use Rattle.fault_schedule.specs.declared.fault.FaultLine.{FaultLine}
 use Rattle.rig_api.specs.declared.units.UnitSpec.{UnitSpec}
 use Rattle.rig_api.specs.declared.units.Version.TheVariants.{First, Second}
@@ -69,6 +69,9 @@ shift op at by = record { op = op; k = 0; at = at; kind = Shift by }
 
 abbrev keep : (op k : ℕ) → ℕ → FaultLine
 keep op k bytes = record { op = op; k = k; at = TargetToMedium; kind = Keep bytes }
+
+abbrev fail : (op k : ℕ) → Crossing → FaultLine
+fail op k at = record { op = op; k = k; at = at; kind = Fail }
 
 abbrev one : Stored
 one = unit_of One 0
@@ -487,6 +490,51 @@ pub lost_and_stopped : target_answer one (keep 7 0 0 ∷ []) (ten 0x2A 1 2 1) (l
     ≡ record { done = 0; sense = Some (record { key = 3; asc = 12; ascq = 0; info = Some 2 }); blocks = fresh One 512 0 ∷ fresh One 512 1 ∷ (1 ∷ 2 ∷ []) ∷ fresh One 512 3 ∷ []; sent = [] }
 unfolding refusal target_answer to_medium from_medium found_in crc
 lost_and_stopped = refl
+
+-- Of two blocks the medium can't store the second: the first is done, and what stood in the other's place stays.
+pub second_not_stored : ask one (fail 7 1 TargetToMedium ∷ []) (ten 0x2A 1 2 2) (label 7 0 ∷ label 7 1 ∷ []) (tagged 0 0 2 ++ tagged 0 0 3) 0
+    ≡ record { done = 1; sense = Some (record { key = 3; asc = 12; ascq = 0; info = Some 3 }); blocks = fresh One 512 0 ∷ fresh One 512 1 ∷ tagged 0 0 2 ∷ fresh One 512 3 ∷ []; sent = [] }
+unfolding refusal target_answer to_medium from_medium found_in crc
+second_not_stored = refl
+
+pub second_not_sent : ask one (fail 7 1 MediumToTarget ∷ []) (ten 0x28 1 2 2) (label 7 0 ∷ label 7 1 ∷ []) [] 1040
+    ≡ record { done = 1; sense = Some (record { key = 3; asc = 17; ascq = 0; info = Some 3 }); blocks = one.blocks; sent = fresh One 512 2 ∷ [] }
+unfolding refusal target_answer to_medium from_medium found_in crc
+second_not_sent = refl
+
+-- Its crossing says nothing.
+pub not_sent_under_another_crossing : ask one (fail 7 0 AdapterToTarget ∷ []) (ten 0x28 1 2 2) (label 7 0 ∷ label 7 1 ∷ []) [] 1040
+    ≡ ends one 3 17 0 (Some 2)
+unfolding refusal target_answer to_medium from_medium found_in crc
+not_sent_under_another_crossing = refl
+
+-- A write comes to the check before the medium, a read behind it.
+pub found_before_it_fails : ask one (flip 7 0 AdapterToTarget 0 1 ∷ fail 7 0 TargetToMedium ∷ []) (ten 0x2A 1 2 1) (label 7 0 ∷ label 7 1 ∷ []) (tagged 0 0 2) 0
+    ≡ ends one 11 16 1 (Some 2)
+unfolding refusal target_answer to_medium from_medium found_in crc
+found_before_it_fails = refl
+
+pub failed_before_it_is_found : ask one (flip 7 0 MediumToTarget 0 1 ∷ fail 7 0 MediumToTarget ∷ []) (ten 0x28 1 2 1) (label 7 0 ∷ label 7 1 ∷ []) [] 520
+    ≡ ends one 3 17 0 (Some 2)
+unfolding refusal target_answer to_medium from_medium found_in crc
+failed_before_it_is_found = refl
+
+-- Of a block that isn't stored nothing is kept, and no store call is made that could fail.
+pub lost_and_failed : target_answer one (keep 7 0 1 ∷ fail 7 0 TargetToMedium ∷ []) (ten 0x2A 1 2 1) (label 7 0 ∷ []) (tagged 0 0 2) 0 (Some (record { at = 0; left = 1 ∷ 2 ∷ [] }))
+    ≡ ends one 3 12 0 (Some 2)
+unfolding refusal target_answer to_medium from_medium found_in crc
+lost_and_failed = refl
+
+-- Without a label no line says so.
+pub nothing_failed_of_another : ask one (fail 7 0 TargetToMedium ∷ []) (ten 0x2A 1 2 1) [] (tagged 0 0 2) 0
+    ≡ record { done = 1; sense = None; blocks = fresh One 512 0 ∷ fresh One 512 1 ∷ tagged 0 0 2 ∷ fresh One 512 3 ∷ []; sent = [] }
+unfolding refusal target_answer to_medium from_medium found_in crc
+nothing_failed_of_another = refl
+
+pub verified_where_a_read_fails : ask one (fail 7 0 MediumToTarget ∷ []) (ten 0x2F 1 3 1) (label 7 0 ∷ []) [] 0
+    ≡ record { done = 1; sense = None; blocks = one.blocks; sent = [] }
+unfolding refusal target_answer to_medium from_medium found_in crc
+verified_where_a_read_fails = refl
 
 pub flip_of_a_tuple_that_is_made : ask one (flip 7 0 TargetToMedium 519 1 ∷ flip 7 0 AdapterToTarget 519 1 ∷ []) (ten 0x2A 0 2 1) (label 7 0 ∷ label 7 1 ∷ []) one_last 0
     ≡ record { done = 1; sense = None; blocks = fresh One 512 0 ∷ fresh One 512 1 ∷ tagged 0 0 3 ∷ fresh One 512 3 ∷ []; sent = [] }

@@ -1,4 +1,4 @@
-use Rattle.std.specs.Prelude.{ℕ, ◌+◌, ◌-◌, ◌*◌, ◌%◌, ◌^◌, min, Bool, false, not, ◌&&◌, eqb, leb, ltb, if◌then◌else◌, List, [], ◌∷◌, ◌++◌, length, take, drop, replicate, slice_get, ℤ, pos, negsuc, ◌+ℤ◌, nat_abs, Option, Some, None, Result, Ok, Err}
+use Rattle.std.specs.Prelude.{ℕ, ◌+◌, ◌-◌, ◌*◌, ◌%◌, ◌^◌, min, Bool, true, false, not, ◌&&◌, eqb, leb, ltb, if◌then◌else◌, List, [], ◌∷◌, ◌++◌, length, take, drop, replicate, slice_get, ℤ, pos, negsuc, ◌+ℤ◌, nat_abs, Option, Some, None, Result, Ok, Err}
 use Rattle.std.specs.Int.{w32, w64, to_be_bytes}
 use Rattle.pi_tuple.specs.Finds.{is_zero}
 use Rattle.pi_tuple.specs.declared.checks.PiType.{PiType}
@@ -9,7 +9,7 @@ use Rattle.cdb_codec.specs.declared.command.Rw.{Rw}
 use Rattle.cdb_codec.specs.declared.command.Cdb.{Cdb}
 use Rattle.cdb_codec.specs.declared.command.CdbFault.{CdbFault}
 use Rattle.cdb_codec.specs.declared.command.CdbFault.TheVariants.{Opcode, Field, Length}
-use Rattle.fault_schedule.specs.Altered.{kept, shift_of}
+use Rattle.fault_schedule.specs.Altered.{fails_of, kept, shift_of}
 use Rattle.fault_schedule.specs.declared.Label.{Label}
 use Rattle.fault_schedule.specs.declared.fault.Crossing.{Crossing}
 use Rattle.fault_schedule.specs.declared.fault.Crossing.TheVariants.{AdapterToTarget, MediumToTarget}
@@ -134,17 +134,27 @@ pub record Answer : Type 0 where
   pub blocks : List (List ℕ)
   pub sent : List (List ℕ)
 
--- the frames of the longest prefix without a finding
-abbrev pub passed : List (Result (List ℕ) Check) → List (List ℕ)
+-- why a block isn't stored or sent: a check found it bad, or a fault line says that the medium can't; the latter with the additional sense code
+pub data Flaw : Type 0 where
+  Found : Check → Flaw
+  Broken : ℕ → Flaw
+
+-- the sense of a command that ends at a block with this flaw
+abbrev pub flaw_sense : Flaw → ℕ → Sense
+flaw_sense (Found check) lba = check_sense check lba
+flaw_sense (Broken asc) lba = medium_sense asc lba
+
+-- the frames of the longest prefix without a flaw
+abbrev pub passed : List (Result (List ℕ) Flaw) → List (List ℕ)
 passed [] = []
 passed (Ok frame ∷ rest) = frame ∷ passed rest
-passed (Err check ∷ rest) = []
+passed (Err flaw ∷ rest) = []
 
 -- the sense of the block after it, where there is one; the address is that of the first
-abbrev pub first_sense : ℕ → List (Result (List ℕ) Check) → Option Sense
+abbrev pub first_sense : ℕ → List (Result (List ℕ) Flaw) → Option Sense
 first_sense lba [] = None
 first_sense lba (Ok frame ∷ rest) = first_sense (lba + 1) rest
-first_sense lba (Err check ∷ rest) = Some (check_sense check lba)
+first_sense lba (Err flaw ∷ rest) = Some (flaw_sense flaw lba)
 
 -- how the blocks of a command end: how many are done, the sense, and the frames that are stored or sent
 pub record Ended : Type 0 where
@@ -152,12 +162,12 @@ pub record Ended : Type 0 where
   pub sense : Option Sense
   pub frames : List (List ℕ)
 
--- exactly the prefix without a finding is done
-abbrev pub whole : (lba : ℕ) → List (Result (List ℕ) Check) → Ended
+-- exactly the prefix without a flaw is done
+abbrev pub whole : (lba : ℕ) → List (Result (List ℕ) Flaw) → Ended
 whole lba judged = record { done = length (passed judged); sense = first_sense lba judged; frames = passed judged }
 
 -- of a write: a store call that fails comes after the check of its block, ends the prefix there, and leaves other bytes in its place
-abbrev pub write_end : (lba : ℕ) → List (Result (List ℕ) Check) → Option Stop → Ended
+abbrev pub write_end : (lba : ℕ) → List (Result (List ℕ) Flaw) → Option Stop → Ended
 write_end lba judged None = whole lba judged
 write_end lba judged (Some s) =
     if ltb s.at (length (passed judged))
@@ -165,7 +175,7 @@ write_end lba judged (Some s) =
     else whole lba judged
 
 -- of a read: a store call that fails comes before the check of its block, and ends the prefix there
-abbrev pub read_end : (lba : ℕ) → List (Result (List ℕ) Check) → Option Stop → Ended
+abbrev pub read_end : (lba : ℕ) → List (Result (List ℕ) Flaw) → Option Stop → Ended
 read_end lba judged None = whole lba judged
 read_end lba judged (Some s) =
     if ltb s.at (length (passed judged) + 1) && ltb s.at (length judged)
@@ -183,7 +193,7 @@ abbrev pub keeping : List (List ℕ) → Ended → Answer
 keeping blocks e = record { done = e.done; sense = e.sense; blocks = blocks; sent = [] }
 
 -- each block judged by itself, from this one of the command on
-abbrev pub each : (ℕ → List ℕ → Result (List ℕ) Check) → ℕ → List (List ℕ) → List (Result (List ℕ) Check)
+abbrev pub each : (ℕ → List ℕ → Result (List ℕ) Flaw) → ℕ → List (List ℕ) → List (Result (List ℕ) Flaw)
 each judge k [] = []
 each judge k (frame ∷ frames) = judge k frame ∷ each judge (k + 1) frames
 
@@ -200,26 +210,54 @@ passage unit c lba labels k = record {
   label = slice_get labels k;
 }
 
--- what comes of each block of a write of these bytes, and of a read of these blocks
-abbrev pub written_by : UnitSpec → Rw → (lba : ℕ) → List FaultLine → List Label → List ℕ → List (Result (List ℕ) Check)
-written_by unit c lba faults labels out =
-    each (λ k frame. to_medium faults (passage unit c lba labels k) frame) 0 (frames_of (sent_size c.protect unit.size) c.n out)
+-- A fault line says that the medium can't store or send the block; one without a label it can.
+abbrev pub fails_under : List FaultLine → Option Label → Bool
+fails_under faults None = false
+fails_under faults (Some label) = fails_of faults label
 
-abbrev pub read_by : UnitSpec → Rw → (lba : ℕ) → List FaultLine → List Label → List (List ℕ) → List (Result (List ℕ) Check)
-read_by unit c lba faults labels blocks = each (λ k frame. from_medium faults (passage unit c lba labels k) frame) 0 blocks
+-- So block k of a command.
+abbrev pub fails_at : List FaultLine → List Label → ℕ → Bool
+fails_at faults labels k = fails_under faults (slice_get labels k)
+
+-- A write is stored where it passes the target's check and the medium can store it.
+abbrev pub stored_unless : Bool → Result (List ℕ) Check → Result (List ℕ) Flaw
+stored_unless broken (Err check) = Err (Found check)
+stored_unless false (Ok frame) = Ok frame
+stored_unless true (Ok frame) = Err (Broken WRITE_ERROR)
+
+-- A read comes to the target's check where the medium can send it.
+abbrev pub sent_unless : Bool → Result (List ℕ) Check → Result (List ℕ) Flaw
+sent_unless true checked = Err (Broken UNRECOVERED_READ)
+sent_unless false (Ok frame) = Ok frame
+sent_unless false (Err check) = Err (Found check)
+
+-- a block on its way to the medium, and from it, where the medium may fail
+abbrev pub onto_medium : List FaultLine → Passage → List ℕ → Result (List ℕ) Flaw
+onto_medium faults b frame = stored_unless (fails_under faults b.label) (to_medium faults b frame)
+
+abbrev pub off_medium : List FaultLine → Passage → List ℕ → Result (List ℕ) Flaw
+off_medium faults b stored = sent_unless (fails_under faults b.label) (from_medium faults b stored)
+
+-- what comes of each block of a write of these bytes, and of a read of these blocks
+abbrev pub written_by : UnitSpec → Rw → (lba : ℕ) → List FaultLine → List Label → List ℕ → List (Result (List ℕ) Flaw)
+written_by unit c lba faults labels out =
+    each (λ k frame. onto_medium faults (passage unit c lba labels k) frame) 0 (frames_of (sent_size c.protect unit.size) c.n out)
+
+abbrev pub read_by : UnitSpec → Rw → (lba : ℕ) → List FaultLine → List Label → List (List ℕ) → List (Result (List ℕ) Flaw)
+read_by unit c lba faults labels blocks = each (λ k frame. off_medium faults (passage unit c lba labels k) frame) 0 blocks
 
 -- what stands in a block's place when its frame is stored over an old one; without a label it is the frame
 abbrev pub kept_under : List FaultLine → Option Label → (old frame : List ℕ) → List ℕ
 kept_under faults None old frame = frame
 kept_under faults (Some label) old frame = kept faults label old frame
 
--- of a block that isn't found bad, what stands in its place afterwards
-abbrev pub then_kept : List FaultLine → Option Label → (old : List ℕ) → Result (List ℕ) Check → Result (List ℕ) Check
+-- of a block that is stored, what stands in its place afterwards
+abbrev pub then_kept : List FaultLine → Option Label → (old : List ℕ) → Result (List ℕ) Flaw → Result (List ℕ) Flaw
 then_kept faults label old (Ok frame) = Ok (kept_under faults label old frame)
-then_kept faults label old (Err check) = Err check
+then_kept faults label old (Err flaw) = Err flaw
 
 -- and of each block of a write; the first is block k of the command
-abbrev pub kept_over : List FaultLine → List Label → (k : ℕ) → (olds : List (List ℕ)) → List (Result (List ℕ) Check) → List (Result (List ℕ) Check)
+abbrev pub kept_over : List FaultLine → List Label → (k : ℕ) → (olds : List (List ℕ)) → List (Result (List ℕ) Flaw) → List (Result (List ℕ) Flaw)
 kept_over faults labels k olds [] = []
 kept_over faults labels k [] (judged ∷ rest) = judged ∷ rest
 kept_over faults labels k (old ∷ olds) (judged ∷ rest) = then_kept faults (slice_get labels k) old judged ∷ kept_over faults labels (k + 1) olds rest

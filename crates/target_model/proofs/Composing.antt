@@ -13,10 +13,9 @@ use Rattle.std.proofs.lemmas.Bool.Decides.{nat_tests}
 use Rattle.std.proofs.lemmas.Bool.{eqb-true}
 use Rattle.fault_schedule.specs.declared.Label.{Label}
 use Rattle.fault_schedule.specs.declared.fault.FaultLine.{FaultLine}
-use Rattle.pi_tuple.specs.declared.checks.Check.{Check}
 use Rattle.sense_codes.specs.declared.Sense.{Sense}
 use Rattle.rig_api.specs.Frames.{stored_size, sent_size, frames_of, joined, placed}
-use Rattle.rig_api.specs.Target.{Stored, Stop, Answer, answer_unless, asc_of, capacity_data, refusal, target_answer, carried_out, first_of, illegal, keeping, kept_over, medium_address, read_by, read_end, refusals_of, sending, shape_of, storing, stored_from, wire_address, write_end, written_by}
+use Rattle.rig_api.specs.Target.{Flaw, Stored, Stop, Answer, answer_unless, asc_of, capacity_data, refusal, target_answer, carried_out, first_of, illegal, keeping, kept_over, medium_address, read_by, read_end, refusals_of, sending, shape_of, storing, stored_from, wire_address, write_end, written_by}
 use Rattle.rig_api.specs.declared.request.Request.{Request}
 use Rattle.rig_api.specs.declared.request.Request.TheVariants.{Read, Write, Verify, ReadCapacity}
 use Rattle.rig_api.specs.declared.units.UnitSpec.{UnitSpec}
@@ -110,7 +109,7 @@ pub served_written : (u : LogicalUnit) (cdb : Cdb) (c : Rw) (lba place o n room 
     place ≡ u.at + wide u * (lba - u.first) → AllWritten (write_end lba (kept_over faults labels 0 (frames_of (wide u) c.n (drop place bytes)) (written_by (shape_in u) c lba faults labels out))) (wide u) place o n bytes now result →
     Served u (answer_to (unit_in u bytes) cdb (Write c) faults labels out room) o n bytes now result into into
 served_written u cdb c lba place o n room faults labels out bytes into now result h t e b p w =
-    let judged : List (Result (List ℕ) Check) = kept_over faults labels 0 (frames_of (wide u) c.n (drop place bytes)) (written_by (shape_in u) c lba faults labels out) in
+    let judged : List (Result (List ℕ) Flaw) = kept_over faults labels 0 (frames_of (wide u) c.n (drop place bytes)) (written_by (shape_in u) c lba faults labels out) in
     let frames : List (List ℕ) = (write_end lba judged w.stop).frames in
     let few = few_written lba judged w.stop in
     let many : length judged ≡ c.n = kept-many faults labels 0 (frames_of (wide u) c.n (drop place bytes)) (written_by (shape_in u) c lba faults labels out) ∙ many_written (shape_in u) c lba faults labels out in

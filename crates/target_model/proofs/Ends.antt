@@ -1,16 +1,15 @@
 -- Blocks of a command that are judged one after another.
 use Rattle.std.proofs.Common.{ℕ, zero, suc, ◌≡◌, ◌+◌, ◌-◌, ◌*◌, ◌<◌, true, ◌&&◌, ltb, List, [], ◌∷◌, ◌++◌, length, take, drop, Option, Some, None, Result, Ok, Err, refl, sym, ap, ◌∙◌, arith, append_assoc, append-nil, length-append, add-zero}
 use Rattle.std.proofs.lemmas.Bool.{lt-ltb, and_from}
-use Rattle.pi_tuple.specs.declared.checks.Check.{Check}
 use Rattle.sense_codes.specs.declared.Sense.{Sense}
 use Rattle.rig_api.specs.Frames.{frames_of, joined}
-use Rattle.rig_api.specs.Target.{Ended, passed, first_sense, each, whole, write_end, read_end, check_sense, medium_sense}
+use Rattle.rig_api.specs.Target.{Ended, Flaw, passed, first_sense, flaw_sense, each, whole, write_end, read_end, medium_sense}
 use Rattle.rig_api.proofs.FrameLaws.{joined_append}
 use Rattle.target_model.specs.Served.{AllLong}
 use Rattle.target_model.proofs.Bytes.{long_one}
 
 abbrev pub Judge : Type 0
-Judge = ℕ → List ℕ → Result (List ℕ) Check
+Judge = ℕ → List ℕ → Result (List ℕ) Flaw
 
 -- what is known when the first k blocks were accepted: their frames, each of so many bytes, and that the others stand in rest
 pub record Along (judge : Judge) (lba len n size k : ℕ) (rest all : List ℕ) (kept : List (List ℕ)) : Type 0 where
@@ -53,10 +52,10 @@ same_end : (a b : ℕ) (x y : Option Sense) (p q : List (List ℕ)) → a ≡ b 
 same_end a b x y p q e f g = cc
 
 -- the next one isn't accepted
-pub ends_found : (judge : Judge) (lba len n size k : ℕ) (rest all : List ℕ) (kept : List (List ℕ)) (check : Check) → k < n → Along judge lba len n size k rest all kept →
-    judge k (take len rest) ≡ Err check → whole lba (each judge 0 (frames_of len n all)) ≡ record { done = k; sense = Some (check_sense check (lba + k)); frames = kept }
-ends_found judge lba len n size k rest all kept check h a j =
-    let err : each judge k (frames_of len (n - k) rest) ≡ Err check ∷ each judge (k + 1) (frames_of len (n - (k + 1)) (drop len rest)) = next_frames judge len n k rest h ∙ ap (λ r. r ∷ each judge (k + 1) (frames_of len (n - (k + 1)) (drop len rest))) j in
+pub ends_found : (judge : Judge) (lba len n size k : ℕ) (rest all : List ℕ) (kept : List (List ℕ)) (flaw : Flaw) → k < n → Along judge lba len n size k rest all kept →
+    judge k (take len rest) ≡ Err flaw → whole lba (each judge 0 (frames_of len n all)) ≡ record { done = k; sense = Some (flaw_sense flaw (lba + k)); frames = kept }
+ends_found judge lba len n size k rest all kept flaw h a j =
+    let err : each judge k (frames_of len (n - k) rest) ≡ Err flaw ∷ each judge (k + 1) (frames_of len (n - (k + 1)) (drop len rest)) = next_frames judge len n k rest h ∙ ap (λ r. r ∷ each judge (k + 1) (frames_of len (n - (k + 1)) (drop len rest))) j in
     let frames : passed (each judge 0 (frames_of len n all)) ≡ kept = a.frames ∙ ap (λ v. kept ++ passed v) err ∙ append-nil kept in
     same_end _ _ _ _ _ _ (ap length frames ∙ a.many) (a.sense ∙ ap (λ v. first_sense (lba + k) v) err) frames
 

@@ -3,10 +3,9 @@ use Rattle.std.proofs.Common.{ℕ, ◌≡◌, ◌+◌, ◌*◌, ◌<◌, ◌≤�
 use Rattle.std.specs.Prelude.{replicate}
 use Rattle.std.proofs.lemmas.List.{length-take, length-replicate}
 use Rattle.dix_base.specs.Told.{over, Rose}
-use Rattle.pi_tuple.specs.declared.checks.Check.{Check}
 use Rattle.sense_codes.specs.declared.Sense.{Sense}
 use Rattle.rig_api.specs.Frames.{frames_of, joined}
-use Rattle.rig_api.specs.Target.{Stop, Ended, each, read_end, check_sense, medium_sense}
+use Rattle.rig_api.specs.Target.{Stop, Ended, Flaw, each, flaw_sense, read_end, medium_sense}
 use Rattle.rig_api.proofs.FrameLaws.{joined_append, frames_length}
 use Rattle.rig_api.specs.Telling.{HasCause, at_front}
 use Rattle.target_model.specs.Served.{AllRead, BlockRead}
@@ -28,7 +27,7 @@ more_front kept frame before into into' end e n o =
     ∙ ap (λ v. at_front v before) (sym (joined_append kept (frame ∷ []) ∙ ap (λ v. joined kept ++ v) (append-nil frame)))
 
 -- one more, in the code's words for the block and its lengths
-pub sent_next : (judge : Judge) (lba len n size k o f end : ℕ) (rest rest' all before into into' buf frame : List ℕ) (kept : List (List ℕ)) (r : Result (List ℕ) Check) (size' lba' : ℕ) → k < n → end ≡ size * k → size ≤ length buf →
+pub sent_next : (judge : Judge) (lba len n size k o f end : ℕ) (rest rest' all before into into' buf frame : List ℕ) (kept : List (List ℕ)) (r : Result (List ℕ) Flaw) (size' lba' : ℕ) → k < n → end ≡ size * k → size ≤ length buf →
     Along judge lba len n size k rest all kept → into ≡ at_front (joined kept) before → r ≡ judge k (take len rest) → size' ≡ size → rest' ≡ drop len rest → frame ≡ take size buf →
     BlockRead r size' lba' o f None buf → into' ≡ over end frame into → Sent judge lba len n size (k + 1) rest' all before into'
 sent_next judge lba len n size k o f end rest rest' all before into into' buf frame kept r size' lba' h e lb a i er es ed ef b io =
@@ -52,7 +51,7 @@ all_read end bytes k o f before into sense frames stop cause e i = record {
 
 ends_by : (judge : Judge) (lba len n size k o o' f : ℕ) (rest all before into : List ℕ) (kept : List (List ℕ)) (sense : Sense) → k < n → o ≤ o' →
     Along judge lba len n size k rest all kept → into ≡ at_front (joined kept) before →
-    (Rose o' f × (sense ≡ medium_sense 0x11 (lba + k))) ⊎ ((check : Check) × (judge k (take len rest) ≡ Err check) × (sense ≡ check_sense check (lba + k))) →
+    (Rose o' f × (sense ≡ medium_sense 0x11 (lba + k))) ⊎ ((flaw : Flaw) × (judge k (take len rest) ≡ Err flaw) × (sense ≡ flaw_sense flaw (lba + k))) →
     AllRead (read_end lba (each judge 0 (frames_of len n all))) len o f (record { done = k; sense = Some sense }) before into
 ends_by judge lba len n size k o o' f rest all before into kept sense h c a i (inl b) =
     let left : List ℕ = replicate len 0 in
@@ -62,7 +61,7 @@ ends_by judge lba len n size k o o' f rest all before into kept sense h c a i (i
     all_read _ len k o f before into (Some sense) kept None tt (ends_found judge lba len n size k rest all kept b.0 h a b.1 ∙ ap (λ v. record { done = k; sense = Some v; frames = kept }) (sym b.2)) i
 
 -- it ends at block k
-pub sent_until : (judge : Judge) (lba len n size k o o' f : ℕ) (rest all before into buf : List ℕ) (kept : List (List ℕ)) (sense : Sense) (r : Result (List ℕ) Check) (size' lba' len₂ : ℕ) → k < n → o ≤ o' →
+pub sent_until : (judge : Judge) (lba len n size k o o' f : ℕ) (rest all before into buf : List ℕ) (kept : List (List ℕ)) (sense : Sense) (r : Result (List ℕ) Flaw) (size' lba' len₂ : ℕ) → k < n → o ≤ o' →
     Along judge lba len n size k rest all kept → into ≡ at_front (joined kept) before → r ≡ judge k (take len rest) → lba' ≡ lba + k → len₂ ≡ len → BlockRead r size' lba' o' f (Some sense) buf →
     AllRead (read_end lba (each judge 0 (frames_of len₂ n all))) len₂ o f (record { done = k; sense = Some sense }) before into
 sent_until judge lba len n size k o o' f rest all before into buf kept sense r size' lba' len₂ h c a i er el en b =

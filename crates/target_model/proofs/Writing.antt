@@ -2,12 +2,11 @@
 use Rattle.std.proofs.Common.{ℕ, ◌≡◌, ◌+◌, ◌*◌, ◌<◌, ◌≤◌, List, [], ◌∷◌, ◌++◌, length, take, drop, Option, Some, None, Result, Ok, Err, refl, sym, ap, subst, ◌∙◌, arith, append-nil, length-append}
 use Rattle.std.specs.Prelude.{slice_get}
 use Rattle.dix_base.specs.Told.{over}
-use Rattle.pi_tuple.specs.declared.checks.Check.{Check}
 use Rattle.fault_schedule.specs.declared.Label.{Label}
 use Rattle.fault_schedule.specs.declared.fault.FaultLine.{FaultLine}
 use Rattle.sense_codes.specs.declared.Sense.{Sense}
 use Rattle.rig_api.specs.Frames.{frames_of, joined}
-use Rattle.rig_api.specs.Target.{Stop, Ended, each, kept_over, then_kept, write_end}
+use Rattle.rig_api.specs.Target.{Stop, Ended, Flaw, each, kept_over, then_kept, write_end}
 use Rattle.rig_api.proofs.FrameLaws.{joined_append}
 use Rattle.rig_api.specs.Telling.{HasCause}
 use Rattle.rig_api.specs.declared.rig.Outcome.{Outcome}
@@ -28,10 +27,10 @@ more_over : (place at size k : ℕ) (kept : List (List ℕ)) (frame was : List �
 more_over place at size k kept frame was h e l =
     over_next place at (joined kept) frame was h (omega (arith, e, l)) ∙ ap (λ v. over place v was) (sym (joined_append kept (frame ∷ []) ∙ ap (λ v. joined kept ++ v) (append-nil frame)))
 
-wrote_by : (judge : Judge) (lba len n size k place at o f : ℕ) (rest all was : List ℕ) (now : Option (List ℕ)) (kept : List (List ℕ)) (r : Result (List ℕ) Check) → place ≤ length was → k < n →
+wrote_by : (judge : Judge) (lba len n size k place at o f : ℕ) (rest all was : List ℕ) (now : Option (List ℕ)) (kept : List (List ℕ)) (r : Result (List ℕ) Flaw) → place ≤ length was → k < n →
     at ≡ place + size * k → Along judge lba len n size k rest all kept → judge k (take len rest) ≡ r → BlockWritten r size at (lba + k) o f (over place (joined kept) was) None now →
     Wrote judge lba len n size (k + 1) (drop len rest) all place was now
-wrote_by judge lba len n size k place at o f rest all was now kept (Err check) h l e a j b = absurd (cc)
+wrote_by judge lba len n size k place at o f rest all was now kept (Err flaw) h l e a j b = absurd (cc)
 wrote_by judge lba len n size k place at o f rest all was now kept (Ok frame) h l e a j b =
     (kept ++ (frame ∷ []), goes_on judge lba len n size k rest all frame kept l a j b.0, b.1 ∙ ap (λ v. Some v) (more_over place at size k kept frame was h e a.bytes))
 
@@ -68,12 +67,12 @@ longer size k kept left m l s =
     let many : length (kept ++ (left ∷ [])) ≡ k + 1 = length-append kept (left ∷ []) ∙ ap (λ v. v + 1) m in
     more ∙ (omega (arith, l, s)) ∙ ap (λ v. size * v) (sym many)
 
-ends_by : (judge : Judge) (lba len n size k place at o o' f : ℕ) (rest all was : List ℕ) (now : Option (List ℕ)) (kept : List (List ℕ)) (sense : Sense) (r : Result (List ℕ) Check) →
+ends_by : (judge : Judge) (lba len n size k place at o o' f : ℕ) (rest all was : List ℕ) (now : Option (List ℕ)) (kept : List (List ℕ)) (sense : Sense) (r : Result (List ℕ) Flaw) →
     place ≤ length was → k < n → at ≡ place + size * k → o ≤ o' → Along judge lba len n size k rest all kept → judge k (take len rest) ≡ r →
     BlockWritten r size at (lba + k) o' f (over place (joined kept) was) (Some sense) now →
     AllWritten (write_end lba (each judge 0 (frames_of len n all))) size place o f was now (record { done = k; sense = Some sense })
-ends_by judge lba len n size k place at o o' f rest all was now kept sense (Err check) h l e c a j b =
-    all_written _ size place k o f was now (Some sense) kept None tt (ends_found judge lba len n size k rest all kept check l a j ∙ ap (λ v. record { done = k; sense = v; frames = kept }) (sym b.0)) (a.bytes ∙ ap (λ v. size * v) (sym a.many)) a.long b.1
+ends_by judge lba len n size k place at o o' f rest all was now kept sense (Err flaw) h l e c a j b =
+    all_written _ size place k o f was now (Some sense) kept None tt (ends_found judge lba len n size k rest all kept flaw l a j ∙ ap (λ v. record { done = k; sense = v; frames = kept }) (sym b.0)) (a.bytes ∙ ap (λ v. size * v) (sym a.many)) a.long b.1
 ends_by judge lba len n size k place at o o' f rest all was now kept sense (Ok frame) h l e c a j b =
     let left : List ℕ = b.1.2.0 in
     let short : length left ≡ size = b.1.2.1 ∙ b.0 in
@@ -98,7 +97,7 @@ wrote_all judge lba len n size k place o f rest all was now e w =
     all_written _ size place k o f was now None w.0 None tt (ends_all judge lba len n size k rest all w.0 e w.1) (w.1.bytes ∙ ap (λ v. size * v) (sym w.1.many)) w.1.long w.2
 
 -- The same with the code's words for the block and its lengths, and with what a line keeps from the store.
-pub wrote_next : (judge : Judge) (faults : List FaultLine) (labels : List Label) (lba len n size k place at o f : ℕ) (rest rest' all was : List ℕ) (now : Option (List ℕ)) (kept : List (List ℕ)) (r : Result (List ℕ) Check) (label : Option Label) (size' lba' : ℕ)
+pub wrote_next : (judge : Judge) (faults : List FaultLine) (labels : List Label) (lba len n size k place at o f : ℕ) (rest rest' all was : List ℕ) (now : Option (List ℕ)) (kept : List (List ℕ)) (r : Result (List ℕ) Flaw) (label : Option Label) (size' lba' : ℕ)
     → place ≤ length was → k < n → at ≡ place + size * k → Along (keeps faults labels size place was judge) lba len n size k rest all kept → r ≡ judge k (take len rest) → label ≡ slice_get labels k → size' ≡ size → lba' ≡ lba + k → rest' ≡ drop len rest
     → BlockWritten (then_kept faults label (take size' (drop at (over place (joined kept) was))) r) size' at lba' o f (over place (joined kept) was) None now
     → Wrote (keeps faults labels size place was judge) lba len n size (k + 1) rest' all place was now
@@ -107,7 +106,7 @@ wrote_next judge faults labels lba len n size k place at o f rest rest' all was 
     let b' = rw (er, eb, es, el, still) at b in
     rw ed (wrote_more (keeps faults labels size place was judge) lba len n size k place at o f rest all was now kept h l e a b')
 
-pub wrote_until : (judge : Judge) (faults : List FaultLine) (labels : List Label) (lba len n size k place at o o' f : ℕ) (rest all was : List ℕ) (now : Option (List ℕ)) (kept : List (List ℕ)) (sense : Sense) (r : Result (List ℕ) Check) (label : Option Label) (size' lba' len₂ size₂ : ℕ)
+pub wrote_until : (judge : Judge) (faults : List FaultLine) (labels : List Label) (lba len n size k place at o o' f : ℕ) (rest all was : List ℕ) (now : Option (List ℕ)) (kept : List (List ℕ)) (sense : Sense) (r : Result (List ℕ) Flaw) (label : Option Label) (size' lba' len₂ size₂ : ℕ)
     → place ≤ length was → k < n → at ≡ place + size * k → o ≤ o' → Along (keeps faults labels size place was judge) lba len n size k rest all kept
     → r ≡ judge k (take len rest) → label ≡ slice_get labels k → size' ≡ size → lba' ≡ lba + k → len₂ ≡ len → size₂ ≡ size
     → BlockWritten (then_kept faults label (take size' (drop at (over place (joined kept) was))) r) size' at lba' o' f (over place (joined kept) was) (Some sense) now

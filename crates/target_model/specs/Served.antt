@@ -1,14 +1,13 @@
 use Rattle.std.specs.Prelude.{ℕ, ◌≡◌, ◌+◌, ◌*◌, ◌^◌, ◌<◌, ◌≤◌, ◌⊎◌, List, [], ◌∷◌, length, take, drop, Option, Some, None, Result, Ok, Err}
 use Rattle.dix_base.specs.Stores.{StoreState}
 use Rattle.dix_base.specs.Told.{Apart, Rose, over}
-use Rattle.pi_tuple.specs.declared.checks.Check.{Check}
 use Rattle.sense_codes.specs.declared.Sense.{Sense}
 use Rattle.cdb_codec.specs.declared.command.Cdb.{Cdb}
 use Rattle.cdb_codec.specs.declared.command.Rw.{Rw}
 use Rattle.fault_schedule.specs.declared.Label.{Label}
 use Rattle.fault_schedule.specs.declared.fault.FaultLine.{FaultLine}
 use Rattle.rig_api.specs.Frames.{sent_size, stored_size, frames_of, joined}
-use Rattle.rig_api.specs.Target.{Stored, Stop, Answer, Ended, carried_out, check_sense, first_of, medium_sense, refusals_of, refused, shape_of}
+use Rattle.rig_api.specs.Target.{Stored, Stop, Answer, Ended, Flaw, carried_out, first_of, flaw_sense, medium_sense, refusals_of, refused, shape_of}
 use Rattle.rig_api.specs.declared.request.Request.{Request}
 use Rattle.rig_api.specs.declared.units.UnitSpec.{UnitSpec}
 use Rattle.rig_api.specs.Telling.{HasCause, at_front, holding}
@@ -61,16 +60,16 @@ StoredOrFailed frame place lba old new was None now = now ≡ Some (over place f
 StoredOrFailed frame place lba old new was (Some sense) now =
     Rose old new × (sense ≡ medium_sense WRITE_ERROR lba) × ((left : List ℕ) × (length left ≡ length frame) × (now ≡ Some (over place left was)))
 
--- how one block of a write ends, of which this stands in its place unless it is found bad
-abbrev pub BlockWritten : Result (List ℕ) Check → (size place lba old new : ℕ) → List ℕ → Option Sense → Option (List ℕ) → Type 0
-BlockWritten (Err check) size place lba old new was result now = (result ≡ Some (check_sense check lba)) × (now ≡ Some was)
+-- how one block of a write ends, of which this stands in its place unless it has a flaw
+abbrev pub BlockWritten : Result (List ℕ) Flaw → (size place lba old new : ℕ) → List ℕ → Option Sense → Option (List ℕ) → Type 0
+BlockWritten (Err flaw) size place lba old new was result now = (result ≡ Some (flaw_sense flaw lba)) × (now ≡ Some was)
 BlockWritten (Ok frame) size place lba old new was result now = (length frame ≡ size) × StoredOrFailed frame place lba old new was result now
 
--- how one block of a read ends, of which this came at the target: it stands at the front of the buffer, or the check or the store call failed
-abbrev pub BlockRead : Result (List ℕ) Check → (size lba old new : ℕ) → Option Sense → List ℕ → Type 0
+-- how one block of a read ends, of which this came at the target: it stands at the front of the buffer, or it has a flaw, or the store call failed
+abbrev pub BlockRead : Result (List ℕ) Flaw → (size lba old new : ℕ) → Option Sense → List ℕ → Type 0
 BlockRead judged size lba old new None frame = judged ≡ Ok (take size frame)
 BlockRead judged size lba old new (Some sense) frame =
-    (Rose old new × (sense ≡ medium_sense UNRECOVERED_READ lba)) ⊎ ((check : Check) × (judged ≡ Err check) × (sense ≡ check_sense check lba))
+    (Rose old new × (sense ≡ medium_sense UNRECOVERED_READ lba)) ⊎ ((flaw : Flaw) × (judged ≡ Err flaw) × (sense ≡ flaw_sense flaw lba))
 
 -- how the blocks of a write end: the frames that were stored stand one after another from this place on
 pub record AllWritten (end : Option Stop → Ended) (frame place old new : ℕ) (was : List ℕ) (now : Option (List ℕ)) (result : Outcome) : Type 0 where
@@ -91,11 +90,11 @@ pub record AllRead (end : Option Stop → Ended) (frame old new : ℕ) (result :
 -- ---- the same on a store that tells its bytes
 
 -- what stands in the block's place hangs on what stood there
-abbrev pub BlockWrittenOn : (List ℕ → Result (List ℕ) Check) → (size place lba : ℕ) → (old new : StoreState) → Option Sense → Type 0
+abbrev pub BlockWrittenOn : (List ℕ → Result (List ℕ) Flaw) → (size place lba : ℕ) → (old new : StoreState) → Option Sense → Type 0
 BlockWrittenOn judged size place lba old new result = (bytes : List ℕ) → old.bytes ≡ Some bytes → BlockWritten (judged bytes) size place lba old.faults new.faults bytes result new.bytes
 
 -- what came at the target is read off the store's bytes
-abbrev pub BlockReadOn : (List ℕ → Result (List ℕ) Check) → (size lba : ℕ) → (old new : StoreState) → Option Sense → List ℕ → Type 0
+abbrev pub BlockReadOn : (List ℕ → Result (List ℕ) Flaw) → (size lba : ℕ) → (old new : StoreState) → Option Sense → List ℕ → Type 0
 BlockReadOn judged size lba old new result frame = (bytes : List ℕ) → old.bytes ≡ Some bytes → BlockRead (judged bytes) size lba old.faults new.faults result frame
 
 -- the end is read off the store's bytes

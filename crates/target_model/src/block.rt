@@ -1,12 +1,11 @@
 //! One block of a command, over any store.
 
-ghost use Rattle.std.specs.Prelude.{◌≡◌, ◌+◌, ◌++◌, ◌≤◌, ◌^◌, ◌<◌, List, OnErr, OnOk, length, take, drop, true, ℕ};
+ghost use Rattle.std.specs.Prelude.{◌≡◌, ◌⊎◌, ◌+◌, ◌++◌, ◌≤◌, ◌^◌, ◌<◌, List, OnErr, OnOk, length, take, drop, true, ℕ};
 ghost use Rattle.dix_base.specs.Stores.{IsCounted, WasRead, WasWritten};
 ghost use Rattle.dix_base.specs.Told.{Apart, Becomes, Rose, over};
 ghost use Rattle.rig_api.specs.Log.{IsMediumSense, has_key};
 ghost use Rattle.rig_api.specs.Frames.{sent_size, stored_size};
-ghost use Rattle.rig_api.specs.Passing.{from_medium, to_medium};
-ghost use Rattle.rig_api.specs.Target.{kept_under, then_kept};
+ghost use Rattle.rig_api.specs.Target.{fails_under, kept_under, off_medium, onto_medium, then_kept};
 ghost use Rattle.target_model.specs.Served.{BlockReadOn, BlockWrittenOn};
 
 use crate::sense::{aborted, medium};
@@ -15,6 +14,16 @@ use fault_schedule::Tamper;
 use rig_api::Passage;
 use sense_codes::Sense;
 use sense_codes::codes::{UNRECOVERED_READ, WRITE_ERROR};
+
+/// Whether a line says that the medium can't store or send the block.
+fn is_failing(block: Passage, tamper: &Tamper) -> bool
+    ensures { result ≡ fails_under tamper.now block.label }
+{
+    match block.label {
+        None => false,
+        Some(label) => tamper.fails(label),
+    }
+}
 
 /// How many bytes of a block's frame are stored, of so many: all of them, where no line says else.
 fn bytes_stored(block: Passage, tamper: &Tamper, all: usize) -> usize
@@ -47,7 +56,8 @@ fn store_front<S: Store>(store: &mut S, place: u64, front: &[u8]) -> Result<(), 
 }
 
 /// Takes a block from the host to its place in the store. `frame` is scratch of the length of a
-/// stored block. Where the block isn't stored, the answer is the sense.
+/// stored block. Where the block isn't stored, the answer is the sense: a check found it bad, a line
+/// says that the medium can't store it, or the store's call failed.
 pub(crate) fn write_block<S: Store>(
     store: &mut S,
     place: u64,
@@ -60,9 +70,9 @@ pub(crate) fn write_block<S: Store>(
     requires sent { length sent.now ≡ sent_size block.protect block.size }
     requires fits { length sent.now ≤ length frame.old }
     requires held { place + length frame.old ≤ (S.state store.old).length }
-    ensures told { BlockWrittenOn (λ bytes. then_kept tamper.now block.label (take (stored_size block.ty block.size) (drop place bytes)) (to_medium tamper.now block sent.now))
+    ensures told { BlockWrittenOn (λ bytes. then_kept tamper.now block.label (take (stored_size block.ty block.size) (drop place bytes)) (onto_medium tamper.now block sent.now))
         (stored_size block.ty block.size) place block.lba (S.state store.old) (S.state store.new) result }
-    ensures medium { IsMediumSense result → Rose (S.state store.old).faults (S.state store.new).faults }
+    ensures medium { IsMediumSense result → Rose (S.state store.old).faults (S.state store.new).faults ⊎ (fails_under tamper.now block.label ≡ true) }
     ensures key { has_key result ≡ true }
     ensures frame { length frame.new ≡ length frame.old }
     ensures stays { WasWritten (S.state store.old) (S.state store.new) }
@@ -70,6 +80,7 @@ pub(crate) fn write_block<S: Store>(
     frame[..sent.len()].copy_from_slice(sent);
     match block.to_medium(tamper, frame) {
         Some(check) => Some(aborted(check, block.lba)),
+        None if is_failing(block, tamper) => Some(medium(WRITE_ERROR, block.lba)),
         None => {
             let stored = bytes_stored(block, tamper, frame.len());
             match store_front(store, place, &frame[..stored]) {
@@ -82,7 +93,8 @@ pub(crate) fn write_block<S: Store>(
 
 /// Takes a block from its place in the store towards the host: what is sent then stands at the
 /// front of `frame`, which has the length of a stored block. Where the block isn't sent, the
-/// answer is the sense.
+/// answer is the sense: a line says that the medium can't send it, the store's call failed, or a
+/// check found it bad.
 pub(crate) fn read_block<S: Store>(
     store: &mut S,
     place: u64,
@@ -93,13 +105,16 @@ pub(crate) fn read_block<S: Store>(
     requires frame { length frame.old ≡ stored_size block.ty block.size }
     requires fits { sent_size block.protect block.size ≤ length frame.old }
     requires held { place + length frame.old ≤ (S.state store.old).length }
-    ensures told { BlockReadOn (λ bytes. from_medium tamper.now block (take (stored_size block.ty block.size) (drop place bytes)))
+    ensures told { BlockReadOn (λ bytes. off_medium tamper.now block (take (stored_size block.ty block.size) (drop place bytes)))
         (sent_size block.protect block.size) block.lba (S.state store.old) (S.state store.new) result frame.new }
-    ensures medium { IsMediumSense result → Rose (S.state store.old).faults (S.state store.new).faults }
+    ensures medium { IsMediumSense result → Rose (S.state store.old).faults (S.state store.new).faults ⊎ (fails_under tamper.now block.label ≡ true) }
     ensures key { has_key result ≡ true }
     ensures frame { length frame.new ≡ length frame.old }
     ensures stays { WasRead (S.state store.old) (S.state store.new) }
 {
+    if is_failing(block, tamper) {
+        return Some(medium(UNRECOVERED_READ, block.lba));
+    }
     match store.read_at(place, frame) {
         Ok(()) => match block.from_medium(tamper, frame) {
             Some(check) => Some(aborted(check, block.lba)),

@@ -1,11 +1,11 @@
 //! What a unit answers to a command block, over any store.
 
-ghost use Rattle.std.specs.Prelude.{◌≡◌, ◌+◌, ◌-◌, ◌*◌, ◌^◌, ◌<◌, ◌≤◌, ◌≢◌, [], List, ℕ, length, min, take, Some, None, true};
+ghost use Rattle.std.specs.Prelude.{◌≡◌, ◌⊎◌, ◌+◌, ◌-◌, ◌*◌, ◌^◌, ◌<◌, ◌≤◌, ◌≢◌, [], List, ℕ, length, min, take, Some, None, true};
 ghost use Rattle.cdb_codec.specs.Decoded.{decoded};
 ghost use Rattle.dix_base.specs.Stores.{WasRead, WasWritten};
 ghost use Rattle.dix_base.specs.Told.{Rose};
 ghost use Rattle.rig_api.specs.Log.{IsMedium, has_key};
-ghost use Rattle.rig_api.specs.Target.{asc_of, capacity_data, illegal, protection_byte, target_answer};
+ghost use Rattle.rig_api.specs.Target.{asc_of, capacity_data, fails_at, illegal, protection_byte, target_answer};
 ghost use Rattle.rig_api.specs.declared.request.Request.TheVariants.{Read, ReadCapacity, Verify, Write};
 ghost use Rattle.target_model.specs.Served.{IsUnit, ServedOn, answer_to, block_bytes, shape_in};
 
@@ -59,7 +59,7 @@ fn write<S: Store>(
     requires unit { IsUnit unit.now (S.state store.old).length }
     ensures told { (into : List ℕ) → ServedOn unit.now (λ found. answer_to found asked.now.cdb (Write c) asked.now.tamper.now asked.now.labels.now out.now (length into))
         (S.state store.old) (S.state store.new) result into into }
-    ensures medium { IsMedium result → Rose (S.state store.old).faults (S.state store.new).faults }
+    ensures medium { IsMedium result → Rose (S.state store.old).faults (S.state store.new).faults ⊎ (fails_at asked.now.tamper.now asked.now.labels.now result.done ≡ true) }
     ensures key { has_key result.sense ≡ true }
     ensures stays { WasWritten (S.state store.old) (S.state store.new) }
 {
@@ -88,7 +88,7 @@ fn read<S: Store>(
     requires unit { IsUnit unit.now (S.state store.old).length }
     ensures told { (out : List ℕ) → ServedOn unit.now (λ found. answer_to found asked.now.cdb (Read c) asked.now.tamper.now asked.now.labels.now out (length into.old))
         (S.state store.old) (S.state store.new) result into.old into.new }
-    ensures medium { IsMedium result → Rose (S.state store.old).faults (S.state store.new).faults }
+    ensures medium { IsMedium result → Rose (S.state store.old).faults (S.state store.new).faults ⊎ (fails_at asked.now.tamper.now asked.now.labels.now result.done ≡ true) }
     ensures key { has_key result.sense ≡ true }
     ensures stays { WasRead (S.state store.old) (S.state store.new) }
 {
@@ -198,7 +198,7 @@ pub fn serve_command<S: Store>(
     requires unit { IsUnit unit.now (S.state store.old).length }
     ensures told { (cdb : List ℕ) → command ≡ decoded cdb → ServedOn unit.now (λ found. target_answer found tamper.now cdb labels.now out.now (length into.old))
         (S.state store.old) (S.state store.new) result into.old into.new }
-    ensures medium { IsMedium result → Rose (S.state store.old).faults (S.state store.new).faults }
+    ensures medium { IsMedium result → Rose (S.state store.old).faults (S.state store.new).faults ⊎ (fails_at tamper.now labels.now result.done ≡ true) }
     ensures key { has_key result.sense ≡ true }
     ensures stays { WasWritten (S.state store.old) (S.state store.new) }
 {
@@ -222,9 +222,9 @@ pub fn serve_command<S: Store>(
 /// Answers a command block: the outcome, with what is stored or sent.
 ///
 /// The first refusal comes before any block. Else the blocks are taken in order, each by one call
-/// of the store at most, up to the first that is found bad or whose call fails: those before it are stored
-/// or sent. Block `k` of a command has label `k`, whose faults alter it at its four crossings, and
-/// may keep a part of it from the medium; the shifts are those of the first label's op. Places of `into` past what is sent stay.
+/// of the store at most, up to the first that is found bad, whose call fails, or of which a line says that the
+/// medium fails: those before it are stored or sent. Block `k` of a command has label `k`, whose faults alter it
+/// at its four crossings, and may keep a part of it from the medium; the shifts are those of the first label's op. Places of `into` past what is sent stay.
 pub fn serve<S: Store>(
     store: &mut S,
     unit: &LogicalUnit,
@@ -237,7 +237,7 @@ pub fn serve<S: Store>(
     requires some { 1 ≤ unit.now.blocks }
     requires unit { IsUnit unit.now (S.state store.old).length }
     ensures told { ServedOn unit.now (λ found. target_answer found tamper.now cdb.now labels.now out.now (length into.old)) (S.state store.old) (S.state store.new) result into.old into.new }
-    ensures medium { IsMedium result → Rose (S.state store.old).faults (S.state store.new).faults }
+    ensures medium { IsMedium result → Rose (S.state store.old).faults (S.state store.new).faults ⊎ (fails_at tamper.now labels.now result.done ≡ true) }
     ensures key { has_key result.sense ≡ true }
     ensures stays { WasWritten (S.state store.old) (S.state store.new) }
 {

@@ -1,11 +1,11 @@
 //! The blocks of a command, one after another.
 
-ghost use Rattle.std.specs.Prelude.{◌≡◌, ◌+◌, ◌*◌, ◌^◌, ◌<◌, ◌≤◌, [], length, drop, Some, true};
+ghost use Rattle.std.specs.Prelude.{◌≡◌, ◌⊎◌, ◌+◌, ◌*◌, ◌^◌, ◌<◌, ◌≤◌, [], length, drop, Some, true};
 ghost use Rattle.dix_base.specs.Stores.{WasRead, WasWritten};
 ghost use Rattle.dix_base.specs.Told.{Rose, over};
 ghost use Rattle.rig_api.specs.Log.{IsMedium, has_key};
 ghost use Rattle.rig_api.specs.Frames.{frames_of, sent_size};
-ghost use Rattle.rig_api.specs.Target.{kept_over, passage, read_by, read_end, write_end, written_by};
+ghost use Rattle.rig_api.specs.Target.{fails_at, kept_over, passage, read_by, read_end, write_end, written_by};
 ghost use Rattle.target_model.specs.Served.{AllReadOn, AllVerifiedOn, AllWrittenOn, CanMove, block_bytes};
 
 use crate::block::{read_block, write_block};
@@ -68,7 +68,7 @@ pub(crate) fn write_blocks<S: Store>(
     requires out { length out.now ≡ blocks.fields.n * sent_size blocks.fields.protect blocks.unit.size }
     ensures told { AllWrittenOn (λ held. write_end blocks.lba (kept_over tamper.now labels.now 0 (frames_of (block_bytes blocks.unit) blocks.fields.n (drop place held)) (written_by blocks.unit blocks.fields blocks.lba tamper.now labels.now out.now)))
         (block_bytes blocks.unit) place (S.state store.old) (S.state store.new) result }
-    ensures medium { IsMedium result → Rose (S.state store.old).faults (S.state store.new).faults }
+    ensures medium { IsMedium result → Rose (S.state store.old).faults (S.state store.new).faults ⊎ (fails_at tamper.now labels.now result.done ≡ true) }
     ensures key { has_key result.sense ≡ true }
     ensures stays { WasWritten (S.state store.old) (S.state store.new) }
 {
@@ -114,7 +114,7 @@ pub(crate) fn read_blocks<S: Store>(
     requires into { length into.old ≡ blocks.fields.n * sent_size blocks.fields.protect blocks.unit.size }
     ensures told { AllReadOn (λ held. read_end blocks.lba (read_by blocks.unit blocks.fields blocks.lba tamper.now labels.now (frames_of (block_bytes blocks.unit) blocks.fields.n (drop place held))))
         (block_bytes blocks.unit) (S.state store.old) (S.state store.new) result into.old into.new }
-    ensures medium { IsMedium result → Rose (S.state store.old).faults (S.state store.new).faults }
+    ensures medium { IsMedium result → Rose (S.state store.old).faults (S.state store.new).faults ⊎ (fails_at tamper.now labels.now result.done ≡ true) }
     ensures key { has_key result.sense ≡ true }
     ensures stays { WasRead (S.state store.old) (S.state store.new) }
 {

@@ -1,4 +1,4 @@
-use Rattle.std.proofs.Common.{length, arith}
+use Rattle.std.proofs.Common.{length, arith, inl}
 use Rattle.rig_api.specs.declared.request.Request.TheVariants.{Write}
 use Rattle.target_model.proofs.Bytes.{told_length}
 use Rattle.target_model.proofs.Composing.{can_move, keyed, not_medium, refused_by, written_as}
@@ -15,7 +15,7 @@ returns-in-Err-clause-told g c =
     c.shape-shape.ensures (omega (arith, len, c.requires.unit.held)) e c.refused.ensures c.in-Err.ensures.refused
 
 pub returns-in-Err-clause-medium : goal.returns-in-Err-clause-medium
-returns-in-Err-clause-medium g c = not_medium c.in-Err.asc c.refused.result _ _ c.refused.ensures
+returns-in-Err-clause-medium g c = λ m. inl (not_medium c.in-Err.asc c.refused.result _ _ c.refused.ensures m)
 
 pub returns-in-Err-clause-key : goal.returns-in-Err-clause-key
 returns-in-Err-clause-key g c = keyed c.in-Err.asc c.refused.result c.refused.ensures

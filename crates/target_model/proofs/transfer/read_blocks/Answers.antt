@@ -2,8 +2,7 @@ use Rattle.std.proofs.Common.{◌≡◌, ◌+◌, ◌*◌, ◌<◌, ◌≤◌, �
 use Rattle.std.proofs.lemmas.List.{take-append-le}
 use Rattle.rig_api.specs.declared.passage.Passage.{Passage}
 use Rattle.rig_api.specs.Frames.{sent_size, stored_size}
-use Rattle.rig_api.specs.Passing.{from_medium}
-use Rattle.rig_api.specs.Target.{passage}
+use Rattle.rig_api.specs.Target.{off_medium, passage}
 use Rattle.dix_base.proofs.Stores.{not_read, read_on}
 use Rattle.target_model.proofs.Bytes.{drop_both, inside, lent, refilled, size_most}
 use Rattle.target_model.proofs.Reading.{sent_none, sent_next, sent_until, sent_whole}
@@ -36,8 +35,8 @@ loop-k-preserved g c =
           let inv = c.loop-k.invariant.told bytes e in
           sent_next _ c.args.blocks.lba c.block_bytes-stored.result c.args.blocks.fields.n c.sent_size-sent.result c.loop-k.k (g.S.Store.state c.loop-k.store).faults (g.S.Store.state c.read_block.new.store).faults c.loop-k.end _ _ _ _ c.loop-k.into _ c.read_block.new.frame _ inv.0 _ _ c.passage-block.result.lba
           c.loop-k-test.true c.loop-k.invariant.end (omega (arith, long, sent)) inv.1 inv.2
-          (ap (λ (b : Passage). from_medium c.args.tamper.now b (take (stored_size b.ty b.size) (drop c.loop-k.at bytes))) c.passage-block.ensures
-          ∙ ap (λ n. from_medium c.args.tamper.now (passage c.args.blocks.unit c.args.blocks.fields c.args.blocks.lba c.args.labels.now c.loop-k.k) (take n (drop c.loop-k.at bytes))) (sym c.block_bytes-stored.ensures.value))
+          (ap (λ (b : Passage). off_medium c.args.tamper.now b (take (stored_size b.ty b.size) (drop c.loop-k.at bytes))) c.passage-block.ensures
+          ∙ ap (λ n. off_medium c.args.tamper.now (passage c.args.blocks.unit c.args.blocks.fields c.args.blocks.lba c.args.labels.now c.loop-k.k) (take n (drop c.loop-k.at bytes))) (sym c.block_bytes-stored.ensures.value))
           (ap (λ (b : Passage). sent_size b.protect b.size) c.passage-block.ensures ∙ sym c.sent_size-sent.ensures.value)
           (sym (drop_both c.block_bytes-stored.result c.loop-k.at bytes))
           (take-append-le c.sent_size-sent.result c.read_block.new.frame (drop c.block_bytes-stored.result c.loop-k.buffer) (omega (arith, long, sent)))
@@ -56,8 +55,8 @@ returns-in-Some-clause-told g c =
     let inv = c.loop-k.invariant.told bytes e in
     rw c.ends_at.ensures (sent_until _ c.args.blocks.lba c.block_bytes-stored.result c.args.blocks.fields.n c.sent_size-sent.result c.loop-k.k _ _ _ _ _ _ _ c.read_block.new.frame inv.0 c.in-Some.sense _ (sent_size c.passage-block.result.protect c.passage-block.result.size) _ _
     c.loop-k-test.true c.loop-k.invariant.store.count inv.1 inv.2
-    (ap (λ (b : Passage). from_medium c.args.tamper.now b (take (stored_size b.ty b.size) (drop c.loop-k.at bytes))) c.passage-block.ensures
-    ∙ ap (λ n. from_medium c.args.tamper.now (passage c.args.blocks.unit c.args.blocks.fields c.args.blocks.lba c.args.labels.now c.loop-k.k) (take n (drop c.loop-k.at bytes))) (sym c.block_bytes-stored.ensures.value))
+    (ap (λ (b : Passage). off_medium c.args.tamper.now b (take (stored_size b.ty b.size) (drop c.loop-k.at bytes))) c.passage-block.ensures
+    ∙ ap (λ n. off_medium c.args.tamper.now (passage c.args.blocks.unit c.args.blocks.fields c.args.blocks.lba c.args.labels.now c.loop-k.k) (take n (drop c.loop-k.at bytes))) (sym c.block_bytes-stored.ensures.value))
     (ap (λ (b : Passage). b.lba) c.passage-block.ensures)
     (sym c.block_bytes-stored.ensures.value)
     (c.in-Some.ensures.told bytes (c.loop-k.invariant.store.same ∙ e)))

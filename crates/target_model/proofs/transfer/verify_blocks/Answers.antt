@@ -1,8 +1,7 @@
 use Rattle.std.proofs.Common.{◌≡◌, ℕ, ◌+◌, ◌*◌, ◌<◌, ◌≤◌, ◌^◌, [], length, take, drop, arith, sym, ap, ◌∙◌, refl}
 use Rattle.rig_api.specs.declared.passage.Passage.{Passage}
 use Rattle.rig_api.specs.Frames.{sent_size, stored_size}
-use Rattle.rig_api.specs.Passing.{from_medium}
-use Rattle.rig_api.specs.Target.{passage}
+use Rattle.rig_api.specs.Target.{off_medium, passage}
 use Rattle.dix_base.specs.Told.{over}
 use Rattle.dix_base.proofs.Stores.{not_read, read_on}
 use Rattle.target_model.proofs.Bytes.{drop_both, inside, lent, refilled, size_most}
@@ -36,8 +35,8 @@ loop-k-preserved g c =
             over (size * c.loop-k.k) (take size c.read_block.new.frame) inv.0,
             sent_next _ c.args.blocks.lba c.block_bytes-stored.result c.args.blocks.fields.n size c.loop-k.k (g.S.Store.state c.loop-k.store).faults (g.S.Store.state c.read_block.new.store).faults (size * c.loop-k.k) _ _ _ [] inv.0 _ c.read_block.new.frame (take size c.read_block.new.frame) inv.1.0 _ _ c.passage-block.result.lba
                 c.loop-k-test.true refl (omega (arith, long, sent)) inv.1.1 inv.1.2
-                (ap (λ (b : Passage). from_medium c.args.tamper.now b (take (stored_size b.ty b.size) (drop c.loop-k.at bytes))) c.passage-block.ensures
-                ∙ ap (λ n. from_medium c.args.tamper.now (passage c.args.blocks.unit c.args.blocks.fields c.args.blocks.lba [] c.loop-k.k) (take n (drop c.loop-k.at bytes))) (sym c.block_bytes-stored.ensures.value))
+                (ap (λ (b : Passage). off_medium c.args.tamper.now b (take (stored_size b.ty b.size) (drop c.loop-k.at bytes))) c.passage-block.ensures
+                ∙ ap (λ n. off_medium c.args.tamper.now (passage c.args.blocks.unit c.args.blocks.fields c.args.blocks.lba [] c.loop-k.k) (take n (drop c.loop-k.at bytes))) (sym c.block_bytes-stored.ensures.value))
                 (ap (λ (b : Passage). sent_size b.protect b.size) c.passage-block.ensures)
                 (sym (drop_both c.block_bytes-stored.result c.loop-k.at bytes))
                 refl
@@ -56,8 +55,8 @@ returns-in-Some-clause-told g c =
       inv.0,
       rw c.ends_at.ensures (sent_until _ c.args.blocks.lba c.block_bytes-stored.result c.args.blocks.fields.n (sent_size c.args.blocks.fields.protect c.args.blocks.unit.size) c.loop-k.k _ _ _ _ _ _ _ c.read_block.new.frame inv.1.0 c.in-Some.sense _ (sent_size c.passage-block.result.protect c.passage-block.result.size) _ _
           c.loop-k-test.true c.loop-k.invariant.store.count inv.1.1 inv.1.2
-          (ap (λ (b : Passage). from_medium c.args.tamper.now b (take (stored_size b.ty b.size) (drop c.loop-k.at bytes))) c.passage-block.ensures
-          ∙ ap (λ n. from_medium c.args.tamper.now (passage c.args.blocks.unit c.args.blocks.fields c.args.blocks.lba [] c.loop-k.k) (take n (drop c.loop-k.at bytes))) (sym c.block_bytes-stored.ensures.value))
+          (ap (λ (b : Passage). off_medium c.args.tamper.now b (take (stored_size b.ty b.size) (drop c.loop-k.at bytes))) c.passage-block.ensures
+          ∙ ap (λ n. off_medium c.args.tamper.now (passage c.args.blocks.unit c.args.blocks.fields c.args.blocks.lba [] c.loop-k.k) (take n (drop c.loop-k.at bytes))) (sym c.block_bytes-stored.ensures.value))
           (ap (λ (b : Passage). b.lba) c.passage-block.ensures)
           (sym c.block_bytes-stored.ensures.value)
           (c.in-Some.ensures.told bytes (c.loop-k.invariant.store.same ∙ e))),

@@ -1,8 +1,7 @@
 use Rattle.std.proofs.Common.{◌+◌, ◌*◌, ◌<◌, ◌^◌, length, arith, sym, ap, ◌∙◌, refl}
 use Rattle.rig_api.specs.declared.passage.Passage.{Passage}
 use Rattle.rig_api.specs.Frames.{sent_size, stored_size}
-use Rattle.rig_api.specs.Passing.{to_medium}
-use Rattle.rig_api.specs.Target.{passage}
+use Rattle.rig_api.specs.Target.{onto_medium, passage}
 use Rattle.dix_base.proofs.Stores.{not_written, written_on}
 use Rattle.target_model.proofs.Bytes.{told_length, inside, fewer, all_left, refilled, size_most}
 use Rattle.target_model.proofs.Writing.{wrote_none, wrote_next, wrote_until, wrote_whole}
@@ -30,10 +29,10 @@ loop-k-preserved g c = record {
   told = λ bytes e.
       let len = told_length _ _ bytes e (g.met.S.Store.told c.args.store.now) in
       let inv = c.loop-k.invariant.told bytes e in
-      wrote_next (λ k frame. to_medium c.args.tamper.now (passage c.args.blocks.unit c.args.blocks.fields c.args.blocks.lba c.args.labels.now k) frame) c.args.tamper.now c.args.labels.now c.args.blocks.lba c.sent_size-sent.result c.args.blocks.fields.n c.block_bytes-stored.result c.loop-k.k c.args.place c.loop-k.at _ _ c.loop-k.rest.now _ _ bytes _ inv.0 _ _ _ _
+      wrote_next (λ k frame. onto_medium c.args.tamper.now (passage c.args.blocks.unit c.args.blocks.fields c.args.blocks.lba c.args.labels.now k) frame) c.args.tamper.now c.args.labels.now c.args.blocks.lba c.sent_size-sent.result c.args.blocks.fields.n c.block_bytes-stored.result c.loop-k.k c.args.place c.loop-k.at _ _ c.loop-k.rest.now _ _ bytes _ inv.0 _ _ _ _
       (omega (arith, len, c.requires.can.held)) c.loop-k-test.true c.loop-k.invariant.at inv.1
-      (ap (λ (b : Passage). to_medium c.args.tamper.now b c.split_at.result.0.now) c.passage-block.ensures
-      ∙ ap (to_medium c.args.tamper.now (passage c.args.blocks.unit c.args.blocks.fields c.args.blocks.lba c.args.labels.now c.loop-k.k)) c.split_at.ensures.front)
+      (ap (λ (b : Passage). onto_medium c.args.tamper.now b c.split_at.result.0.now) c.passage-block.ensures
+      ∙ ap (onto_medium c.args.tamper.now (passage c.args.blocks.unit c.args.blocks.fields c.args.blocks.lba c.args.labels.now c.loop-k.k)) c.split_at.ensures.front)
       (ap (λ (b : Passage). b.label) c.passage-block.ensures)
       (ap (λ (b : Passage). stored_size b.ty b.size) c.passage-block.ensures ∙ sym c.block_bytes-stored.ensures.value)
       (ap (λ (b : Passage). b.lba) c.passage-block.ensures)
@@ -50,10 +49,10 @@ returns-in-Some-clause-told g c =
     λ bytes e.
     let len = told_length _ _ bytes e (g.met.S.Store.told c.args.store.now) in
     let inv = c.loop-k.invariant.told bytes e in
-    rw c.ends_at.ensures (wrote_until (λ k frame. to_medium c.args.tamper.now (passage c.args.blocks.unit c.args.blocks.fields c.args.blocks.lba c.args.labels.now k) frame) c.args.tamper.now c.args.labels.now c.args.blocks.lba c.sent_size-sent.result c.args.blocks.fields.n c.block_bytes-stored.result c.loop-k.k c.args.place c.loop-k.at _ _ _ c.loop-k.rest.now _ bytes _ inv.0 c.in-Some.sense _ _ _ _ _ _
+    rw c.ends_at.ensures (wrote_until (λ k frame. onto_medium c.args.tamper.now (passage c.args.blocks.unit c.args.blocks.fields c.args.blocks.lba c.args.labels.now k) frame) c.args.tamper.now c.args.labels.now c.args.blocks.lba c.sent_size-sent.result c.args.blocks.fields.n c.block_bytes-stored.result c.loop-k.k c.args.place c.loop-k.at _ _ _ c.loop-k.rest.now _ bytes _ inv.0 c.in-Some.sense _ _ _ _ _ _
     (omega (arith, len, c.requires.can.held)) c.loop-k-test.true c.loop-k.invariant.at c.loop-k.invariant.store.count inv.1
-    (ap (λ (b : Passage). to_medium c.args.tamper.now b c.split_at.result.0.now) c.passage-block.ensures
-    ∙ ap (to_medium c.args.tamper.now (passage c.args.blocks.unit c.args.blocks.fields c.args.blocks.lba c.args.labels.now c.loop-k.k)) c.split_at.ensures.front)
+    (ap (λ (b : Passage). onto_medium c.args.tamper.now b c.split_at.result.0.now) c.passage-block.ensures
+    ∙ ap (onto_medium c.args.tamper.now (passage c.args.blocks.unit c.args.blocks.fields c.args.blocks.lba c.args.labels.now c.loop-k.k)) c.split_at.ensures.front)
     (ap (λ (b : Passage). b.label) c.passage-block.ensures)
     (ap (λ (b : Passage). stored_size b.ty b.size) c.passage-block.ensures ∙ sym c.block_bytes-stored.ensures.value)
     (ap (λ (b : Passage). b.lba) c.passage-block.ensures)
@@ -64,5 +63,5 @@ returns-in-Some-clause-told g c =
 pub returns-clause-told : goal.returns-clause-told
 returns-clause-told g c =
     λ bytes e.
-    wrote_whole (λ k frame. to_medium c.args.tamper.now (passage c.args.blocks.unit c.args.blocks.fields c.args.blocks.lba c.args.labels.now k) frame) c.args.tamper.now c.args.labels.now c.args.blocks.lba c.sent_size-sent.result c.args.blocks.fields.n c.block_bytes-stored.result c.loop-k.k c.args.place _ _ c.loop-k.rest.now _ bytes _ _ _
+    wrote_whole (λ k frame. onto_medium c.args.tamper.now (passage c.args.blocks.unit c.args.blocks.fields c.args.blocks.lba c.args.labels.now k) frame) c.args.tamper.now c.args.labels.now c.args.blocks.lba c.sent_size-sent.result c.args.blocks.fields.n c.block_bytes-stored.result c.loop-k.k c.args.place _ _ c.loop-k.rest.now _ bytes _ _ _
     (omega (arith, c.loop-k-test.false, c.loop-k.auto.k-end)) (sym c.sent_size-sent.ensures.value) (sym c.block_bytes-stored.ensures.value) (c.loop-k.invariant.told bytes e)

@@ -1,4 +1,4 @@
-use Rattle.fault_schedule.proofs.Xored.{another-line, keep-line, shift-line}
+use Rattle.fault_schedule.proofs.Xored.{another-line, fail-line, keep-line, shift-line}
 use Rattle.fault_schedule.proofs.fault.FaultLine.apply.Goals as goal
 
 pub returns-then-not-is_at : goal.returns-then-not-is_at
@@ -9,3 +9,6 @@ returns-in-Shift c = shift-line c.args.self.now c.args.at c.args.label c.args.bl
 
 pub returns-in-Keep : goal.returns-in-Keep
 returns-in-Keep c = keep-line c.args.self.now c.args.at c.args.label c.args.block.now c.in-Keep.bytes (cc) c.in-Keep.is
+
+pub returns-in-Fail : goal.returns-in-Fail
+returns-in-Fail c = fail-line c.args.self.now c.args.at c.args.label c.args.block.now (cc) c.in-Fail.is
