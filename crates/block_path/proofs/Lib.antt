@@ -9,6 +9,7 @@ pub mod Passed
 pub mod PathLaws
 pub mod ReadMoves
 pub mod Serial
+pub mod Served
 pub mod Sizes
 pub mod Split
 pub mod WriteMoves

@@ -8,13 +8,13 @@ use Rattle.pi_tuple.specs.Finds.{finding, is_zero}
 use Rattle.pi_tuple.specs.declared.checks.PiType.{PiType}
 use Rattle.pi_tuple.specs.declared.checks.PiType.TheVariants.{Zero, One, Two, Three}
 use Rattle.pi_tuple.specs.declared.checks.Check.{Check}
-use Rattle.fault_schedule.specs.Altered.{kept, shift_of}
+use Rattle.fault_schedule.specs.Altered.{fails_of, kept, shift_of}
 use Rattle.fault_schedule.specs.declared.Label.{Label}
 use Rattle.fault_schedule.specs.declared.fault.Crossing.TheVariants.{AdapterToTarget, MediumToTarget}
 use Rattle.fault_schedule.specs.declared.fault.FaultLine.{FaultLine}
 use Rattle.integrity_payload.specs.Payloads.{all_asked}
 use Rattle.bio_core.specs.declared.fate.Why.{Why}
-use Rattle.bio_core.specs.declared.fate.Why.TheVariants.{Target}
+use Rattle.bio_core.specs.declared.fate.Why.TheVariants.{Medium, Target}
 use Rattle.rig_api.specs.Frames.{data_of, tuple_of}
 use Rattle.rig_api.specs.Passing.{from_medium, to_medium}
 use Rattle.rig_api.specs.declared.passage.Passage.{Passage}
@@ -106,11 +106,21 @@ abbrev pub by_target : Result (List ℕ) Check → Result (List ℕ) Why
 by_target (Ok frame) = Ok frame
 by_target (Err check) = Err (Target check)
 
+-- A write that the target accepts fails where the medium can't store it; a read that the medium can't send doesn't come to the target's check.
+abbrev pub stores_unless : Bool → Result (List ℕ) Why → Result (List ℕ) Why
+stores_unless false came = came
+stores_unless true (Ok frame) = Err Medium
+stores_unless true (Err why) = Err why
+
+abbrev pub sends_unless : Bool → Result (List ℕ) Why → Result (List ℕ) Why
+sends_unless false came = came
+sends_unless true came = Err Medium
+
 -- a target with these faults armed
 abbrev pub target : List FaultLine → Device
 target faults = record {
-  stores = λ r frame. by_target (to_medium faults (passage faults r) frame);
-  sends = λ r stored. by_target (from_medium faults (passage faults r) stored);
+  stores = λ r frame. stores_unless (fails_of faults r.label) (by_target (to_medium faults (passage faults r) frame));
+  sends = λ r stored. sends_unless (fails_of faults r.label) (by_target (from_medium faults (passage faults r) stored));
   leaves = λ r old frame. kept faults r.label old frame;
 }
 

@@ -4,7 +4,7 @@ use Rattle.pi_guard.specs.Guards.{crc}
 use Rattle.pi_guard.specs.declared.GuardKind.TheVariants.{Crc, Ip}
 use Rattle.fault_schedule.specs.declared.fault.Crossing.{Crossing}
 use Rattle.fault_schedule.specs.declared.fault.Crossing.TheVariants.{AdapterToTarget, HostToAdapter, MediumToTarget, TargetToAdapter, TargetToMedium}
-use Rattle.fault_schedule.specs.declared.fault.FaultKind.TheVariants.{Flip, Shift, Keep}
+use Rattle.fault_schedule.specs.declared.fault.FaultKind.TheVariants.{Flip, Shift, Keep, Fail}
 use Rattle.fault_schedule.specs.declared.fault.FaultLine.{FaultLine}
 use Rattle.rig_api.specs.declared.change.Change.TheVariants.{Copy}
 use Rattle.stack_ops.specs.declared.op.Op.{Op}
@@ -61,6 +61,10 @@ not_undone = refl
 -- A write that is lost on a leg.
 lost : shows_on_legs Crc 512 4 (record { op = 1; k = 0; at = TargetToMedium; kind = Keep 0 } ∷ []) ops ≡ false
 lost = refl
+
+-- A block that the medium of a leg fails.
+failed : shows_on_legs Crc 512 4 (record { op = 1; k = 0; at = TargetToMedium; kind = Fail } ∷ []) ops ≡ false
+failed = refl
 
 -- A shift, and an overwrite.
 shifted : shows_on_legs Crc 512 4 (record { op = 1; k = 0; at = AdapterToTarget; kind = Shift (pos 1) } ∷ []) ops ≡ false

@@ -15,7 +15,7 @@ use Rattle.rig_api.specs.Frames.{data_of, tuple_of}
 use Rattle.block_path.specs.Acts.{State, act, effect, tell}
 use Rattle.block_path.specs.Blocks.{fetched_cell}
 use Rattle.block_path.specs.Serial.{plain, plain_tells}
-use Rattle.walk_laws.specs.Detectable.{detectable, shows_in, step_shows}
+use Rattle.walk_laws.specs.Detectable.{detectable, step_shows}
 use Rattle.walk_laws.specs.FirstLayer.{AtAdapter, AtOwner, AtTarget, Layer, first_layer, has_flip, has_shift, is_hit, last_accepted}
 use Rattle.walk_laws.specs.Past.{Brought, Event, past_after}
 use Rattle.walk_laws.specs.ScriptWalk.{act_of}
@@ -137,7 +137,7 @@ module _ (m' : Setting) (opening : State) (half : ℕ) (count : ℕ → ℕ) (st
   ends : (b : Block) (owner : Owner) (to : List ℕ) (past : List Event) (s : State) → b.virt < half + half → detectable m (Reads b owner to ∷ []) s ≡ true → HeldIn past s.blocks →
       EndsAs m b owner to (first_layer m past b) (last_accepted m opening b past) s
   ends b owner to past s l d h =
-      let p = and_parts (shows_in m b (get_or s.blocks (fetched_cell m.site (route m b)) [])) true d in
+      let p = and_parts (step_shows m (Reads b owner to) s) true d in
       read_as m' devices lies opening cells b owner to past s (read_fits m' opening half count still devices lies cells long b owner to l) p.0 h
 
   free_ends : (b : Block) (owner : Owner) (to : List ℕ) (past : List Event) (s : State) (e : Brought) → b.virt < half + half → detectable m (Reads b owner to ∷ []) s ≡ true → HeldIn past s.blocks → IsUnnamed m b →

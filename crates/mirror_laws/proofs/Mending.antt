@@ -103,7 +103,7 @@ module _ (m' : Setting) (opening : State) (half : ℕ) where
       record { size = length-append e.body _ ∙ ap (λ k. k + 8) h.size; escape = ap (λ t. is_escaped One t) there ∙ h.bare } in
       let app_there = ap (λ (t : Tuple). t.app) there in
       let s = unnamed_stores (steady m') b f bare (record { guard = ap (λ (t : Tuple). t.guard) there ∙ ap (guard_of m'.mode.kind) (sym body_there); rtag = ap (λ (t : Tuple). t.rtag) there })
-      (subst (λ a. as_expected m a ≡ true) (sym app_there) h.expected) (λ at. refl) (on_wire (steady m') opening half none quiet b) in
+      (subst (λ a. as_expected m a ≡ true) (sym app_there) h.expected) (λ at. refl) refl (on_wire (steady m') opening half none quiet b) in
       let o : Outcome (steady m') b (own_frame (route q b) e.app e.body) (Stores s.carried s.stored) =
       subst (Outcome (steady m') b f) s.is (goes_out (steady m') b f (near (steady m') opening half none quiet b) bare (free_out (steady m') b f (λ at. refl))) in
       record { stored = s.stored; is = ap stored_of s.is; holds = record { sound = o.1.0; brought = o.1.1 ∙ same_brought body_there app_there } }
@@ -121,6 +121,7 @@ module _ (m' : Setting) (opening : State) (half : ℕ) where
         reach = near (steady m') opening half none quiet b;
         sound = λ _. subst (λ a. Sound (steady m') a x) (sym (on_medium (steady m') opening half none quiet b)) s.sound;
         spoilt = λ e. absurd (false≢true e);
+        served = refl;
         shown = free_in (steady m') b x (λ at. refl) refl;
       }) in
       record {
@@ -139,6 +140,7 @@ module _ (m' : Setting) (opening : State) (half : ℕ) where
         reach = near (steady m') opening half none quiet b;
         sound = λ e. absurd (false≢true (sym e));
         spoilt = λ _. subst (λ a. Spoilt (steady m') a x) (sym (on_medium (steady m') opening half none quiet b)) s;
+        served = refl;
         shown = free_in (steady m') b x (λ at. refl) refl;
       }) in
       let err = not_delivered (way_in q.site.faults q.site.device (route q b) OfBlock x) _ h.ends in

@@ -7,7 +7,7 @@ use Rattle.pi_tuple.specs.declared.checks.PiType.TheVariants.{One}
 use Rattle.page_pool.specs.Places.{run}
 use Rattle.fault_schedule.specs.declared.fault.Crossing.TheVariants.{HostToAdapter, TargetToAdapter}
 use Rattle.fault_schedule.specs.declared.fault.FaultLine.{FaultLine}
-use Rattle.bio_core.specs.declared.fate.Why.TheVariants.{Adapter, Short}
+use Rattle.bio_core.specs.declared.fate.Why.TheVariants.{Adapter, Medium, Short}
 use Rattle.stack_ops.specs.declared.op.Op.{Op}
 use Rattle.stack_ops.specs.declared.op.Op.TheVariants.{Fetch, Put, Show, Write}
 use Rattle.stack_ops.specs.declared.reply.Reply.TheVariants.{Bad, Shown, Silent, Whole}
@@ -19,7 +19,7 @@ use Rattle.block_path.specs.WayIn.{from_wire}
 use Rattle.block_path.specs.WayOut.{to_wire}
 use Rattle.walk_laws.specs.Past.{brought_by}
 use Rattle.walk_laws.specs.Settings.{Setting}
-use Rattle.walk_laws.proofs.ScriptRows.{flip, formatted, seg}
+use Rattle.walk_laws.proofs.ScriptRows.{fail, flip, formatted, seg}
 use Rattle.mirror_laws.specs.Mirror.{Mirror, fresh, mirror_replies, mirror_walk}
 use Rattle.mirror_laws.specs.OnLegs.{all_landed, blocks_on, come, comes_from, listed_written, marks_written, why_of, whys_written}
 use Rattle.mirror_laws.specs.LegByLeg.{brought_of}
@@ -79,6 +79,38 @@ unread_repair = mirror_repair unread 1 (mirror_walk unread 1 ops opening)
 unread_counts : (unread_repair.repaired ≡ 0) × ((unread_repair.lost ≡ 0) × (unread_repair.marks ≡ fresh ∷ []))
 unfolding crc ip found_in to_medium from_medium to_wire from_wire run
 unread_counts = (refl, (refl, refl))
+
+-- The medium of leg 0 can't store the block: as where the leg refuses it, and the repair writes it anew.
+abbrev unstored : Setting
+unstored = with_faults (fail 2 0)
+
+unstored_replies : mirror_replies unstored 1 ops opening ≡ Silent ∷ Whole ∷ Whole ∷ Shown (0xAA ∷ 0 ∷ []) ∷ []
+unfolding crc ip found_in to_medium from_medium to_wire from_wire run
+unstored_replies = refl
+
+unstored_marks : (mirror_walk unstored 1 ops opening).marks ≡ record { leg0 = false; leg1 = true } ∷ []
+unfolding crc ip found_in to_medium from_medium to_wire from_wire run
+unstored_marks = refl
+
+abbrev unstored_repair : WalkedRepair
+unstored_repair = mirror_repair unstored 1 (mirror_walk unstored 1 ops opening)
+
+unstored_counts : (unstored_repair.repaired ≡ 1) × ((unstored_repair.lost ≡ 0) × (unstored_repair.marks ≡ fresh ∷ []))
+unfolding crc ip found_in to_medium from_medium to_wire from_wire run
+unstored_counts = (refl, (refl, refl))
+
+-- It can't send it: the other leg serves it, and both stay fresh. Where neither medium sends it, the block is listed.
+unsent_replies : mirror_replies (with_faults (fail 3 0)) 1 ops opening ≡ Silent ∷ Whole ∷ Whole ∷ Shown (0xAA ∷ 0 ∷ []) ∷ []
+unfolding crc ip found_in to_medium from_medium to_wire from_wire run
+unsent_replies = refl
+
+unsent_marks : (mirror_walk (with_faults (fail 3 0)) 1 ops opening).marks ≡ fresh ∷ []
+unfolding crc ip found_in to_medium from_medium to_wire from_wire run
+unsent_marks = refl
+
+both_unsent : mirror_replies (with_faults (fail 3 0 ++ fail 3 1)) 1 ops opening ≡ Silent ∷ Whole ∷ Bad (record { k = 0; why = Medium } ∷ []) ∷ Shown (0 ∷ 0 ∷ []) ∷ []
+unfolding crc ip found_in to_medium from_medium to_wire from_wire run
+both_unsent = refl
 
 -- ---- leg by leg
 

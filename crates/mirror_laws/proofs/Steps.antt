@@ -8,7 +8,7 @@ use Rattle.pi_tuple.specs.Finds.{is_escaped}
 use Rattle.pi_tuple.specs.declared.tuple.Tuple.{Tuple}
 use Rattle.pi_tuple.specs.declared.checks.PiType.TheVariants.{One}
 use Rattle.page_pool.specs.Cells.{gather}
-use Rattle.fault_schedule.specs.Altered.{shift_of}
+use Rattle.fault_schedule.specs.Altered.{keep_of, shift_of}
 use Rattle.fault_schedule.specs.declared.fault.Crossing.{Crossing}
 use Rattle.fault_schedule.specs.declared.fault.Crossing.TheVariants.{TargetToMedium}
 use Rattle.integrity_payload.specs.declared.payload.Owner.{Owner}
@@ -22,7 +22,7 @@ use Rattle.block_path.specs.Serial.{plain}
 use Rattle.block_path.specs.WayOut.{Fails, Refuses, Stores, WayOut, way_out}
 use Rattle.block_path.proofs.Cells.{gather_length}
 use Rattle.walk_laws.specs.Detectable.{detectable, shows_out, step_shows}
-use Rattle.walk_laws.specs.FirstLayer.{is_hit, is_stored_whole}
+use Rattle.walk_laws.specs.FirstLayer.{is_all, is_hit, is_served, is_stored_whole}
 use Rattle.walk_laws.specs.Past.{Event, events_of, past_after}
 use Rattle.walk_laws.specs.PlainMap.{as_expected}
 use Rattle.walk_laws.specs.ScriptWalk.{act_of}
@@ -126,13 +126,13 @@ module _ (m' : Setting) (opening : State) (half : ℕ) (count : ℕ → ℕ) (st
         subst (λ a. as_expected m a ≡ true) app_there
         (expects_none b frame back log (way_out m'.site.faults m.site.device (route m b) frame) (accepted_expects m' b frame (own_bare m' devices lies opening cells b app x size below bare) d) e)
 
-    pub takes_unnamed : (back : List ℕ) (log : List (List ℕ)) → as_expected m app ≡ true → IsUnnamed m b → (written_by (route m b) (way_out m'.site.faults m.site.device (route m b) frame) back log).answer.why ≡ None
-    takes_unnamed back log e free =
+    pub takes_unnamed : (back : List ℕ) (log : List (List ℕ)) → as_expected m app ≡ true → IsUnnamed m b → is_served m b ≡ true → (written_by (route m b) (way_out m'.site.faults m.site.device (route m b) frame) back log).answer.why ≡ None
+    takes_unnamed back log e free served =
         let body_there = data_is n x (own_tuple (route m b) app x) size in
         stores_none b back log (way_out m'.site.faults m.site.device (route m b) frame)
         (unnamed_stores m' b frame (own_bare m' devices lies opening cells b app x size below bare)
         (record { guard = ap (λ (t : Tuple). t.guard) tuple_there ∙ ap (guard_of m'.mode.kind) (sym body_there); rtag = ap (λ (t : Tuple). t.rtag) tuple_there })
-        (subst (λ a. as_expected m a ≡ true) (sym app_there) e) free (on_wire m' opening half count still b))
+        (subst (λ a. as_expected m a ≡ true) (sym app_there) e) free served (on_wire m' opening half count still b))
 
   -- The good leg of a write accepts what the other accepts.
   follows : (leg : Bool) (b : Block) (app : ℕ) (body : List ℕ) (s : State) → FitsMirror (Writes b app body) → NoneEscapes m (Writes b app body ∷ Writes (twin_of b) app body ∷ []) s →
@@ -148,6 +148,19 @@ module _ (m' : Setting) (opening : State) (half : ℕ) (count : ℕ → ℕ) (st
     next : State
     next = act (act_of m (Writes b app body)) s
 
+    all : (is_stored_whole m b ≡ true) × (is_stored_whole m (twin_of b) ≡ true)
+    all =
+        let first = step_shows m (Writes b app body) s in
+        let next = act (act_of m (Writes b app body)) s in
+        let p = and_parts first (detectable m (Writes (twin_of b) app body ∷ []) next) d in
+        let q = and_parts (step_shows m (Writes (twin_of b) app body) next) true p.1 in (
+          (and_parts (is_stored_whole m b) (shows_out m b (own_frame (route m b) app (gather 0 body s.bytes))) p.0).0,
+          (and_parts (is_stored_whole m (twin_of b)) (shows_out m (twin_of b) (own_frame (route m (twin_of b)) app (gather 0 body s.bytes))) q.0).0,
+        )
+
+    served : (c : Block) → is_stored_whole m c ≡ true → is_served m c ≡ true
+    served c h = (and_parts (is_served m c) (is_all (keep_of m.site.faults (route m c).label)) h).0
+
     both : (shows_out m b (own_frame (route m b) app (gather 0 body s.bytes)) ≡ true) × (shows_out m (twin_of b) (own_frame (route m (twin_of b)) app (gather 0 body s.bytes)) ≡ true)
     both =
         let first = step_shows m (Writes b app body) s in
@@ -160,8 +173,8 @@ module _ (m' : Setting) (opening : State) (half : ℕ) (count : ℕ → ℕ) (st
 
     by : (leg : Bool) → IsUnnamed m (on_leg leg b (twin_of b)) →
         Follows m' opening half count still leg (tell (act_of m (Writes b app body)) s).why (tell (act_of m (Writes (twin_of b) app body)) (act (act_of m (Writes b app body)) s)).why
-    by false free k = takes_unnamed b app (gather 0 body s.bytes) size f.1.0 (e.0 refl) [] _ (takes_expected (twin_of b) app (gather 0 body s.bytes) size f.1.0 (e.1.0 refl) [] _ both.1 k) free
-    by true free k = takes_unnamed (twin_of b) app (gather 0 body s.bytes) size f.1.0 (e.1.0 refl) [] _ (takes_expected b app (gather 0 body s.bytes) size f.1.0 (e.0 refl) [] _ both.0 k) free
+    by false free k = takes_unnamed b app (gather 0 body s.bytes) size f.1.0 (e.0 refl) [] _ (takes_expected (twin_of b) app (gather 0 body s.bytes) size f.1.0 (e.1.0 refl) [] _ both.1 k) free (served b all.0)
+    by true free k = takes_unnamed (twin_of b) app (gather 0 body s.bytes) size f.1.0 (e.1.0 refl) [] _ (takes_expected b app (gather 0 body s.bytes) size f.1.0 (e.0 refl) [] _ both.0 k) free (served (twin_of b) all.1)
 
   pub read_past : (f0 f1 d : Bool) (b c : Block) (owner : Owner) (to : List ℕ) (s : State) (past : List Event) → past_after m (asked f0 f1 d (Reads b owner to) (Reads c owner to)) s past ≡ past
   read_past true true true b c owner to s past = refl

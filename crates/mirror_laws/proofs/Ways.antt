@@ -1,7 +1,7 @@
--- One block of a write: what is accepted has the application tag that is expected, and where no fault names it, that suffices.
+-- One block of a write: what is accepted has the application tag that is expected, and where no line alters it and the medium stores it, that suffices.
 use Rattle.std.proofs.Common.{◌≡◌, ℕ, true, false, eqb, ◌&&◌, ◌||◌, not, if◌then◌else◌, List, Some, None, sym, ap, subst, ◌∙◌}
 use Rattle.std.specs.Prelude.{Result, Ok, Err}
-use Rattle.std.proofs.lemmas.Bool.{and_from, and_parts, eq-eqb}
+use Rattle.std.proofs.lemmas.Bool.{and_from, and_parts, eq-eqb, not-true}
 use Rattle.pi_guard.specs.Guards.{crc, guard_of}
 use Rattle.pi_guard.specs.declared.GuardKind.{GuardKind}
 use Rattle.pi_tuple.specs.Finds.{finding, is_escaped}
@@ -11,15 +11,16 @@ use Rattle.pi_tuple.specs.declared.checks.Check.{Check}
 use Rattle.pi_tuple.specs.declared.checks.PiType.TheVariants.{One}
 use Rattle.fault_schedule.specs.declared.fault.Crossing.{Crossing}
 use Rattle.fault_schedule.specs.declared.fault.Crossing.TheVariants.{AdapterToHost, AdapterToTarget, HostToAdapter, MediumToTarget, TargetToAdapter, TargetToMedium}
+use Rattle.fault_schedule.specs.Altered.{fails_of}
 use Rattle.integrity_payload.specs.Payloads.{all_asked}
 use Rattle.bio_core.specs.declared.fate.Why.{Why}
 use Rattle.rig_api.specs.Frames.{data_of, tuple_of}
 use Rattle.rig_api.specs.Passing.{found_in, then_crossed, to_medium, unless}
-use Rattle.block_path.specs.Routes.{by_target, passage, wire_lba}
+use Rattle.block_path.specs.Routes.{by_target, passage, stores_unless, wire_lba}
 use Rattle.block_path.specs.WayIn.{received}
 use Rattle.block_path.specs.WayOut.{Fails, Refuses, Stores, WayOut, adapter_finds_out, at_device, from_adapter, mapped_out, sent, to_wire, way_out}
 use Rattle.walk_laws.specs.Detectable.{arrives, bears, crossed, found, guard_at, if_passed, is_foreign, is_not_meant, shows, shows_at_medium, shows_in, shows_on_wire, shows_out}
-use Rattle.walk_laws.specs.FirstLayer.{AtAdapter, AtTarget, has_flip, has_shift}
+use Rattle.walk_laws.specs.FirstLayer.{AtAdapter, AtTarget, has_flip, has_shift, is_served}
 use Rattle.walk_laws.specs.PlainMap.{as_expected}
 use Rattle.walk_laws.specs.Settings.{Block, Setting, route}
 use Rattle.walk_laws.proofs.TagLaws.{passed_all}
@@ -97,17 +98,18 @@ module _ (m' : Setting) (b : Block) where
       ap (λ z. unless (adapter_finds_out (route m b) z) (sent (route m b) z)) (unaltered m' b HostToAdapter x q)
       ∙ ap (λ o. unless o (sent (route m b) x)) (passes_if app mask (ref_tag lba) (guard_of kind (data_of n x)) (tuple_of n x) (from_both (tuple_of n x) (guard_of kind (data_of n x)) (ref_tag lba) k) e)
 
-  onto_medium : (x : List ℕ) → Bears (tuple_of n x) (crc (data_of n x)) (ref_tag (wire_lba m'.site.faults (route m b))) → has_flip m b AdapterToTarget ≡ false →
+  onto_medium : (x : List ℕ) → Bears (tuple_of n x) (crc (data_of n x)) (ref_tag (wire_lba m'.site.faults (route m b))) → is_served m b ≡ true → has_flip m b AdapterToTarget ≡ false →
       at_device x (m.site.device.stores (route m b) x) ≡ Stores x (crossed m b TargetToMedium x)
   unfolding to_medium
-  onto_medium x k q =
+  onto_medium x k v q =
       let w = ref_tag (wire_lba m'.site.faults (route m b)) in
-      ap (λ z. at_target x (unless (found_in (passage m'.site.faults (route m b)) z) z)) (unaltered m' b AdapterToTarget x q)
+      ap (λ c. at_device x (stores_unless c (by_target (to_medium m'.site.faults (passage m'.site.faults (route m b)) x)))) (not-true (fails_of m'.site.faults (route m b).label) v)
+      ∙ ap (λ z. at_target x (unless (found_in (passage m'.site.faults (route m b)) z) z)) (unaltered m' b AdapterToTarget x q)
       ∙ ap (λ o. at_target x (unless o x)) (found_is m' b x ∙ passes_if app 0 w (crc (data_of n x)) (tuple_of n x) (from_both (tuple_of n x) (crc (data_of n x)) w k) (unmasked app (tuple_of n x)))
 
-  pub unnamed_stores : (f : List ℕ) → IsBare n f → Bears (tuple_of n f) (guard_of kind (data_of n f)) (ref_tag b.virt) → wants f → IsUnnamed m b → wire_lba m'.site.faults (route m b) ≡ lba →
+  pub unnamed_stores : (f : List ℕ) → IsBare n f → Bears (tuple_of n f) (guard_of kind (data_of n f)) (ref_tag b.virt) → wants f → IsUnnamed m b → is_served m b ≡ true → wire_lba m'.site.faults (route m b) ≡ lba →
       IsStored (way_out m'.site.faults m.site.device (route m b) f)
-  unnamed_stores f h k e free home =
+  unnamed_stores f h k e free served home =
       let x = mapped_out (route m b) f in
       let bare = mapped_bare f h in
       let tagged : eqb (tuple_of n f).rtag (ref_tag b.virt) ≡ true = eq-eqb (tuple_of n f).rtag (ref_tag b.virt) k.rtag in
@@ -125,7 +127,7 @@ module _ (m' : Setting) (b : Block) where
         stored = crossed m b TargetToMedium y;
         is =
             ap (from_adapter m.site.device (route m b)) (onto_wire x bare bears_x (subst (λ a. as_expected m a ≡ true) (sym (mapped_app f h)) e) (free HostToAdapter))
-            ∙ onto_medium y bears_y (free AdapterToTarget);
+            ∙ onto_medium y bears_y served (free AdapterToTarget);
       }
 
   -- Where no fault names the block, all is shown.

@@ -82,7 +82,7 @@ AllBind m devices half bytes (op ∷ ops) = Binds m devices half bytes op × All
 abbrev pub script_asks : Setting → (half : ℕ) → List Op → State → List Step
 script_asks m half ops opening = all_asked m half (count_of ops) (steps_from m 1 ops) (mirror_opened half opening)
 
--- The premises: type 1 with tuples passed, no shift; both legs clean and with the same data and application tags; no escape is written, each write is stored whole, each alteration can be shown, and each block has one good leg.
+-- The premises: type 1 with tuples passed, no shift; both legs clean and with the same data and application tags; no escape is written, each write is stored whole, the medium fails no read, each alteration can be shown, and each block has one good leg.
 pub record IsMirrorRun (m : Setting) (devices : List DeviceInfo) (half : ℕ) (ops : List Op) (opening : State) : Type 0 where
   pub checked : IsChecked m
   pub unshifted : (at : Crossing) (op : ℕ) → shift_of m.site.faults at op ≡ pos 0

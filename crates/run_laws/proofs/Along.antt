@@ -17,7 +17,7 @@ use Rattle.walk_laws.specs.Passed.{data_of, tuple_of, State, act, tell, fetched_
 use Rattle.walk_laws.proofs.Passed.{gather_length}
 use Rattle.walk_laws.proofs.Leaves.{leaves_whole}
 use Rattle.walk_laws.specs.Detectable.{bears, detectable, found, is_spoilt, shows_in, shows_out, step_shows}
-use Rattle.walk_laws.specs.FirstLayer.{Layer, first_layer, has_flip, is_hit, is_stored_whole, last_accepted}
+use Rattle.walk_laws.specs.FirstLayer.{Layer, first_layer, has_flip, is_hit, is_served, is_stored_whole, last_accepted}
 use Rattle.walk_laws.specs.Past.{Accepted, Brought, Event, Overwritten, brought_by, event_of, events_of, past_after}
 use Rattle.walk_laws.specs.ScriptWalk.{act_of, changed, source_of}
 use Rattle.walk_laws.specs.Settings.{Block, Setting, route}
@@ -238,7 +238,7 @@ module _ (m' : Setting) (devices : List DeviceInfo) (lies : LiesOn (checked m') 
   why_read b owner (Spoils why carried) size after = refl
   why_read b owner (Delivers carried frame) size after = refl
 
-  pub read_as : (b : Block) (owner : Owner) (to : List ℕ) (past : List Event) (s : State) → Fits m devices (Reads b owner to) → shows_in m b (get_or s.blocks (fetched_cell m.site (route m b)) []) ≡ true → Marks past s.blocks →
+  pub read_as : (b : Block) (owner : Owner) (to : List ℕ) (past : List Event) (s : State) → Fits m devices (Reads b owner to) → step_shows m (Reads b owner to) s ≡ true → Marks past s.blocks →
       EndsAs m b owner to (first_layer m past b) (last_accepted m opening b past) s
   read_as b owner to past s f d h = convert (first_layer m past b) (reads m' b owner hit stored known) where
     stored : List ℕ
@@ -255,7 +255,8 @@ module _ (m' : Setting) (devices : List DeviceInfo) (lies : LiesOn (checked m') 
       reach = f.1.0;
       sound = λ q. h.sound (route m b).dev (medium_lba m'.site.faults (route m b)) ours q;
       spoilt = λ q. h.spoilt (route m b).dev (medium_lba m'.site.faults (route m b)) ours q;
-      shown = d;
+      served = (and_parts (is_served m b) (shows_in m b stored) d).0;
+      shown = (and_parts (is_served m b) (shows_in m b stored) d).1;
     }
 
     logged : ℕ
@@ -301,7 +302,7 @@ module _ (m' : Setting) (devices : List DeviceInfo) (lies : LiesOn (checked m') 
       let now = plain (λ step s. act (act_of m step) s) earlier s in
       EndsAs m b owner to (first_layer m (past_after m earlier s past) b) (last_accepted m opening b (past_after m earlier s past)) now
   reads_along [] later b owner to past s f e d h =
-      read_as b owner to past s f.0 (and_parts (shows_in m b (get_or s.blocks (fetched_cell m.site (route m b)) [])) (detectable m later (act (act_of m (Reads b owner to)) s)) d).0 h
+      read_as b owner to past s f.0 (and_parts (step_shows m (Reads b owner to) s) (detectable m later (act (act_of m (Reads b owner to)) s)) d).0 h
   reads_along (step ∷ earlier) later b owner to past s f e d h =
       let next = act (act_of m step) s in
       let rest = earlier ++ (Reads b owner to ∷ later) in

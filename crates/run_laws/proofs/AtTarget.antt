@@ -9,13 +9,13 @@ use Rattle.pi_tuple.specs.Tuples.{tuple_bytes}
 use Rattle.pi_tuple.specs.declared.checks.Check.{Check}
 use Rattle.pi_tuple.specs.declared.checks.PiType.{PiType}
 use Rattle.pi_tuple.specs.declared.checks.PiType.TheVariants.{Zero, One, Two, Three}
-use Rattle.fault_schedule.specs.Altered.{kept}
+use Rattle.fault_schedule.specs.Altered.{fails_of, kept}
 use Rattle.fault_schedule.specs.declared.Label.{Label}
 use Rattle.fault_schedule.specs.declared.fault.Crossing.{Crossing}
 use Rattle.fault_schedule.specs.declared.fault.Crossing.TheVariants.{AdapterToTarget, MediumToTarget, TargetToAdapter, TargetToMedium}
 use Rattle.fault_schedule.specs.declared.fault.FaultLine.{FaultLine}
 use Rattle.walk_laws.specs.Passed.{data_of, stored_size, accepted, crossed, found_in, from_medium, released, then_crossed, to_medium, unless, with_own_tuple, Passage, fetched_cell, stored_cell, Device, by_target, passage, passes_tuples, target, told_by, wire_size, Route, Why}
-use Rattle.walk_laws.proofs.Passed.{kept_length, stored_least, unless_length, crossed_length}
+use Rattle.walk_laws.proofs.Passed.{kept_length, sent_or, stored_least, stored_or, unless_length, crossed_length}
 use Rattle.walk_laws.specs.Settings.{Block, Setting, route}
 use Rattle.run_laws.specs.BoundRun.{Suits}
 use Rattle.run_laws.specs.Suited.{IsAtTarget, keeps_size}
@@ -73,10 +73,11 @@ module _ (faults : List FaultLine) (r : Route) (l : 0 < r.mode.protect) where
       let p = passage faults r in
       let f = crossed faults (Some r.label) AdapterToTarget frame in
       let e = crossed_length faults (Some r.label) AdapterToTarget frame in
-      then_length faults (Some r.label) TargetToMedium (accepted p f) (stored_size r.ty r.size)
+      stored_or (λ came. IfOk came (λ x. length x ≡ stored_size r.ty r.size)) (λ why. tt) (fails_of faults r.label) (by_target (then_crossed faults (Some r.label) TargetToMedium (accepted p f)))
+      (then_length faults (Some r.label) TargetToMedium (accepted p f) (stored_size r.ty r.size)
       (accepted_length p f (stored_size r.ty r.size)
       (λ q. made_length r.ty p.lba f r.size (e ∙ h ∙ sizes.own q))
-      (λ q. e ∙ h ∙ (sizes.whole q).0 ∙ sym (sizes.whole q).1))
+      (λ q. e ∙ h ∙ (sizes.whole q).0 ∙ sym (sizes.whole q).1)))
 
   pub sends_length : (stored : List ℕ) → length stored ≡ stored_size r.ty r.size → IfOk ((target faults).sends r stored) (λ x. length x ≡ wire_size r)
   unfolding from_medium
@@ -85,10 +86,11 @@ module _ (faults : List FaultLine) (r : Route) (l : 0 < r.mode.protect) where
       let f = crossed faults (Some r.label) MediumToTarget stored in
       let e = crossed_length faults (Some r.label) MediumToTarget stored in
       let least = stored_least r.ty r.size in
-      then_length faults (Some r.label) TargetToAdapter (released p f) (wire_size r)
+      sent_or (λ came. IfOk came (λ x. length x ≡ wire_size r)) tt (fails_of faults r.label) (by_target (then_crossed faults (Some r.label) TargetToAdapter (released p f)))
+      (then_length faults (Some r.label) TargetToAdapter (released p f) (wire_size r)
       (released_length p f (wire_size r)
       (λ q. length-take-le r.size f (omega (arith, e, h, least)) ∙ sym (sizes.own q))
-      (λ q. e ∙ h ∙ (sizes.whole q).1 ∙ sym (sizes.whole q).0))
+      (λ q. e ∙ h ∙ (sizes.whole q).1 ∙ sym (sizes.whole q).0)))
 
 is_fine : (came : Result (List ℕ) Why) (n k : ℕ) → n ≡ k → IfOk came (λ x. length x ≡ n) → IfOk came (λ x. eqb (length x) k ≡ true)
 is_fine (Ok x) n k e h = eq-eqb (length x) k (h ∙ e)

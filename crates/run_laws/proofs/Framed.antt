@@ -15,7 +15,7 @@ use Rattle.fault_schedule.specs.Altered.{altered, flip_at, is_line_of, named, xo
 use Rattle.fault_schedule.specs.declared.Label.{Label}
 use Rattle.fault_schedule.specs.declared.fault.Crossing.{Crossing}
 use Rattle.fault_schedule.specs.declared.fault.FaultKind.{FaultKind}
-use Rattle.fault_schedule.specs.declared.fault.FaultKind.TheVariants.{Flip, Shift, Keep}
+use Rattle.fault_schedule.specs.declared.fault.FaultKind.TheVariants.{Flip, Shift, Keep, Fail}
 use Rattle.fault_schedule.specs.declared.fault.FaultLine.{FaultLine}
 use Rattle.walk_laws.specs.Passed.{remapped_bytes, data_of, tuple_of, with_guard}
 use Rattle.walk_laws.proofs.Passed.{tuple_length}
@@ -120,6 +120,7 @@ named_none (line ∷ faults) at label h i =
     by true (Flip off bytes) h = absurd (false≢true (sym h))
     by true (Shift z) h = refl
     by true (Keep n) h = refl
+    by true Fail h = refl
 
 xored_none : (name : ℕ → ℕ) → ((i : ℕ) → name i ≡ 0) → (i : ℕ) (xs : List ℕ) → xored_from name i xs ≡ xs
 xored_none name h i [] = refl

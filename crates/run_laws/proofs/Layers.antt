@@ -13,15 +13,15 @@ use Rattle.pi_tuple.specs.declared.tuple.Tuple.{Tuple}
 use Rattle.pi_tuple.specs.declared.checks.PiType.TheVariants.{One}
 use Rattle.pi_tuple.specs.declared.checks.Check.{Check}
 use Rattle.pi_tuple.proofs.TupleLaws.{same_fields}
-use Rattle.fault_schedule.specs.Altered.{shift_of}
+use Rattle.fault_schedule.specs.Altered.{fails_of, shift_of}
 use Rattle.fault_schedule.specs.declared.fault.Crossing.{Crossing}
 use Rattle.fault_schedule.specs.declared.fault.Crossing.TheVariants.{AdapterToHost, AdapterToTarget, HostToAdapter, MediumToTarget, TargetToAdapter, TargetToMedium}
 use Rattle.integrity_payload.specs.Payloads.{all_asked}
 use Rattle.integrity_payload.specs.declared.payload.Owner.{Owner}
-use Rattle.walk_laws.specs.Passed.{data_of, tuple_of, found_in, from_medium, then_crossed, to_medium, unless, by_target, converted, is_crc, medium_lba, moved, passage, target, wire_lba, with_guard, Delivers, Spoils, Stops, WayIn, at_host, delivered_unless, from_device, from_wire, mapped_back, owner_says, received, verified, way_in, Fails, Refuses, Stores, WayOut, adapter_finds_out, at_device, from_adapter, mapped_out, sent, to_wire, way_out, Why, Adapter, Target}
-use Rattle.walk_laws.proofs.Passed.{altered_length, as_crc, as_ip}
+use Rattle.walk_laws.specs.Passed.{data_of, tuple_of, found_in, from_medium, then_crossed, to_medium, unless, by_target, converted, is_crc, medium_lba, moved, passage, sends_unless, target, wire_lba, with_guard, Delivers, Spoils, Stops, WayIn, at_host, delivered_unless, from_device, from_wire, mapped_back, owner_says, received, verified, way_in, Fails, Refuses, Stores, WayOut, adapter_finds_out, at_device, from_adapter, mapped_out, sent, to_wire, way_out, Why, Adapter, Target}
+use Rattle.walk_laws.proofs.Passed.{altered_length, as_crc, as_ip, stored_or}
 use Rattle.walk_laws.specs.Detectable.{arrives, asks_app, bears, bears_some, crossed, found, guard_at, if_passed, is_foreign, is_not_meant, shows, shows_at_medium, shows_in, shows_on_wire, shows_out}
-use Rattle.walk_laws.specs.FirstLayer.{AtAdapter, AtOwner, AtTarget, Layer, has_flip, has_shift}
+use Rattle.walk_laws.specs.FirstLayer.{AtAdapter, AtOwner, AtTarget, Layer, has_flip, has_shift, is_served}
 use Rattle.walk_laws.specs.Past.{Brought, brought_by}
 use Rattle.walk_laws.specs.PlainMap.{as_expected}
 use Rattle.walk_laws.specs.Settings.{Block, Setting, route}
@@ -225,7 +225,8 @@ module _ (m' : Setting) where
   unfolding to_medium
   to_target b f x r h e d dt =
       let y = crossed m b AdapterToTarget x in
-      unless_rule (Outcome b f) (at_target b x) (found_in (passage m'.site.faults (route m b)) y) y (λ c. tt) (λ none.
+      stored_or (λ came. Outcome b f (at_device x came)) (λ why. tt) (fails_of m'.site.faults (route m b).label) (by_target (to_medium m'.site.faults (passage m'.site.faults (route m b)) x))
+      (unless_rule (Outcome b f) (at_target b x) (found_in (passage m'.site.faults (route m b)) y) y (λ c. tt) (λ none.
       let o = sym (found_is b y) ∙ none in
       let s = unaltered b AdapterToTarget x (no_flip b AdapterToTarget x 0 (ref_tag (wire b)) (λ t g k. and_left _ (expected app 0 t) (without (bears t g (ref_tag (wire b))) k.on_wire)) d o) in
       let p = bears_both (tuple_of n x) (crc (data_of n x)) (ref_tag (wire b)) (and_parts (bears_at x (crc_at x) (wire b)) (expected app 0 (tuple_of n x))
@@ -233,7 +234,7 @@ module _ (m' : Setting) where
       let dm = asked_on (found_in (passage m'.site.faults (route m b)) y) (shows m b TargetToMedium y) none dt in (
         wire_by_tag b r (sym p.rtag ∙ h.bears.rtag),
         subst (λ z. After b f (has_flip m b TargetToMedium) (crossed m b TargetToMedium z)) (sym s) (onto_medium b f x h e (subst (λ z. shows m b TargetToMedium z ≡ true) s dm)),
-      ))
+      )))
 
   to_adapter : (b : Block) (f x : List ℕ) → StaysNear m b → IsBare n x → brought_by n x ≡ brought_by n f → shows m b HostToAdapter x ≡ true →
       shows_on_wire m b (crossed m b HostToAdapter x) ≡ true → Outcome b f (from_adapter m.site.device (route m b) (to_wire m'.site.faults (route m b) x))
@@ -275,38 +276,45 @@ module _ (m' : Setting) where
   abbrev go_in : Block → Owner → List ℕ → WayIn
   go_in b owner stored = way_in m'.site.faults m.site.device (route m b) owner stored
 
-  stops_at_target : (b : Block) (owner : Owner) (stored : List ℕ) (h : IsFound (found m b stored AtTarget)) → go_in b owner stored ≡ Stops (Target h.check)
-  unfolding from_medium
-  stops_at_target b owner stored h = ap (λ o. came_in b owner stored (unless o (arrives m b stored AtTarget))) h.is
+  -- a block that no line says the medium fails
+  served : (b : Block) (owner : Owner) (stored : List ℕ) → is_served m b ≡ true → go_in b owner stored ≡ verified (route m b) owner (from_device m'.site.faults (route m b) (by_target (from_medium m'.site.faults (passage m'.site.faults (route m b)) stored)))
+  served b owner stored h =
+      let came = by_target (from_medium m'.site.faults (passage m'.site.faults (route m b)) stored) in
+      ap (λ c. verified (route m b) owner (from_device m'.site.faults (route m b) (sends_unless c came))) (not-true (fails_of m'.site.faults (route m b).label) h)
 
-  past_medium : (b : Block) (owner : Owner) (stored : List ℕ) → found m b stored AtTarget ≡ None → go_in b owner stored ≡ verified (route m b) owner (at_host (arrives m b stored AtAdapter) (from_wire m'.site.faults (route m b) (arrives m b stored AtAdapter)))
+  stops_at_target : (b : Block) (owner : Owner) (stored : List ℕ) → is_served m b ≡ true → (h : IsFound (found m b stored AtTarget)) → go_in b owner stored ≡ Stops (Target h.check)
   unfolding from_medium
-  past_medium b owner stored h = ap (λ o. came_in b owner stored (unless o (arrives m b stored AtTarget))) h
+  stops_at_target b owner stored k h = served b owner stored k ∙ ap (λ o. came_in b owner stored (unless o (arrives m b stored AtTarget))) h.is
 
-  spoils_at_adapter : (b : Block) (owner : Owner) (stored : List ℕ) → found m b stored AtTarget ≡ None → (h : IsFound (found m b stored AtAdapter)) → go_in b owner stored ≡ Spoils (Adapter h.check) (arrives m b stored AtAdapter)
+  past_medium : (b : Block) (owner : Owner) (stored : List ℕ) → is_served m b ≡ true → found m b stored AtTarget ≡ None → go_in b owner stored ≡ verified (route m b) owner (at_host (arrives m b stored AtAdapter) (from_wire m'.site.faults (route m b) (arrives m b stored AtAdapter)))
+  unfolding from_medium
+  past_medium b owner stored k h = served b owner stored k ∙ ap (λ o. came_in b owner stored (unless o (arrives m b stored AtTarget))) h
+
+  spoils_at_adapter : (b : Block) (owner : Owner) (stored : List ℕ) → is_served m b ≡ true → found m b stored AtTarget ≡ None → (h : IsFound (found m b stored AtAdapter)) → go_in b owner stored ≡ Spoils (Adapter h.check) (arrives m b stored AtAdapter)
   unfolding from_wire
-  spoils_at_adapter b owner stored t h =
-      let x = arrives m b stored AtAdapter in past_medium b owner stored t ∙ ap (λ o. handed_on b owner x (unless o (received (route m b) x))) h.is
+  spoils_at_adapter b owner stored k t h =
+      let x = arrives m b stored AtAdapter in past_medium b owner stored k t ∙ ap (λ o. handed_on b owner x (unless o (received (route m b) x))) h.is
 
-  to_owner : (b : Block) (owner : Owner) (stored : List ℕ) → found m b stored AtTarget ≡ None → found m b stored AtAdapter ≡ None →
+  to_owner : (b : Block) (owner : Owner) (stored : List ℕ) → is_served m b ≡ true → found m b stored AtTarget ≡ None → found m b stored AtAdapter ≡ None →
       go_in b owner stored ≡ delivered_unless owner (arrives m b stored AtAdapter) (arrives m b stored AtOwner) (found m b stored AtOwner)
   unfolding from_wire
-  to_owner b owner stored t a =
-      let x = arrives m b stored AtAdapter in past_medium b owner stored t ∙ ap (λ o. handed_on b owner x (unless o (received (route m b) x))) a
+  to_owner b owner stored k t a =
+      let x = arrives m b stored AtAdapter in past_medium b owner stored k t ∙ ap (λ o. handed_on b owner x (unless o (received (route m b) x))) a
 
-  spoils_at_owner : (b : Block) (owner : Owner) (stored : List ℕ) → found m b stored AtTarget ≡ None → found m b stored AtAdapter ≡ None → (h : IsFound (found m b stored AtOwner)) →
+  spoils_at_owner : (b : Block) (owner : Owner) (stored : List ℕ) → is_served m b ≡ true → found m b stored AtTarget ≡ None → found m b stored AtAdapter ≡ None → (h : IsFound (found m b stored AtOwner)) →
       go_in b owner stored ≡ Spoils (owner_says owner h.check) (arrives m b stored AtAdapter)
-  spoils_at_owner b owner stored t a h = to_owner b owner stored t a ∙ ap (delivered_unless owner (arrives m b stored AtAdapter) (arrives m b stored AtOwner)) h.is
+  spoils_at_owner b owner stored k t a h = to_owner b owner stored k t a ∙ ap (delivered_unless owner (arrives m b stored AtAdapter) (arrives m b stored AtOwner)) h.is
 
-  delivers : (b : Block) (owner : Owner) (stored : List ℕ) → found m b stored AtTarget ≡ None → found m b stored AtAdapter ≡ None → found m b stored AtOwner ≡ None →
+  delivers : (b : Block) (owner : Owner) (stored : List ℕ) → is_served m b ≡ true → found m b stored AtTarget ≡ None → found m b stored AtAdapter ≡ None → found m b stored AtOwner ≡ None →
       go_in b owner stored ≡ Delivers (arrives m b stored AtAdapter) (arrives m b stored AtOwner)
-  delivers b owner stored t a o = to_owner b owner stored t a ∙ ap (delivered_unless owner (arrives m b stored AtAdapter) (arrives m b stored AtOwner)) o
+  delivers b owner stored k t a o = to_owner b owner stored k t a ∙ ap (delivered_unless owner (arrives m b stored AtAdapter) (arrives m b stored AtOwner)) o
 
   -- what is known of a stored block that a read fetches
   pub record Fetched (b : Block) (hit : Bool) (stored : List ℕ) : Type 0 where
     pub reach : StaysNear m b
     pub sound : hit ≡ false → Sound (medium b) stored
     pub spoilt : hit ≡ true → Spoilt (medium b) stored
+    pub served : is_served m b ≡ true
     pub shown : shows_in m b stored ≡ true
 
   fetched_escape : (b : Block) (hit : Bool) (stored : List ℕ) → Fetched b hit stored → is_escaped One (tuple_of n stored) ≡ false
@@ -524,17 +532,17 @@ module _ (m' : Setting) where
     at_owner_or_none : PastTarget b hit stored → PastAdapter b stored → (o : Bool) → has_flip m b AdapterToHost ≡ o → Reading b owner hit stored (if o then Some AtOwner else None)
     at_owner_or_none t a true q =
         let f = owner_finds_it b hit stored h t a q in
-        record { finding = f; ends = ap why_ended (spoils_at_owner b owner stored t.none a.none f) }
+        record { finding = f; ends = ap why_ended (spoils_at_owner b owner stored h.served t.none a.none f) }
     at_owner_or_none t a false q =
         let u = past_owner b stored a q in
-        record { whole = t.whole; home = t.read ∙ a.on_wire; under = u.under; way = delivers b owner stored t.none a.none u.none }
+        record { whole = t.whole; home = t.read ∙ a.on_wire; under = u.under; way = delivers b owner stored h.served t.none a.none u.none }
 
     past_first : PastTarget b hit stored → (a : Bool) → (has_shift m b AdapterToTarget || has_flip m b TargetToAdapter) ≡ a →
         Reading b owner hit stored (if a then Some AtAdapter else if has_flip m b AdapterToHost then Some AtOwner else None)
-    past_first t true q = let f = adapter_finds b hit stored h t q in record { finding = f; ends = ap why_ended (spoils_at_adapter b owner stored t.none f) }
+    past_first t true q = let f = adapter_finds b hit stored h t q in record { finding = f; ends = ap why_ended (spoils_at_adapter b owner stored h.served t.none f) }
     past_first t false q = at_owner_or_none t (past_adapter b hit stored h t q) (has_flip m b AdapterToHost) refl
 
     by : (t : Bool) → (has_shift m b MediumToTarget || (has_flip m b MediumToTarget || hit)) ≡ t →
         Reading b owner hit stored (first_of_three t (has_shift m b AdapterToTarget || has_flip m b TargetToAdapter) (has_flip m b AdapterToHost))
-    by true q = let f = target_finds_it b hit stored h q in record { finding = f; ends = ap why_ended (stops_at_target b owner stored f) }
+    by true q = let f = target_finds_it b hit stored h q in record { finding = f; ends = ap why_ended (stops_at_target b owner stored h.served f) }
     by false q = past_first (past_target b hit stored h q) (has_shift m b AdapterToTarget || has_flip m b TargetToAdapter) refl

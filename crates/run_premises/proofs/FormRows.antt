@@ -8,7 +8,7 @@ use Rattle.pi_tuple.specs.declared.checks.PiType.TheVariants.{One}
 use Rattle.page_pool.specs.Places.{run}
 use Rattle.fault_schedule.specs.declared.fault.Crossing.{Crossing}
 use Rattle.fault_schedule.specs.declared.fault.Crossing.TheVariants.{AdapterToHost, AdapterToTarget, HostToAdapter, MediumToTarget, TargetToAdapter, TargetToMedium}
-use Rattle.fault_schedule.specs.declared.fault.FaultKind.TheVariants.{Flip, Shift, Keep}
+use Rattle.fault_schedule.specs.declared.fault.FaultKind.TheVariants.{Flip, Shift, Keep, Fail}
 use Rattle.fault_schedule.specs.declared.fault.FaultLine.{FaultLine}
 use Rattle.stack_ops.specs.Passed.{Copy}
 use Rattle.stack_ops.specs.declared.op.Op.{Op}
@@ -82,6 +82,17 @@ lost = refl
 
 torn : shows_by_form Crc 512 (record { op = 1; k = 0; at = TargetToMedium; kind = Keep 260 } ∷ []) one_write ≡ false
 torn = refl
+
+-- A block that the medium fails, alone and beside a flip that has the form.
+failed : shows_by_form Crc 512 (record { op = 1; k = 0; at = TargetToMedium; kind = Fail } ∷ []) one_write ≡ false
+failed = refl
+
+failed_read : shows_by_form Crc 512 (record { op = 2; k = 0; at = MediumToTarget; kind = Fail } ∷ []) write_and_read ≡ false
+failed_read = refl
+
+failed_beside : shows_by_form Crc 512 (line 1 AdapterToTarget 17 (1 ∷ []) ∷ record { op = 2; k = 0; at = TargetToMedium; kind = Fail } ∷ []) write_and_read ≡ false
+unfolding crc
+failed_beside = refl
 
 overwritten : shows_by_form Crc 512 [] (Overwrite 0 2 (Copy 0 3) ∷ []) ≡ false
 overwritten = refl

@@ -1,16 +1,16 @@
 -- What the lines of faults that have the form come to for a block.
-use Rattle.std.proofs.Common.{◌≡◌, ◌<◌, ℕ, suc, Bool, true, false, not, ◌&&◌, ◌||◌, eqb, if◌then◌else◌, List, [], ◌∷◌, get_or, Option, None, refl, sym, ◌∙◌, arith, lit<}
+use Rattle.std.proofs.Common.{◌≡◌, ◌<◌, ℕ, suc, Bool, true, false, not, ◌&&◌, ◌||◌, eqb, if◌then◌else◌, List, [], ◌∷◌, get_or, Option, None, refl, sym, ap, ◌∙◌, arith, lit<}
 use Rattle.std.specs.Prelude.{All, ℤ, pos, unwrap_or}
 use Rattle.std.specs.List.{list_all, list_any}
 use Rattle.std.proofs.lemmas.Bool.{and_parts, eqb-true, false≢true, or_parts}
 use Rattle.std.proofs.lemmas.Nat.{xor_of_8}
 use Rattle.pi_guard.specs.declared.GuardKind.{GuardKind}
-use Rattle.fault_schedule.specs.Altered.{flip_at, is_line_of, is_same, keep_of, keep_or, kept_bytes, moved_by, named, named_by, shift_of}
+use Rattle.fault_schedule.specs.Altered.{fails_of, flip_at, is_fail, is_line_of, is_same, keep_of, keep_or, kept_bytes, moved_by, named, named_by, shift_of}
 use Rattle.fault_schedule.specs.declared.Label.{Label}
 use Rattle.fault_schedule.specs.declared.fault.Crossing.{Crossing}
 use Rattle.fault_schedule.specs.declared.fault.Crossing.TheVariants.{AdapterToHost, AdapterToTarget, HostToAdapter, MediumToTarget, TargetToAdapter, TargetToMedium}
 use Rattle.fault_schedule.specs.declared.fault.FaultKind.{FaultKind}
-use Rattle.fault_schedule.specs.declared.fault.FaultKind.TheVariants.{Flip, Shift, Keep}
+use Rattle.fault_schedule.specs.declared.fault.FaultKind.TheVariants.{Flip, Shift, Keep, Fail}
 use Rattle.fault_schedule.specs.declared.fault.FaultLine.{FaultLine}
 use Rattle.stack_ops.specs.declared.op.Op.{Op}
 use Rattle.run_laws.specs.Passed.{is_flip}
@@ -107,6 +107,7 @@ flip_below : (kind : FaultKind) (i : ℕ) → IsOfBytes kind → flip_at kind i 
 flip_below (Flip off bytes) i h = below_if _ (get_or bytes _ 0) (are_bytes bytes h _)
 flip_below (Shift by) i h = lit< tt
 flip_below (Keep bytes) i h = lit< tt
+flip_below Fail i h = lit< tt
 
 pub named_below : (faults : List FaultLine) (at : Crossing) (label : Label) → All (λ (line : FaultLine). IsOfBytes line.kind) faults → (i : ℕ) → named faults at label i < 256
 named_below [] at label h i = lit< tt
@@ -122,6 +123,7 @@ still false kind rest h = refl
 still true (Flip off bytes) rest h = refl
 still true (Shift by) rest h = absurd (false≢true h)
 still true (Keep bytes) rest h = absurd (false≢true h)
+still true Fail rest h = absurd (false≢true h)
 
 pub no_shift : (kind : GuardKind) (size : ℕ) (all : List FaultLine) (ops : List Op) (faults : List FaultLine) → list_all (is_good_line kind size all ops) faults ≡ true → (at : Crossing) (op : ℕ) → shift_of faults at op ≡ pos 0
 no_shift kind size all ops [] h at op = refl
@@ -138,6 +140,7 @@ all_kept false kind rest h = refl
 all_kept true (Flip off bytes) rest h = refl
 all_kept true (Shift by) rest h = refl
 all_kept true (Keep bytes) rest h = absurd (false≢true h)
+all_kept true Fail rest h = refl
 
 pub no_keep : (kind : GuardKind) (size : ℕ) (all : List FaultLine) (ops : List Op) (faults : List FaultLine) → list_all (is_good_line kind size all ops) faults ≡ true → (label : Label) → keep_of faults label ≡ None
 no_keep kind size all ops [] h label = refl
@@ -146,3 +149,19 @@ no_keep kind size all ops (f ∷ faults) h label =
     let q = and_parts (is_shown_line kind size all f) (not (may_mend ops f) && not (may_undo ops all f)) p.0 in
     let flips = (and_parts (is_flip f.kind) _ q.0).0 in
     all_kept (is_line_of f TargetToMedium label) f.kind (keep_of faults label) flips ∙ no_keep kind size all ops faults p.1 label
+
+-- ---- no block that the medium fails
+
+no_flip_fails : (kind : FaultKind) → is_flip kind ≡ true → is_fail kind ≡ false
+no_flip_fails (Flip off bytes) h = refl
+no_flip_fails (Shift by) h = refl
+no_flip_fails (Keep bytes) h = refl
+no_flip_fails Fail h = absurd (false≢true h)
+
+pub no_fail : (kind : GuardKind) (size : ℕ) (all : List FaultLine) (ops : List Op) (faults : List FaultLine) → list_all (is_good_line kind size all ops) faults ≡ true → (label : Label) → fails_of faults label ≡ false
+no_fail kind size all ops [] h label = refl
+no_fail kind size all ops (f ∷ faults) h label =
+    let p = and_parts (is_good_line kind size all ops f) (list_all (is_good_line kind size all ops) faults) h in
+    let q = and_parts (is_shown_line kind size all f) (not (may_mend ops f) && not (may_undo ops all f)) p.0 in
+    let flips = (and_parts (is_flip f.kind) _ q.0).0 in
+    ap (λ c. (c && (eqb f.op label.op && eqb f.k label.k)) || fails_of faults label) (no_flip_fails f.kind flips) ∙ no_fail kind size all ops faults p.1 label

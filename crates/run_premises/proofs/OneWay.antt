@@ -14,7 +14,7 @@ use Rattle.pi_tuple.specs.declared.tuple.Tuple.{Tuple}
 use Rattle.pi_tuple.specs.declared.checks.PiType.TheVariants.{One}
 use Rattle.pi_tuple.specs.declared.checks.Check.{Check}
 use Rattle.pi_tuple.proofs.TupleLaws.{tag_below}
-use Rattle.fault_schedule.specs.Altered.{named}
+use Rattle.fault_schedule.specs.Altered.{fails_of, named}
 use Rattle.fault_schedule.specs.declared.fault.Crossing.{Crossing}
 use Rattle.fault_schedule.specs.declared.fault.Crossing.TheVariants.{AdapterToHost, AdapterToTarget, HostToAdapter, MediumToTarget, TargetToAdapter, TargetToMedium}
 use Rattle.fault_schedule.specs.declared.fault.FaultLine.{FaultLine}
@@ -27,6 +27,7 @@ use Rattle.block_path.specs.Routes.{by_target, is_crc, passage, with_guard, wire
 use Rattle.block_path.specs.WayIn.{adapter_finds_in, received}
 use Rattle.block_path.specs.WayOut.{Fails, Refuses, Stores, WayOut, adapter_finds_out, at_device, from_adapter, mapped_out, sent, to_wire, way_out}
 use Rattle.block_path.proofs.Cells.{AllBelow}
+use Rattle.block_path.proofs.Served.{stored_or}
 use Rattle.block_path.proofs.Sizes.{altered_length}
 use Rattle.run_laws.specs.Passed.{arrives, asks_app, bears, bears_some, crossed, found, guard_at, if_passed, is_foreign, shows, shows_at_medium, shows_in, shows_on_wire, shows_out, AtAdapter, AtTarget, has_flip, has_shift, as_expected, Block, Setting, route}
 use Rattle.run_laws.proofs.Passed.{Small, below_append, below_drop, below_take, data_is, four_below, tuple_below, tuple_is, two_below}
@@ -243,7 +244,8 @@ module _ (m' : Setting) where
     to_target x h =
         let y = crossed m b AdapterToTarget x in
         let f = crossed_fine AdapterToTarget x h in
-        unless_rule Kept (by_the_target x) (found_in (passage faults (route m b)) y) y (λ c. tt) (λ none. onto_medium y f (at_target b y f none))
+        stored_or (λ came. Kept (at_device x came)) (λ why. tt) (fails_of faults (route m b).label) (by_target (to_medium faults (passage faults (route m b)) x))
+        (unless_rule Kept (by_the_target x) (found_in (passage faults (route m b)) y) y (λ c. tt) (λ none. onto_medium y f (at_target b y f none)))
 
     to_adapter : (x : List ℕ) → Fine x → Kept (from_adapter m.site.device (route m b) (to_wire faults (route m b) x))
     unfolding to_wire

@@ -11,7 +11,7 @@ use Rattle.pi_guard.specs.declared.GuardKind.TheVariants.{Crc}
 use Rattle.pi_tuple.specs.Tuples.{ref_tag, tuple_bytes}
 use Rattle.pi_tuple.specs.declared.tuple.Tuple.{Tuple}
 use Rattle.page_pool.specs.Cells.{gather, scatter}
-use Rattle.fault_schedule.specs.Altered.{shift_of}
+use Rattle.fault_schedule.specs.Altered.{keep_of, shift_of}
 use Rattle.fault_schedule.specs.declared.fault.Crossing.TheVariants.{AdapterToTarget, HostToAdapter, MediumToTarget, TargetToMedium}
 use Rattle.fault_schedule.specs.declared.fault.FaultLine.{FaultLine}
 use Rattle.integrity_payload.specs.declared.payload.Owner.{Owner}
@@ -24,13 +24,13 @@ use Rattle.block_path.specs.WayIn.{Delivers, Spoils, Stops, WayIn, way_in}
 use Rattle.block_path.specs.WayOut.{Fails, Refuses, Stores, WayOut, way_out}
 use Rattle.block_path.proofs.Cells.{AllBelow, below, gather_length}
 use Rattle.block_path.proofs.Leaves.{leaves_all}
-use Rattle.run_laws.specs.Passed.{LiesInImage, detectable, shows_out, step_shows, has_flip, has_shift, is_all, is_stored_whole, act_of, Block, Setting, route, Alters, Reads, Seals, Sets, Shows, Step, Writes, WritesPi, each_from, AreClean, NoneEscapes, SuppliesNoEscape, home}
+use Rattle.run_laws.specs.Passed.{LiesInImage, detectable, shows_in, shows_out, step_shows, has_flip, has_shift, is_all, is_served, is_stored_whole, act_of, Block, Setting, route, Alters, Reads, Seals, Sets, Shows, Step, Writes, WritesPi, each_from, AreClean, NoneEscapes, SuppliesNoEscape, home}
 use Rattle.run_laws.proofs.Passed.{below_append, below_drop, below_gather, below_replicate, below_scatter, below_take, four_below, tuple_below}
 use Rattle.run_laws.proofs.Layers.{checked, unmoved}
 use Rattle.run_laws.proofs.Along.{set_cases}
 use Rattle.run_premises.specs.Forms.{is_good_line}
 use Rattle.run_premises.specs.FormedRun.{IsOfBytes}
-use Rattle.run_premises.proofs.Lines.{no_keep, no_shift}
+use Rattle.run_premises.proofs.Lines.{no_fail, no_keep, no_shift}
 use Rattle.run_premises.proofs.OneWay.{own_fine, own_right}
 use Rattle.run_premises.proofs.Ways.{Fine, Kept, OfBytes, Right, comes_bytes, comes_shown, goes_kept, goes_shown}
 
@@ -112,8 +112,11 @@ module _ (m' : Setting) (ops : List Op) (even : m'.size % 2 ≡ 0) (flips : All 
 
   -- ---- a block is stored, whole
 
+  served_is : (b : Block) → is_served m b ≡ true
+  served_is b = ap not (no_fail m'.mode.kind n faults ops faults form (route m b).label)
+
   whole_is : (b : Block) → is_stored_whole m b ≡ true
-  whole_is b = ap is_all (no_keep m'.mode.kind n faults ops faults form (route m b).label)
+  whole_is b = and_from (is_served m b) (is_all (keep_of faults (route m b).label)) (served_is b) (ap is_all (no_keep m'.mode.kind n faults ops faults form (route m b).label))
 
   abbrev leaves : Block → (old frame : List ℕ) → List ℕ
   leaves b old frame = m.site.device.leaves (route m b) old frame
@@ -217,7 +220,7 @@ module _ (m' : Setting) (ops : List Op) (even : m'.size % 2 ≡ 0) (flips : All 
       let w = way_in faults m.site.device (route m b) owner stored in
       let logged = length (get_or s.logs (own_cell m.site (route m b)) []) in
       record {
-        shown = comes_shown m' ops even flips form b stored k.fine (unshifted b) (λ q. k.right (whole_there b fit.0 q));
+        shown = and_from (is_served m b) (shows_in m b stored) (served_is b) (comes_shown m' ops even flips form b stored k.fine (unshifted b) (λ q. k.right (whole_there b fit.0 q)));
         holds = record {
           pages = below_scatter 256 to (read_by (route m b) owner w (length to) logged).written.bytes s.bytes (read_bytes b owner w (length to) logged (comes_bytes m' ops even flips form b owner stored k.fine)) h.pages;
           size = h.size;

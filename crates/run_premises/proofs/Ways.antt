@@ -7,7 +7,7 @@ use Rattle.pi_guard.specs.declared.GuardKind.{GuardKind}
 use Rattle.pi_guard.specs.declared.GuardKind.TheVariants.{Crc}
 use Rattle.pi_tuple.specs.declared.checks.PiType.TheVariants.{One}
 use Rattle.pi_tuple.specs.declared.checks.Check.{Check}
-use Rattle.fault_schedule.specs.Altered.{is_line_of}
+use Rattle.fault_schedule.specs.Altered.{fails_of, is_line_of}
 use Rattle.fault_schedule.specs.declared.fault.Crossing.{Crossing}
 use Rattle.fault_schedule.specs.declared.fault.Crossing.TheVariants.{AdapterToHost, HostToAdapter, MediumToTarget, TargetToAdapter}
 use Rattle.fault_schedule.specs.declared.fault.FaultLine.{FaultLine}
@@ -20,6 +20,7 @@ use Rattle.block_path.specs.Routes.{by_target, passage}
 use Rattle.block_path.specs.WayIn.{Delivers, Spoils, Stops, WayIn, adapter_finds_in, at_host, delivered_unless, from_device, from_wire, mapped_back, owner_finds, received, verified, way_in}
 use Rattle.block_path.specs.WayOut.{WayOut, sent, way_out}
 use Rattle.block_path.proofs.Cells.{AllBelow}
+use Rattle.block_path.proofs.Served.{sent_or}
 use Rattle.run_laws.specs.Passed.{arrives, crossed, shows_in, shows_out, AtAdapter, AtTarget, has_flip, has_shift, is_flip, Block, Setting, route}
 use Rattle.run_laws.proofs.Found.{unless_rule}
 use Rattle.run_laws.proofs.Layers.{checked}
@@ -135,5 +136,6 @@ module _ (m' : Setting) (ops : List Op) (even : m'.size % 2 ≡ 0) (flips : All 
   comes_bytes b owner stored h =
       let y = arrives m b stored AtTarget in
       let f = crossed_fine b MediumToTarget stored h in
-      unless_rule OfBytes (from_the_target b owner) (found_in (passage faults (route m b)) y) y (λ c. tt)
-      (λ none. from_adapter_on b owner (arrives m b stored AtAdapter) (crossed_fine b TargetToAdapter y f))
+      sent_or (λ came. OfBytes (verified (route m b) owner (from_device faults (route m b) came))) tt (fails_of faults (route m b).label) (by_target (from_medium faults (passage faults (route m b)) stored))
+      (unless_rule OfBytes (from_the_target b owner) (found_in (passage faults (route m b)) y) y (λ c. tt)
+      (λ none. from_adapter_on b owner (arrives m b stored AtAdapter) (crossed_fine b TargetToAdapter y f)))

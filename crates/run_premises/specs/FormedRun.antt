@@ -1,6 +1,6 @@
 use Rattle.std.specs.Prelude.{◌≡◌, ◌%◌, ◌<◌, true, List, All}
 use Rattle.fault_schedule.specs.declared.fault.FaultKind.{FaultKind}
-use Rattle.fault_schedule.specs.declared.fault.FaultKind.TheVariants.{Flip, Shift, Keep}
+use Rattle.fault_schedule.specs.declared.fault.FaultKind.TheVariants.{Flip, Shift, Keep, Fail}
 use Rattle.fault_schedule.specs.declared.fault.FaultLine.{FaultLine}
 use Rattle.stack_ops.specs.declared.op.Op.{Op}
 use Rattle.volume_table.specs.Places.{volume_len}
@@ -15,6 +15,7 @@ abbrev pub IsOfBytes : FaultKind → Type 0
 IsOfBytes (Flip off bytes) = All (λ x. x < 256) bytes
 IsOfBytes (Shift by) = Unit {0}
 IsOfBytes (Keep bytes) = Unit {0}
+IsOfBytes Fail = Unit {0}
 
 -- The volume is of type 1, tuples pass all the way, commands have protect field 001b, and blocks have an even number of bytes.
 -- What stands in the pages and on the volume is bytes, each block of the volume is clean, and no write supplies an escape. The faults have the form.

@@ -75,6 +75,7 @@ fn is_flip(kind: &FaultKind) -> bool
         FaultKind::Flip { .. } => true,
         FaultKind::Shift { .. } => false,
         FaultKind::Keep { .. } => false,
+        FaultKind::Fail => false,
     }
 }
 

@@ -17,7 +17,7 @@ use Rattle.walk_laws.specs.Detectable.{detectable, found}
 use Rattle.walk_laws.specs.FirstLayer.{AtAdapter, AtOwner, AtTarget, Layer, first_layer, last_accepted}
 use Rattle.walk_laws.specs.Past.{Brought, past_after, steps_from}
 use Rattle.walk_laws.specs.Settings.{Setting, block_of}
-use Rattle.walk_laws.proofs.ScriptRows.{faulty, flip, formatted, keep, opening, seg, shift, with_faults, write_and_read}
+use Rattle.walk_laws.proofs.ScriptRows.{fail, faulty, flip, formatted, keep, opening, seg, shift, with_faults, write_and_read}
 
 abbrev may_ask : Setting → List Op → Bool
 may_ask m ops = detectable m (steps_from m 1 ops) opening
@@ -73,6 +73,24 @@ lost_hides = refl
 torn_hides : may_ask (faulty (keep 1 0 260)) written ≡ false
 unfolding crc ip found_in to_medium from_medium to_wire from_wire run
 torn_hides = refl
+
+-- Nor is a block that the medium fails: a write, after which what was there is still the last, or a read.
+failed_write_hides : may_ask (faulty (fail 1 0)) written ≡ false
+unfolding crc ip found_in to_medium from_medium to_wire from_wire run
+failed_write_hides = refl
+
+failed_last : last_after (faulty (fail 1 0)) written 2 ≡ record { body = replicate 512 0; app = 0 }
+unfolding crc ip found_in to_medium from_medium to_wire from_wire run
+failed_last = refl
+
+failed_read_hides : may_ask (faulty (fail 1 0)) fetched ≡ false
+unfolding crc ip found_in to_medium from_medium to_wire from_wire run
+failed_read_hides = refl
+
+-- One that no op takes hides nothing.
+other_fails_show : may_ask (faulty (fail 1 1 ++ fail 3 0)) write_and_read ≡ true
+unfolding crc ip found_in to_medium from_medium to_wire from_wire run
+other_fails_show = refl
 
 -- Shifts and flips of a read.
 shifted_wire_shows : may_ask (faulty (shift 1 AdapterToTarget (pos 1))) fetched ≡ true

@@ -13,9 +13,9 @@ use Rattle.page_pool.specs.declared.segs.Seg.{Seg}
 use Rattle.page_pool.specs.Places.{run}
 use Rattle.fault_schedule.specs.declared.fault.Crossing.{Crossing}
 use Rattle.fault_schedule.specs.declared.fault.Crossing.TheVariants.{AdapterToHost, AdapterToTarget, MediumToTarget, TargetToMedium}
-use Rattle.fault_schedule.specs.declared.fault.FaultKind.TheVariants.{Flip, Shift, Keep}
+use Rattle.fault_schedule.specs.declared.fault.FaultKind.TheVariants.{Flip, Shift, Keep, Fail}
 use Rattle.fault_schedule.specs.declared.fault.FaultLine.{FaultLine}
-use Rattle.stack_ops.specs.Passed.{Copy, Why, Adapter, App, Target}
+use Rattle.stack_ops.specs.Passed.{Copy, Why, Adapter, App, Medium, Target}
 use Rattle.stack_ops.specs.declared.op.Op.{Op}
 use Rattle.stack_ops.specs.declared.op.Op.TheVariants.{Fetch, FetchPi, Fill, Overwrite, Put, Seal, Show, Write, WritePi}
 use Rattle.stack_ops.specs.declared.reply.Reply.{Reply}
@@ -145,6 +145,33 @@ lost_write = refl
 torn_write : script_replies (faulty (keep 2 0 260)) filled opening ≡ Silent ∷ Whole ∷ lists 0 (Target Guard) ∷ []
 unfolding crc ip found_in to_medium from_medium to_wire from_wire run
 torn_write = refl
+
+abbrev pub fail : (op k : ℕ) → List FaultLine
+fail op k = record { op = op; k = k; at = TargetToMedium; kind = Fail } ∷ []
+
+-- A write that the medium fails is listed, and the read after it is given what stood there.
+failed_write : script_replies (faulty (fail 2 0)) (filled ++ (Show (first_seg 0 1) ∷ [])) opening ≡ Silent ∷ lists 0 Medium ∷ Whole ∷ Shown (0 ∷ []) ∷ []
+unfolding crc ip found_in to_medium from_medium to_wire from_wire run
+failed_write = refl
+
+-- A read that it fails is listed, and the block stays as it is.
+failed_read : script_replies (faulty (fail 3 0)) (filled ++ (Fetch 0 1 (seg 0 512) ∷ Show (first_seg 0 1) ∷ [])) opening ≡ Silent ∷ Whole ∷ lists 0 Medium ∷ Whole ∷ Shown (7 ∷ []) ∷ []
+unfolding crc ip found_in to_medium from_medium to_wire from_wire run
+failed_read = refl
+
+-- Beside it the target's check of a write comes first, and that of a read isn't come to.
+failed_behind_a_check : script_replies (faulty (fail 2 0 ++ flip 2 0 AdapterToTarget 0 1)) filled opening ≡ Silent ∷ lists 0 (Target Guard) ∷ Whole ∷ []
+unfolding crc ip found_in to_medium from_medium to_wire from_wire run
+failed_behind_a_check = refl
+
+failed_before_a_check : script_replies (faulty (flip 3 0 MediumToTarget 0 1 ++ fail 3 0)) filled opening ≡ Silent ∷ Whole ∷ lists 0 Medium ∷ []
+unfolding crc ip found_in to_medium from_medium to_wire from_wire run
+failed_before_a_check = refl
+
+-- A line of another block fails none of these.
+other_block_fails : script_replies (faulty (fail 2 1 ++ fail 9 0)) filled opening ≡ Silent ∷ Whole ∷ Whole ∷ []
+unfolding crc ip found_in to_medium from_medium to_wire from_wire run
+other_block_fails = refl
 
 abbrev reads : List Op
 reads = Fetch 0 2 (seg 0 1024) ∷ []

@@ -14,13 +14,13 @@ use Rattle.block_path.specs.Blocks.{fetched_cell, own_frame}
 use Rattle.block_path.specs.Routes.{host_type, passage, wire_lba}
 use Rattle.block_path.specs.WayIn.{adapter_finds_in, mapped_back, owner_finds, received}
 use Rattle.block_path.specs.WayOut.{adapter_finds_out, mapped_out, sent}
-use Rattle.walk_laws.specs.FirstLayer.{AtAdapter, AtOwner, AtTarget, Layer, has_flip, has_shift, is_stored_whole}
+use Rattle.walk_laws.specs.FirstLayer.{AtAdapter, AtOwner, AtTarget, Layer, has_flip, has_shift, is_served, is_stored_whole}
 use Rattle.walk_laws.specs.PlainMap.{as_expected}
 use Rattle.walk_laws.specs.ScriptWalk.{act_of}
 use Rattle.walk_laws.specs.Settings.{Block, Setting, route}
 use Rattle.walk_laws.specs.Steps.{Alters, Reads, Seals, Sets, Shows, Step, Writes, WritesPi}
 
--- Which faults tuples can show: in type 1 with tuples that are passed and protect field 001b. Two flips that cancel each other, an application tag altered alone where nobody asks for it, a copy of a block onto itself, and a write of which the medium stores nothing can't be shown; one of which it stores a part is left out here.
+-- Which faults tuples can show: in type 1 with tuples that are passed and protect field 001b. Two flips that cancel each other, an application tag altered alone where nobody asks for it, a copy of a block onto itself, and a write of which the medium stores nothing can't be shown. One of which it stores a part, and a block that the medium fails, are left out here.
 
 -- the frame after a crossing
 abbrev pub crossed : Setting → Block → Crossing → List ℕ → List ℕ
@@ -111,7 +111,7 @@ step_shows m (Shows at) s = true
 step_shows m (Seals body tuple app rtag) s = true
 step_shows m (Writes b app body) s = is_stored_whole m b && shows_out m b (own_frame (route m b) app (gather 0 body s.bytes))
 step_shows m (WritesPi b frame) s = is_stored_whole m b && shows_out m b (gather 0 frame s.bytes)
-step_shows m (Reads b owner to) s = shows_in m b (get_or s.blocks (fetched_cell m.site (route m b)) [])
+step_shows m (Reads b owner to) s = is_served m b && shows_in m b (get_or s.blocks (fetched_cell m.site (route m b)) [])
 step_shows m (Alters dev lba change) s = is_spoilt m lba (get_or (act (act_of m (Alters dev lba change)) s).blocks (m.site.cell dev lba) [])
 
 -- Each fault of the walk can be shown.

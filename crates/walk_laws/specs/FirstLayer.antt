@@ -1,10 +1,10 @@
 use Rattle.std.specs.Prelude.{ℕ, Bool, true, false, ◌&&◌, ◌||◌, not, eqb, if◌then◌else◌, List, [], ◌∷◌, get_or, nat_abs, Option, Some, None}
 use Rattle.std.specs.List.{list_any}
-use Rattle.fault_schedule.specs.Altered.{is_line_of, keep_of, shift_of}
+use Rattle.fault_schedule.specs.Altered.{fails_of, is_line_of, keep_of, shift_of}
 use Rattle.fault_schedule.specs.declared.fault.Crossing.{Crossing}
 use Rattle.fault_schedule.specs.declared.fault.Crossing.TheVariants.{AdapterToHost, AdapterToTarget, MediumToTarget, TargetToAdapter, TargetToMedium}
 use Rattle.fault_schedule.specs.declared.fault.FaultKind.{FaultKind}
-use Rattle.fault_schedule.specs.declared.fault.FaultKind.TheVariants.{Flip, Shift, Keep}
+use Rattle.fault_schedule.specs.declared.fault.FaultKind.TheVariants.{Flip, Shift, Keep, Fail}
 use Rattle.block_path.specs.Acts.{State}
 use Rattle.block_path.specs.Blocks.{fetched_cell, own_cell, stored_cell}
 use Rattle.walk_laws.specs.Past.{Accepted, Brought, Event, Lost, Overwritten, brought_by}
@@ -21,6 +21,7 @@ abbrev pub is_flip : FaultKind → Bool
 is_flip (Flip off bytes) = true
 is_flip (Shift by) = false
 is_flip (Keep bytes) = false
+is_flip Fail = false
 
 -- A line flips bytes of the block at this crossing.
 abbrev pub has_flip : Setting → Block → Crossing → Bool
@@ -34,9 +35,13 @@ abbrev pub is_all : Option ℕ → Bool
 is_all None = true
 is_all (Some n) = false
 
--- No line lets the medium store but a part of the block.
+-- No line says that the medium can't store or send the block.
+abbrev pub is_served : Setting → Block → Bool
+is_served m b = not (fails_of m.site.faults (route m b).label)
+
+-- Nor does one let it store but a part of the block.
 abbrev pub is_stored_whole : Setting → Block → Bool
-is_stored_whole m b = is_all (keep_of m.site.faults (route m b).label)
+is_stored_whole m b = is_served m b && is_all (keep_of m.site.faults (route m b).label)
 
 -- A cell is hit where, since the last block that was accepted and stored there, an overwrite altered it, or that block had a flip on its way to the medium.
 abbrev pub is_hit : Setting → (cell : ℕ) → List Event → Bool
