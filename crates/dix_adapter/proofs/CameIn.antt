@@ -3,7 +3,6 @@ use Rattle.std.proofs.Common.{◌≡◌, ◌<◌, ◌≤◌, ℕ, zero, suc, ◌
 use Rattle.std.specs.Prelude.{min, ℤ, pos, ◌+ℤ◌, nat_abs, Result, Ok}
 use Rattle.page_pool.specs.Cells.{flat}
 use Rattle.pi_tuple.specs.Finds.{is_zero}
-use Rattle.pi_tuple.specs.declared.checks.Check.{Check}
 use Rattle.cdb_codec.specs.Decoded.{decoded}
 use Rattle.cdb_codec.specs.Forms.{Fits, form}
 use Rattle.cdb_codec.specs.declared.choice.Dir2.TheVariants.{In}
@@ -17,7 +16,7 @@ use Rattle.bio_core.specs.declared.request.Io.{Io}
 use Rattle.bio_core.specs.Bios.{Block}
 use Rattle.fault_schedule.specs.declared.Label.{Label}
 use Rattle.fault_schedule.specs.declared.fault.FaultLine.{FaultLine}
-use Rattle.rig_api.specs.Passed.{frames_of, joined, sent_size, stored_size, from_medium, is_foreign, request_of, Stop, Stored, answer_unless, carried_out, each, has_blocks, medium_address, passage as passage_of, passed, read_by, read_end, refusal, sending, shape_of, stored_from, target_answer, wire_address}
+use Rattle.rig_api.specs.Passed.{Flaw, frames_of, joined, sent_size, stored_size, off_medium, is_foreign, request_of, Stop, Stored, answer_unless, carried_out, each, has_blocks, medium_address, passage as passage_of, passed, read_by, read_end, refusal, sending, shape_of, stored_from, target_answer, wire_address}
 use Rattle.rig_api.specs.declared.request.Request.TheVariants.{Read as Reads}
 use Rattle.rig_api.proofs.Passed.{few_passed}
 use Rattle.rig_api.specs.Log.{entry_of, moved_by, moved_under}
@@ -34,7 +33,8 @@ use Rattle.dix_adapter.specs.Carried.{command_for, fates_in, landed}
 use Rattle.dix_adapter.specs.Groups.{IsProtect, blocks_in, first_of, label_of, route_of, size}
 use Rattle.dix_adapter.specs.Outcomes.{done_of, rest_of}
 use Rattle.dix_adapter.specs.Ways.{CameIn, acts_in, blocks_told, cell_in, fates_of_in, frames_in, shapes_of, site_of, stopped_in, ways_in}
-use Rattle.dix_adapter.proofs.Asking.{address-more, alike-in, asked-alike, asked-for, count-is, field_for, fields_of, lba-is, no-tuples-asked, not-refused-in, own-form, protect-is}
+use Rattle.dix_adapter.proofs.Asking.{address-more, asked-alike, asked-for, count-is, field_for, fields_of, lba-is, no-tuples-asked, not-refused-in, own-form, protect-is}
+use Rattle.dix_adapter.proofs.Flaws.{off-alike}
 use Rattle.dix_adapter.proofs.Commands.{command-blocks}
 use Rattle.dix_adapter.proofs.GoingIn.{acts-in, ends-in, judged-in-long, judged_in, long-at, part-long, passed-long, sent-long-in, ways-in-are}
 use Rattle.dix_adapter.proofs.GoingOut.{take-long}
@@ -86,7 +86,7 @@ fetched-block a ios us device bytes address at from s t k b l f h p q r =
 
 pub asked-in : (a : Adapter) (ios : List Io) (us : List Stored) (labels : List Label) (device bytes address n at from : ℕ) (s t : ℤ) (bs : List Block) (k : ℕ) → device < length us → (unit_at us device).ty ≡ a.ty → (unit_at us device).size ≡ bytes →
     (unit_at us device).first ≤ from → from + k + length bs ≤ (unit_at us device).first + length (unit_at us device).blocks → pos address +ℤ s ≡ pos at → pos at +ℤ t ≡ pos from → Run a ios device bytes s t (address + k) bs → drop k labels ≡ map label_of bs →
-    each (λ k frame. from_medium a.tamper (passage_of (shape_of (unit_at us device)) (fields_of a address n) at labels k) frame) k (take (length bs) (drop (from + k - (unit_at us device).first) (unit_at us device).blocks))
+    each (λ k frame. off_medium a.tamper (passage_of (shape_of (unit_at us device)) (fields_of a address n) at labels k) frame) k (take (length bs) (drop (from + k - (unit_at us device).first) (unit_at us device).blocks))
     ≡ judged_in a ios (shapes_of us) (blocks_told us) bs
 asked-in a ios us labels device bytes address n at from s t [] k l y z f h p q r d = refl
 asked-in a ios us labels device bytes address n at from s t (b ∷ bs) k l y z f h p q r d =
@@ -99,12 +99,12 @@ asked-in a ios us labels device bytes address n at from s t (b ∷ bs) k l y z f
     let v : suc k ≡ k + 1 = omega arith in
     let fl = fetched-lba a ios device bytes address at from s t k b p q r.0 in
     let fb = fetched-block a ios us device bytes address at from s t k b l f (omega arith) p q r.0 in
-    ap (λ x. each (λ k frame. from_medium a.tamper (passage_of (shape_of unit) (fields_of a address n) at labels k) frame) k (take (suc (length bs)) x)) (o ∙ ap (λ j. get_or unit.blocks i [] ∷ drop j unit.blocks) e)
-    ∙ ap (λ j. j ∷ each (λ k frame. from_medium a.tamper (passage_of (shape_of unit) (fields_of a address n) at labels k) frame) (k + 1) (take (length bs) (drop (from + (k + 1) - unit.first) unit.blocks)))
-    (alike-in a.tamper (passage_of (shape_of unit) (fields_of a address n) at labels k) (passage a.tamper (route_of a ios b)) (get_or unit.blocks i [])
+    ap (λ x. each (λ k frame. off_medium a.tamper (passage_of (shape_of unit) (fields_of a address n) at labels k) frame) k (take (suc (length bs)) x)) (o ∙ ap (λ j. get_or unit.blocks i [] ∷ drop j unit.blocks) e)
+    ∙ ap (λ j. j ∷ each (λ k frame. off_medium a.tamper (passage_of (shape_of unit) (fields_of a address n) at labels k) frame) (k + 1) (take (length bs) (drop (from + (k + 1) - unit.first) unit.blocks)))
+    (off-alike a.tamper (passage_of (shape_of unit) (fields_of a address n) at labels k) (passage a.tamper (route_of a ios b)) (get_or unit.blocks i [])
     (asked-alike a (shape_of unit) a.tamper labels address n at k (route_of a ios b) (record { ty = y; bytes = z ∙ sym r.0.long; own_type = refl; mode = refl; lba = r.0.lba; wire = fl.0; label = lb.0 }))
-    ∙ ap (from_medium a.tamper (passage a.tamper (route_of a ios b))) (sym fb))
-    ∙ ap (λ js. from_medium a.tamper (passage a.tamper (route_of a ios b)) (get_or (blocks_told us) (fetched_cell (site_of a (shapes_of us)) (route_of a ios b)) []) ∷ js)
+    ∙ ap (off_medium a.tamper (passage a.tamper (route_of a ios b))) (sym fb))
+    ∙ ap (λ js. off_medium a.tamper (passage a.tamper (route_of a ios b)) (get_or (blocks_told us) (fetched_cell (site_of a (shapes_of us)) (route_of a ios b)) []) ∷ js)
     (asked-in a ios us labels device bytes address n at from s t bs (k + 1) l y z f (omega arith) p q (subst (λ j. Run a ios device bytes s t j bs) m r.1) (ap (λ j. drop j labels) (sym v) ∙ lb.1))
 
 pub came-wide : (a : Adapter) (ios : List Io) (us : List Stored) (device bytes address at from : ℕ) (s t : ℤ) (bs : List Block) (k : ℕ) → IsProtect a.protect → device < length us → AllLong (stored_size a.ty bytes) (unit_at us device).blocks →
@@ -114,13 +114,13 @@ came-wide a ios us device bytes address at from s t [] k p l w f h x y r = tt
 came-wide a ios us device bytes address at from s t (b ∷ bs) k p l w f h x y r =
     let m : suc (address + k) ≡ address + suc k = omega arith in
     let fb = fetched-block a ios us device bytes address at from s t k b l f (omega arith) x y r.0 in
-    passed-long (width_for a bytes) (from_medium a.tamper (passage a.tamper (route_of a ios b)) (get_or (blocks_told us) (fetched_cell (site_of a (shapes_of us)) (route_of a ios b)) [])) (judged_in a ios (shapes_of us) (blocks_told us) bs)
+    passed-long (width_for a bytes) (off_medium a.tamper (passage a.tamper (route_of a ios b)) (get_or (blocks_told us) (fetched_cell (site_of a (shapes_of us)) (route_of a ios b)) [])) (judged_in a ios (shapes_of us) (blocks_told us) bs)
     (sent-long-in a ios b (get_or (blocks_told us) (fetched_cell (site_of a (shapes_of us)) (route_of a ios b)) []) bytes p r.0.long (ap length fb ∙ long-at (stored_size a.ty bytes) (unit_at us device).blocks (from + k - (unit_at us device).first) w (omega arith)))
     (came-wide a ios us device bytes address at from s t bs (suc k) p l w f (omega arith) x y (subst (λ j. Run a ios device bytes s t j bs) m r.1))
 
 -- ---- the answer
 
-sending-same : (unit : Stored) (c : Rw) (faults : List FaultLine) (labels : List Label) (stop : Option Stop) (at from : ℕ) (js : List (Result (List ℕ) Check)) → wire_address faults labels c ≡ pos at → medium_address faults labels c ≡ pos from → read_by (shape_of unit) c at faults labels (stored_from unit from c.n) ≡ js →
+sending-same : (unit : Stored) (c : Rw) (faults : List FaultLine) (labels : List Label) (stop : Option Stop) (at from : ℕ) (js : List (Result (List ℕ) Flaw)) → wire_address faults labels c ≡ pos at → medium_address faults labels c ≡ pos from → read_by (shape_of unit) c at faults labels (stored_from unit from c.n) ≡ js →
     carried_out unit (Reads c) faults labels [] stop ≡ sending unit.blocks (read_end at js stop)
 sending-same unit c faults labels stop at from js e m j =
     ap (λ (z : ℤ). sending unit.blocks (read_end (nat_abs z) (read_by (shape_of unit) c (nat_abs z) faults labels (stored_from unit (nat_abs (medium_address faults labels c)) c.n)) stop)) e
@@ -151,8 +151,8 @@ answered-in a ios us device bytes address n at from room s t bs stop k v =
     let zf : from ≡ from + 0 = omega arith in
     let zn : from + 0 + length bs ≤ unit.first + length unit.blocks = (let x = k.below in let z = k.count in omega arith) in
     let j : read_by (shape_of unit) c at a.tamper (map label_of bs) (stored_from unit from c.n) ≡ judged_in a ios (shapes_of us) (blocks_told us) bs =
-    ap (λ x. each (λ i frame. from_medium a.tamper (passage_of (shape_of unit) c at (map label_of bs) i) frame) 0 (take x (drop (from - unit.first) unit.blocks))) (count-is a address n ∙ sym k.count)
-    ∙ ap (λ x. each (λ i frame. from_medium a.tamper (passage_of (shape_of unit) c at (map label_of bs) i) frame) 0 (take (length bs) (drop (x - unit.first) unit.blocks))) zf
+    ap (λ x. each (λ i frame. off_medium a.tamper (passage_of (shape_of unit) c at (map label_of bs) i) frame) 0 (take x (drop (from - unit.first) unit.blocks))) (count-is a address n ∙ sym k.count)
+    ∙ ap (λ x. each (λ i frame. off_medium a.tamper (passage_of (shape_of unit) c at (map label_of bs) i) frame) 0 (take (length bs) (drop (x - unit.first) unit.blocks))) zf
     ∙ asked-in a ios us (map label_of bs) device bytes address n at from s t bs 0 k.there k.ty k.long k.above zn k.here k.there_from (subst (λ z. Run a ios device bytes s t z bs) za k.run) refl in
     let r : refusal (shape_of unit) (Ok (command_for a In address n)) a.tamper (map label_of bs) 0 room ≡ None =
     not-refused-in (shape_of unit) (command_for a In address n) c a.tamper (map label_of bs) 0 room (asked-for a In address n)

@@ -9,19 +9,19 @@ use Rattle.pi_tuple.specs.declared.checks.PiType.{PiType}
 use Rattle.pi_tuple.specs.declared.checks.PiType.TheVariants.{Zero, One, Two, Three}
 use Rattle.pi_tuple.specs.declared.checks.Check.{Check}
 use Rattle.bio_core.specs.declared.fate.Fate.TheVariants.{Bad, Untouched}
-use Rattle.bio_core.specs.declared.fate.Why.TheVariants.{Medium, Target}
+use Rattle.bio_core.specs.declared.fate.Why.TheVariants.{Medium}
 use Rattle.bio_core.specs.declared.request.Io.{Io}
 use Rattle.bio_core.specs.Bios.{Block, block_size}
 use Rattle.fault_schedule.specs.declared.Label.{Label}
 use Rattle.fault_schedule.specs.declared.fault.Crossing.TheVariants.{MediumToTarget, TargetToAdapter}
 use Rattle.fault_schedule.specs.declared.fault.FaultLine.{FaultLine}
-use Rattle.rig_api.specs.Passed.{data_of, stored_size, crossed, found_in, from_medium, then_crossed, unless, Stop, check_sense, first_sense, medium_sense, passed, read_end}
+use Rattle.rig_api.specs.Passed.{Flaw, data_of, stored_size, crossed, fails_under, flaw_sense, found_in, from_medium, off_medium, sent_unless, then_crossed, unless, Stop, first_sense, medium_sense, passed, read_end}
 use Rattle.rig_api.specs.declared.passage.Passage.{Passage}
 use Rattle.rig_api.specs.declared.units.UnitSpec.{UnitSpec}
 use Rattle.block_path.specs.Acts.{State, act}
 use Rattle.block_path.specs.Blocks.{fetched_cell, own_cell}
 use Rattle.block_path.specs.Moves.{carried_in, carry_in}
-use Rattle.block_path.specs.Routes.{by_target, passage}
+use Rattle.block_path.specs.Routes.{passage}
 use Rattle.block_path.specs.Serial.{plain}
 use Rattle.block_path.specs.WayIn.{Stops, WayIn, at_host, comes_in, from_device, from_wire}
 use Rattle.block_path.specs.declared.route.Route.{Route}
@@ -31,15 +31,16 @@ use Rattle.dix_adapter.specs.Carried.{arrives, carried, fates_in, land, landed}
 use Rattle.dix_adapter.specs.Groups.{IsProtect, frame_cells, label_of, request_of, route_of}
 use Rattle.dix_adapter.specs.Outcomes.{rest_of}
 use Rattle.block_path.specs.Senses.{why_ended}
-use Rattle.block_path.proofs.PathLaws.{crossed_length, check_named}
+use Rattle.block_path.proofs.PathLaws.{crossed_length}
 use Rattle.dix_adapter.specs.Ways.{acts_in, fates_of_in, frames_in, site_of, stopped_in, ways_in}
+use Rattle.dix_adapter.proofs.Flaws.{by_flaw, flaw_named, flaw_why, sends-by}
 use Rattle.dix_adapter.proofs.GoingOut.{rest-shift}
 use Rattle.dix_adapter.proofs.Runs.{AllLong, width_for}
 
 -- what the unit finds in each block
-abbrev pub judged_in : Adapter → List Io → List UnitSpec → (blocks : List (List ℕ)) → List Block → List (Result (List ℕ) Check)
+abbrev pub judged_in : Adapter → List Io → List UnitSpec → (blocks : List (List ℕ)) → List Block → List (Result (List ℕ) Flaw)
 judged_in a ios units blocks [] = []
-judged_in a ios units blocks (b ∷ bs) = from_medium a.tamper (passage a.tamper (route_of a ios b)) (get_or blocks (fetched_cell (site_of a units) (route_of a ios b)) []) ∷ judged_in a ios units blocks bs
+judged_in a ios units blocks (b ∷ bs) = off_medium a.tamper (passage a.tamper (route_of a ios b)) (get_or blocks (fetched_cell (site_of a units) (route_of a ios b)) []) ∷ judged_in a ios units blocks bs
 
 pub judged-in-long : (a : Adapter) (ios : List Io) (units : List UnitSpec) (blocks : List (List ℕ)) (bs : List Block) → length (judged_in a ios units blocks bs) ≡ length bs
 judged-in-long a ios units blocks [] = refl
@@ -47,23 +48,28 @@ judged-in-long a ios units blocks (b ∷ bs) = ap suc (judged-in-long a ios unit
 
 -- ---- the ways, by what is found
 
-abbrev pub ways_from : Adapter → List Io → List Block → List (Result (List ℕ) Check) → List WayIn
+abbrev pub ways_from : Adapter → List Io → List Block → List (Result (List ℕ) Flaw) → List WayIn
 ways_from a ios [] js = []
 ways_from a ios (b ∷ bs) [] = []
-ways_from a ios (b ∷ bs) (j ∷ js) = from_device a.tamper (route_of a ios b) (by_target j) ∷ ways_from a ios bs js
+ways_from a ios (b ∷ bs) (j ∷ js) = from_device a.tamper (route_of a ios b) (by_flaw j) ∷ ways_from a ios bs js
+
+way-in : (a : Adapter) (units : List UnitSpec) (r : Route) (stored : List ℕ) → comes_in a.tamper (site_of a units).device r stored ≡ from_device a.tamper r (by_flaw (off_medium a.tamper (passage a.tamper r) stored))
+way-in a units r stored = ap (from_device a.tamper r) (sends-by (fails_under a.tamper (Some r.label)) (from_medium a.tamper (passage a.tamper r) stored))
 
 pub ways-in-are : (a : Adapter) (ios : List Io) (units : List UnitSpec) (blocks : List (List ℕ)) (bs : List Block) → ways_in a ios units blocks bs ≡ ways_from a ios bs (judged_in a ios units blocks bs)
 ways-in-are a ios units blocks [] = refl
-ways-in-are a ios units blocks (b ∷ bs) = ap (λ ws. comes_in a.tamper (site_of a units).device (route_of a ios b) (get_or blocks (fetched_cell (site_of a units) (route_of a ios b)) []) ∷ ws) (ways-in-are a ios units blocks bs)
+ways-in-are a ios units blocks (b ∷ bs) =
+    ap (λ w. w ∷ ways_in a ios units blocks bs) (way-in a units (route_of a ios b) (get_or blocks (fetched_cell (site_of a units) (route_of a ios b)) []))
+    ∙ ap (λ ws. from_device a.tamper (route_of a ios b) (by_flaw (off_medium a.tamper (passage a.tamper (route_of a ios b)) (get_or blocks (fetched_cell (site_of a units) (route_of a ios b)) []))) ∷ ws) (ways-in-are a ios units blocks bs)
 
 abbrev Judged : Type 0
-Judged = Result (List ℕ) Check
+Judged = Result (List ℕ) Flaw
 
-came : (f : List ℕ) (x : Judged) (ws : List WayIn) → frames_in (at_host f x ∷ ws) ≡ f ∷ frames_in ws
+came : (f : List ℕ) (x : Result (List ℕ) Check) (ws : List WayIn) → frames_in (at_host f x ∷ ws) ≡ f ∷ frames_in ws
 came f (Ok frame) ws = refl
 came f (Err c) ws = refl
 
-fate-came : (f : List ℕ) (x : Judged) (ws : List WayIn) → fates_of_in (at_host f x ∷ ws) ≡ carried x ∷ fates_of_in ws
+fate-came : (f : List ℕ) (x : Result (List ℕ) Check) (ws : List WayIn) → fates_of_in (at_host f x ∷ ws) ≡ carried x ∷ fates_of_in ws
 fate-came f (Ok frame) ws = refl
 fate-came f (Err c) ws = refl
 
@@ -100,8 +106,8 @@ fates-from a ios lba (b ∷ bs) (Ok f ∷ js) e =
     ∙ ap (λ z. carried (arrives a ios b f) ∷ (fates_in a ios bs (passed js) ++ z))
     (sym (rest-shift (length js) (record { done = length (passed js); sense = first_sense (lba + 1) js }) (record { done = suc (length (passed js)); sense = first_sense (lba + 1) js }) refl refl))
 fates-from a ios lba (b ∷ bs) (Err c ∷ js) e =
-    ap (λ n. Bad (Target c) ∷ replicate n Untouched) (ways-long a ios bs js (omega arith))
-    ∙ sym (rest-end (length js) (Some (check_sense c lba)) ∙ ap (λ w. Bad w ∷ replicate (length js) Untouched) (check_named c lba))
+    ap (λ n. Bad (flaw_why c) ∷ replicate n Untouched) (ways-long a ios bs js (omega arith))
+    ∙ sym (rest-end (length js) (Some (flaw_sense c lba)) ∙ ap (λ w. Bad w ∷ replicate (length js) Untouched) (flaw_named c lba))
 
 -- one at which a store call failed
 set-frames : (a : Adapter) (ios : List Io) (i : ℕ) (bs : List Block) (js : List Judged) → i ≤ length (passed js) → i < length js → length bs ≡ length js → frames_in (set (ways_from a ios bs js) i (Stops Medium)) ≡ take i (passed js)
@@ -128,7 +134,7 @@ set-fates a ios s (suc i) (b ∷ bs) (Ok f ∷ js) w h l e =
     ∙ ap (λ z. carried (arrives a ios b f) ∷ (fates_in a ios bs (take i (passed js)) ++ z)) (sym (rest-shift (length js) (record { done = i; sense = s }) (record { done = suc i; sense = s }) refl refl))
 
 -- how the command ends
-pub record EndsIn (a : Adapter) (ios : List Io) (stop : Option Stop) (lba : ℕ) (bs : List Block) (js : List (Result (List ℕ) Check)) : Type 0 where
+pub record EndsIn (a : Adapter) (ios : List Io) (stop : Option Stop) (lba : ℕ) (bs : List Block) (js : List (Result (List ℕ) Flaw)) : Type 0 where
   pub frames : frames_in (stopped_in stop (ways_from a ios bs js)) ≡ (read_end lba js stop).frames
   pub part : (read_end lba js stop).frames ≡ take (read_end lba js stop).done (passed js)
   pub few : (read_end lba js stop).done ≤ length (passed js)
@@ -138,7 +144,7 @@ take-whole : {X : Type 0} (xs : List X) → xs ≡ take (length xs) xs
 take-whole [] = refl
 take-whole (x ∷ xs) = ap (λ z. x ∷ z) (take-whole xs)
 
-pub ends-in : (a : Adapter) (ios : List Io) (stop : Option Stop) (lba : ℕ) (bs : List Block) (js : List (Result (List ℕ) Check)) → length bs ≡ length js → EndsIn a ios stop lba bs js
+pub ends-in : (a : Adapter) (ios : List Io) (stop : Option Stop) (lba : ℕ) (bs : List Block) (js : List (Result (List ℕ) Flaw)) → length bs ≡ length js → EndsIn a ios stop lba bs js
 ends-in a ios None lba bs js e = record { frames = frames-from a ios bs js e; part = take-whole (passed js); few = omega arith; fates = fates-from a ios lba bs js e }
 ends-in a ios (Some s) lba bs js e =
     let n : length (frames_in (ways_from a ios bs js)) + 1 ≡ length (passed js) + 1 = ap (λ z. length z + 1) (frames-from a ios bs js e) in
@@ -179,7 +185,7 @@ pub scatter-none : (at cells : List ℕ) → scatter at [] cells ≡ cells
 scatter-none [] cells = refl
 scatter-none (i ∷ at) cells = refl
 
-lands-one : (r : Route) (at cells f : List ℕ) (after : ℕ) (x : Judged) → scatter at (carried_in r (at_host f x) after).written.bytes cells ≡ land at x cells
+lands-one : (r : Route) (at cells f : List ℕ) (after : ℕ) (x : Result (List ℕ) Check) → scatter at (carried_in r (at_host f x) after).written.bytes cells ≡ land at x cells
 lands-one r at cells f after (Ok frame) = refl
 lands-one r at cells f after (Err c) = scatter-none at cells
 
@@ -189,10 +195,10 @@ acts-in a ios units blocks kept [] zero now b h = refl
 acts-in a ios units blocks kept (x ∷ bs) zero now b h = refl
 acts-in a ios units blocks kept [] (suc n) now b h = absurd (omega arith)
 acts-in a ios units blocks kept (x ∷ bs) (suc n) now b h =
-    by (from_medium a.tamper (passage a.tamper (route_of a ios x)) (get_or blocks (fetched_cell (site_of a units) (route_of a ios x)) [])) refl
+    by (off_medium a.tamper (passage a.tamper (route_of a ios x)) (get_or blocks (fetched_cell (site_of a units) (route_of a ios x)) [])) refl
     (λ k. acts-in a ios units blocks kept bs n (act (carry_in (site_of a units) (route_of a ios x) (frame_cells ios x) (kept x)) now) b k)
   where
-    by : (j : Judged) → from_medium a.tamper (passage a.tamper (route_of a ios x)) (get_or blocks (fetched_cell (site_of a units) (route_of a ios x)) []) ≡ j →
+    by : (j : Judged) → off_medium a.tamper (passage a.tamper (route_of a ios x)) (get_or blocks (fetched_cell (site_of a units) (route_of a ios x)) []) ≡ j →
         (n ≤ length (passed (judged_in a ios units blocks bs)) → (plain act (take n (acts_in a ios units kept bs)) (act (carry_in (site_of a units) (route_of a ios x) (frame_cells ios x) (kept x)) now)).bytes
         ≡ landed a ios bs (take n (passed (judged_in a ios units blocks bs))) (act (carry_in (site_of a units) (route_of a ios x) (frame_cells ios x) (kept x)) now).bytes) →
         (plain act (take n (acts_in a ios units kept bs)) (act (carry_in (site_of a units) (route_of a ios x) (frame_cells ios x) (kept x)) now)).bytes ≡ landed a ios (x ∷ bs) (take (suc n) (passed (judged_in a ios units blocks (x ∷ bs)))) now.bytes
@@ -201,7 +207,8 @@ acts-in a ios units blocks kept (x ∷ bs) (suc n) now b h =
         let k : n ≤ length (passed (judged_in a ios units blocks bs)) = omega (arith, h, ap length q) in
         let w : comes_in a.tamper (site_of a units).device (route_of a ios x) (get_or now.blocks (fetched_cell (site_of a units) (route_of a ios x)) []) ≡ at_host f (from_wire a.tamper (route_of a ios x) f) =
         ap (λ z. comes_in a.tamper (site_of a units).device (route_of a ios x) (get_or z (fetched_cell (site_of a units) (route_of a ios x)) [])) b
-        ∙ ap (λ j. from_device a.tamper (route_of a ios x) (by_target j)) e in
+        ∙ way-in a units (route_of a ios x) (get_or blocks (fetched_cell (site_of a units) (route_of a ios x)) [])
+        ∙ ap (λ j. from_device a.tamper (route_of a ios x) (by_flaw j)) e in
         more k
         ∙ ap (landed a ios bs (take n (passed (judged_in a ios units blocks bs))))
         (ap (λ y. scatter (frame_cells ios x) (carried_in (route_of a ios x) y (length (get_or (gather [] (own_cell (site_of a units) (route_of a ios x) ∷ []) now.logs) 0 []))).written.bytes now.bytes) w
@@ -242,15 +249,21 @@ front-long ty size f false frame p z l = length-take-le size frame (let x = leas
     least Two = omega arith
     least Three = omega arith
 
+unless-long : (w : ℕ) (broken : Bool) (came : Result (List ℕ) Check) → IfOk came (λ f. length f ≡ w) → IfOk (sent_unless broken came) (λ f. length f ≡ w)
+unless-long w true came l = tt
+unless-long w false (Ok f) l = l
+unless-long w false (Err c) l = tt
+
 pub sent-long-in : (a : Adapter) (ios : List Io) (b : Block) (stored : List ℕ) (bytes : ℕ) → IsProtect a.protect → block_size (request_of ios b.op) ≡ bytes → length stored ≡ stored_size a.ty bytes →
-    IfOk (from_medium a.tamper (passage a.tamper (route_of a ios b)) stored) (λ f. length f ≡ width_for a bytes)
+    IfOk (off_medium a.tamper (passage a.tamper (route_of a ios b)) stored) (λ f. length f ≡ width_for a bytes)
 sent-long-in a ios b stored bytes p e l =
-    from-long a.tamper (passage a.tamper (route_of a ios b)) stored (width_for a bytes)
+    unless-long (width_for a bytes) (fails_under a.tamper (Some (label_of b))) (from_medium a.tamper (passage a.tamper (route_of a ios b)) stored)
+    (from-long a.tamper (passage a.tamper (route_of a ios b)) stored (width_for a bytes)
     (front-long a.ty (block_size (request_of ios b.op)) a.protect (a.dif && not (is_zero a.ty)) (crossed a.tamper (Some (label_of b)) MediumToTarget stored) p (is_protected a.dif (is_zero a.ty))
     (altered_length a.tamper MediumToTarget (label_of b) stored ∙ l ∙ ap (stored_size a.ty) (sym e))
-    ∙ ap (width_for a) e)
+    ∙ ap (width_for a) e))
 
-pub passed-long : (w : ℕ) (j : Result (List ℕ) Check) (js : List (Result (List ℕ) Check)) → IfOk j (λ f. length f ≡ w) → AllLong w (passed js) → AllLong w (passed (j ∷ js))
+pub passed-long : (w : ℕ) (j : Result (List ℕ) Flaw) (js : List (Result (List ℕ) Flaw)) → IfOk j (λ f. length f ≡ w) → AllLong w (passed js) → AllLong w (passed (j ∷ js))
 passed-long w (Ok f) js l h = (l, h)
 passed-long w (Err c) js l h = tt
 

@@ -7,12 +7,12 @@ use Rattle.page_pool.specs.Cells.{gather, scatter}
 use Rattle.pi_tuple.specs.declared.checks.Check.{Check}
 use Rattle.bio_core.specs.declared.fate.Fate.{Fate}
 use Rattle.bio_core.specs.declared.fate.Fate.TheVariants.{Good, Bad, Untouched}
-use Rattle.bio_core.specs.declared.fate.Why.TheVariants.{Medium, Target}
+use Rattle.bio_core.specs.declared.fate.Why.TheVariants.{Medium}
 use Rattle.bio_core.specs.declared.request.Io.{Io}
 use Rattle.bio_core.specs.Bios.{Block}
 use Rattle.fault_schedule.specs.Altered.{kept}
 use Rattle.fault_schedule.specs.declared.Label.{Label}
-use Rattle.rig_api.specs.Passed.{to_medium, Stop, check_sense, first_sense, kept_over, kept_under, medium_sense, passed, then_kept, write_end}
+use Rattle.rig_api.specs.Passed.{Flaw, onto_medium, Stop, first_sense, fails_under, flaw_sense, to_medium, kept_over, kept_under, medium_sense, passed, then_kept, write_end}
 use Rattle.rig_api.proofs.KeptLaws.{kept-passed}
 use Rattle.rig_api.specs.declared.units.UnitSpec.{UnitSpec}
 use Rattle.rig_api.proofs.Passed.{few_passed}
@@ -20,7 +20,7 @@ use Rattle.rig_api.specs.declared.rig.Outcome.{Outcome}
 use Rattle.block_path.specs.Acts.{State, act}
 use Rattle.block_path.specs.Blocks.{Site, own_cell, stored_cell, stored_over, written_by}
 use Rattle.block_path.specs.Moves.{carry_out}
-use Rattle.block_path.specs.Routes.{by_target, passage, target}
+use Rattle.block_path.specs.Routes.{passage, target}
 use Rattle.block_path.specs.Serial.{plain}
 use Rattle.block_path.specs.WayOut.{Refuses, Stores, WayOut, at_device, from_adapter, goes_out}
 use Rattle.block_path.specs.declared.route.Route.{Route}
@@ -29,22 +29,22 @@ use Rattle.dix_adapter.specs.Carried.{any_bad, frame_sent, is_bad, sends}
 use Rattle.dix_adapter.specs.Groups.{frame_cells, label_of, route_of}
 use Rattle.dix_adapter.specs.Outcomes.{done_of, rest_of}
 use Rattle.block_path.specs.Senses.{why_ended}
-use Rattle.block_path.proofs.PathLaws.{check_named}
 use Rattle.dix_adapter.specs.Ways.{acts_out, cells_out, fates_out, frames_out, left_at, site_of, stopped_out, ways_out}
 use Rattle.dix_adapter.proofs.Labels.{label-at}
+use Rattle.dix_adapter.proofs.Flaws.{by_flaw, flaw_named, flaw_why, stores-by}
 use Rattle.dix_adapter.proofs.Puts.{puts, puts-more}
 use Rattle.small_laws.proofs.Tests.{ltb_suc}
 
 abbrev Judged : Type 0
-Judged = Result (List ℕ) Check
+Judged = Result (List ℕ) Flaw
 
 -- what is sent of each block, and what the unit finds in it
 abbrev pub all_sent : Adapter → List Io → (cells : List ℕ) → List Block → List (List ℕ)
 all_sent a ios cells bs = map frame_sent (map (sends a ios cells) bs)
 
-abbrev pub judged_out : Adapter → List Io → (cells : List ℕ) → List Block → List (Result (List ℕ) Check)
+abbrev pub judged_out : Adapter → List Io → (cells : List ℕ) → List Block → List (Result (List ℕ) Flaw)
 judged_out a ios cells [] = []
-judged_out a ios cells (b ∷ bs) = to_medium a.tamper (passage a.tamper (route_of a ios b)) (frame_sent (sends a ios cells b)) ∷ judged_out a ios cells bs
+judged_out a ios cells (b ∷ bs) = onto_medium a.tamper (passage a.tamper (route_of a ios b)) (frame_sent (sends a ios cells b)) ∷ judged_out a ios cells bs
 
 pub judged-long : (a : Adapter) (ios : List Io) (cells : List ℕ) (bs : List Block) → length (judged_out a ios cells bs) ≡ length bs
 judged-long a ios cells [] = refl
@@ -56,13 +56,13 @@ sent-long a ios cells (b ∷ bs) = ap suc (sent-long a ios cells bs)
 
 -- ---- the ways, by what is sent and what is found
 
-abbrev pub ways_by : List (List ℕ) → List (Result (List ℕ) Check) → List WayOut
+abbrev pub ways_by : List (List ℕ) → List (Result (List ℕ) Flaw) → List WayOut
 ways_by [] js = []
 ways_by (f ∷ fs) [] = []
-ways_by (f ∷ fs) (j ∷ js) = at_device f (by_target j) ∷ ways_by fs js
+ways_by (f ∷ fs) (j ∷ js) = at_device f (by_flaw j) ∷ ways_by fs js
 
-way-by : (a : Adapter) (r : Route) (s : Judged) → is_bad s ≡ false → from_adapter (target a.tamper) r s ≡ at_device (frame_sent s) (by_target (to_medium a.tamper (passage a.tamper r) (frame_sent s)))
-way-by a r (Ok f) h = refl
+way-by : (a : Adapter) (r : Route) (s : Result (List ℕ) Check) → is_bad s ≡ false → from_adapter (target a.tamper) r s ≡ at_device (frame_sent s) (by_flaw (onto_medium a.tamper (passage a.tamper r) (frame_sent s)))
+way-by a r (Ok f) h = ap (at_device f) (stores-by (fails_under a.tamper (Some r.label)) (to_medium a.tamper (passage a.tamper r) f))
 way-by a r (Err c) h = absurd (let x : true ≡ false = h in cc)
 
 pub ways-are : (a : Adapter) (ios : List Io) (cells : List ℕ) (bs : List Block) → any_bad (map (sends a ios cells) bs) ≡ false → ways_out a ios cells bs ≡ ways_by (all_sent a ios cells bs) (judged_out a ios cells bs)
@@ -70,7 +70,7 @@ ways-are a ios cells [] h = refl
 ways-are a ios cells (b ∷ bs) h =
     let o = or_parts (is_bad (sends a ios cells b)) (any_bad (map (sends a ios cells) bs)) h in
     ap (λ w. w ∷ ways_out a ios cells bs) (way-by a (route_of a ios b) (sends a ios cells b) o.0)
-    ∙ ap (λ ws. at_device (frame_sent (sends a ios cells b)) (by_target (to_medium a.tamper (passage a.tamper (route_of a ios b)) (frame_sent (sends a ios cells b)))) ∷ ws) (ways-are a ios cells bs o.1)
+    ∙ ap (λ ws. at_device (frame_sent (sends a ios cells b)) (by_flaw (onto_medium a.tamper (passage a.tamper (route_of a ios b)) (frame_sent (sends a ios cells b)))) ∷ ws) (ways-are a ios cells bs o.1)
 
 frames-by : (fs : List (List ℕ)) (js : List Judged) → length fs ≡ length js → frames_out (ways_by fs js) ≡ take (length (passed js)) fs
 frames-by [] [] e = refl
@@ -127,8 +127,8 @@ fates-by lba [] (j ∷ js) e = absurd (omega arith)
 fates-by lba (f ∷ fs) [] e = absurd (omega arith)
 fates-by lba (f ∷ fs) (Ok g ∷ js) e = ap (λ z. Good ∷ z) (fates-by (lba + 1) fs js (omega arith)) ∙ sym (told-more (length js) (length (passed js)) (first_sense (lba + 1) js))
 fates-by lba (f ∷ fs) (Err c ∷ js) e =
-    ap (λ n. Bad (Target c) ∷ replicate n Untouched) (ways-long fs js (omega arith))
-    ∙ sym (told-end (length js) (Some (check_sense c lba)) ∙ ap (λ w. Bad w ∷ replicate (length js) Untouched) (check_named c lba))
+    ap (λ n. Bad (flaw_why c) ∷ replicate n Untouched) (ways-long fs js (omega arith))
+    ∙ sym (told-end (length js) (Some (flaw_sense c lba)) ∙ ap (λ w. Bad w ∷ replicate (length js) Untouched) (flaw_named c lba))
 
 -- one at which a store call failed
 set-frames : (i : ℕ) (fs : List (List ℕ)) (js : List Judged) → i < length (passed js) → length fs ≡ length js → frames_out (set (ways_by fs js) i (Refuses Medium)) ≡ take i fs
@@ -153,12 +153,12 @@ pub medium-why : (lba : ℕ) → why_ended (Some (medium_sense 0x0C lba)) ≡ Me
 medium-why lba = refl
 
 -- how the command ends
-pub record EndsOut (stop : Option Stop) (lba : ℕ) (fs : List (List ℕ)) (js : List (Result (List ℕ) Check)) : Type 0 where
+pub record EndsOut (stop : Option Stop) (lba : ℕ) (fs : List (List ℕ)) (js : List (Result (List ℕ) Flaw)) : Type 0 where
   pub frames : frames_out (stopped_out stop (ways_by fs js)) ≡ take (write_end lba js stop).done fs
   pub few : (write_end lba js stop).done ≤ length (passed js)
   pub fates : fates_out (stopped_out stop (ways_by fs js)) ≡ told (length js) (record { done = (write_end lba js stop).done; sense = (write_end lba js stop).sense })
 
-pub ends-out : (stop : Option Stop) (lba : ℕ) (fs : List (List ℕ)) (js : List (Result (List ℕ) Check)) → length fs ≡ length js → EndsOut stop lba fs js
+pub ends-out : (stop : Option Stop) (lba : ℕ) (fs : List (List ℕ)) (js : List (Result (List ℕ) Flaw)) → length fs ≡ length js → EndsOut stop lba fs js
 ends-out None lba fs js e = record { frames = frames-by fs js e; few = omega arith; fates = fates-by lba fs js e }
 ends-out (Some s) lba fs js e =
     let n = frames-count fs js e in
@@ -201,7 +201,7 @@ acts-out a ios units cells labels bs olds zero c k now g b h i d m s = refl
 acts-out a ios units cells labels [] olds (suc n) c k now g b h i d m s = absurd (omega arith)
 acts-out a ios units cells labels (x ∷ bs) [] (suc n) c k now g b h i d m s = absurd (omega arith)
 acts-out a ios units cells labels (x ∷ bs) (old ∷ olds) (suc n) c k now g b h i d m s =
-    by (to_medium a.tamper (passage a.tamper (route_of a ios x)) (frame_sent (sends a ios cells x))) refl
+    by (onto_medium a.tamper (passage a.tamper (route_of a ios x)) (frame_sent (sends a ios cells x))) refl
     (λ l z. acts-out a ios units cells labels bs olds n (suc c) (k + 1) (act (carry_out (site_of a units) (route_of a ios x) (frame_cells ios x)) now) o.1 b l i.1 (ap (λ j. drop j labels) next ∙ here.1) (omega arith) z)
   where
     o : (is_bad (sends a ios cells x) ≡ false) × (any_bad (map (sends a ios cells) bs) ≡ false)
@@ -219,13 +219,13 @@ acts-out a ios units cells labels (x ∷ bs) (old ∷ olds) (suc n) c k now g b 
     rest : List Judged
     rest = kept_over a.tamper labels (k + 1) olds (judged_out a ios cells bs)
 
-    by : (j : Judged) → to_medium a.tamper (passage a.tamper (route_of a ios x)) (frame_sent (sends a ios cells x)) ≡ j →
+    by : (j : Judged) → onto_medium a.tamper (passage a.tamper (route_of a ios x)) (frame_sent (sends a ios cells x)) ≡ j →
         (n ≤ length (passed (judged_out a ios cells bs)) → Stand (suc c) olds after.blocks → (plain act (take n (acts_out a ios units bs)) after).blocks ≡ puts (suc c) (take n (passed rest)) after.blocks) →
         (plain act (take n (acts_out a ios units bs)) after).blocks ≡ puts c (take (suc n) (passed (kept_over a.tamper labels k (old ∷ olds) (judged_out a ios cells (x ∷ bs))))) now.blocks
     by (Ok stored) e more =
         let w : goes_out a.tamper (target a.tamper) (route_of a ios x) (gather 0 (frame_cells ios x) now.bytes) ≡ Stores (frame_sent (sends a ios cells x)) stored =
         ap (λ z. goes_out a.tamper (target a.tamper) (route_of a ios x) (gather 0 (frame_cells ios x) z)) b
-        ∙ way-by a (route_of a ios x) (sends a ios cells x) o.0 ∙ ap (λ j. at_device (frame_sent (sends a ios cells x)) (by_target j)) e in
+        ∙ way-by a (route_of a ios x) (sends a ios cells x) o.0 ∙ ap (λ j. at_device (frame_sent (sends a ios cells x)) (by_flaw j)) e in
         let q : passed (judged_out a ios cells (x ∷ bs)) ≡ stored ∷ passed (judged_out a ios cells bs) = ap (λ j. passed (j ∷ judged_out a ios cells bs)) e in
         let left : List ℕ = kept a.tamper (label_of x) old stored in
         let r : passed (kept_over a.tamper labels k (old ∷ olds) (judged_out a ios cells (x ∷ bs))) ≡ left ∷ passed rest =
@@ -254,7 +254,7 @@ stored-all : (a : Adapter) (ios : List Io) (units : List UnitSpec) (cells : List
     length olds ≡ length bs → Stand c olds now.blocks →
     puts c (passed (kept_over a.tamper (map label_of bs) 0 olds (judged_out a ios cells bs))) now.blocks ≡ (plain act (take (length (passed (judged_out a ios cells bs))) (acts_out a ios units bs)) now).blocks
 stored-all a ios units cells bs olds c now g b i m s =
-    let ks : List (Result (List ℕ) Check) = kept_over a.tamper (map label_of bs) 0 olds (judged_out a ios cells bs) in
+    let ks : List (Result (List ℕ) Flaw) = kept_over a.tamper (map label_of bs) 0 olds (judged_out a ios cells bs) in
     let n : length (passed ks) ≡ length (passed (judged_out a ios cells bs)) = kept-passed a.tamper (map label_of bs) 0 olds (judged_out a ios cells bs) in
     sym (acts-out a ios units cells (map label_of bs) bs olds (length (passed (judged_out a ios cells bs))) c 0 now g b (omega arith) i refl m s
     ∙ ap (λ l. puts c (take l (passed ks)) now.blocks) (sym n) ∙ ap (λ z. puts c z now.blocks) (take-whole (passed ks)))
@@ -271,7 +271,7 @@ pub stored-out : (a : Adapter) (ios : List Io) (units : List UnitSpec) (cells : 
 stored-out a ios units cells bs olds None lba c now g b i m s = stored-all a ios units cells bs olds c now g b i m s
 stored-out a ios units cells bs olds (Some s) lba c now g b i m o =
     let js = judged_out a ios cells bs in
-    let ks : List (Result (List ℕ) Check) = kept_over a.tamper (map label_of bs) 0 olds js in
+    let ks : List (Result (List ℕ) Flaw) = kept_over a.tamper (map label_of bs) 0 olds js in
     let n : length (passed ks) ≡ length (passed js) = kept-passed a.tamper (map label_of bs) 0 olds js in
     ⊎_elim
     (λ (t : ltb s.at (length (passed js)) ≡ true).

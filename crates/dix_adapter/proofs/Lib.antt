@@ -9,6 +9,7 @@ pub mod Landing
 pub mod OnTheWay
 pub mod Puts
 pub mod Asking
+pub mod Flaws
 pub mod GoingOut
 mod Labels
 pub mod Rooms

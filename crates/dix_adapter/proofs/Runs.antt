@@ -1,6 +1,6 @@
 -- The blocks of a group one after another, and what its command asks of each.
 use Rattle.std.proofs.Common.{◌≡◌, ◌<◌, ◌≤◌, ℕ, zero, suc, ◌+◌, ◌*◌, Bool, true, false, not, ◌&&◌, List, [], ◌∷◌, ◌++◌, length, map, take, drop, refl, ap, sym, subst, ◌∙◌, arith, inl, inr, Option, Some, None, append_assoc, length-append}
-use Rattle.std.specs.Prelude.{if◌then◌else◌, IfOk, ℤ, pos, ◌+ℤ◌, Result, Ok, Err, slice_get}
+use Rattle.std.specs.Prelude.{if◌then◌else◌, IfOk, ℤ, pos, ◌+ℤ◌, Result, Ok, Err}
 use Rattle.std.specs.List.{All}
 use Rattle.std.proofs.lemmas.List.{length-map, take_at, drop_at}
 use Rattle.std.proofs.lemmas.Bool.{or_parts}
@@ -18,7 +18,7 @@ use Rattle.bio_core.specs.Bios.{Block, block_size, blocks_from, blocks_of}
 use Rattle.fault_schedule.specs.Altered.{shift_of}
 use Rattle.fault_schedule.specs.declared.Label.{Label}
 use Rattle.fault_schedule.specs.declared.fault.Crossing.TheVariants.{AdapterToTarget, MediumToTarget}
-use Rattle.rig_api.specs.Passed.{frames_of, joined, sent_size, to_medium, each, passage as passage_of}
+use Rattle.rig_api.specs.Passed.{frames_of, joined, sent_size, onto_medium, each, passage as passage_of}
 use Rattle.rig_api.specs.declared.units.UnitSpec.{UnitSpec}
 use Rattle.page_pool.proofs.Ranges.{take-sum}
 use Rattle.block_path.specs.Routes.{host_size, moved, passage, wire_lba, wire_size}
@@ -27,7 +27,8 @@ use Rattle.dix_adapter.specs.declared.adapter.Adapter.{Adapter}
 use Rattle.dix_adapter.specs.Carried.{any_bad, frame_sent, is_bad, sends}
 use Rattle.dix_adapter.specs.Groups.{Chain, IsBio, IsCarriedGroup, IsProtect, blocks_in, data_cells, first_of, frame_cells, frame_in, label_of, request_of, route_of, tuple_cells}
 use Rattle.dix_adapter.specs.Walking.{HasHost, Walkable, WalksTuples}
-use Rattle.dix_adapter.proofs.Asking.{address-more, alike-out, asked-alike, field_for, fields_of}
+use Rattle.dix_adapter.proofs.Asking.{address-more, asked-alike, field_for, fields_of}
+use Rattle.dix_adapter.proofs.Flaws.{onto-alike}
 use Rattle.dix_adapter.proofs.Blocks.{length-blocks}
 use Rattle.dix_adapter.proofs.GoingOut.{all_sent, judged_out}
 use Rattle.dix_adapter.proofs.Labels.{label-at}
@@ -93,17 +94,17 @@ group-run a pool bytes ios req s t g e = bios-run a pool ios bytes (first_of req
 -- ---- out
 
 pub asked-out : (a : Adapter) (ios : List Io) (unit : UnitSpec) (labels : List Label) (cells : List ℕ) (lba n at dev bytes : ℕ) (s t : ℤ) (bs : List Block) (k : ℕ) → unit.ty ≡ a.ty → unit.size ≡ bytes → pos lba +ℤ s ≡ pos at → Run a ios dev bytes s t (lba + k) bs → drop k labels ≡ map label_of bs →
-    each (λ k frame. to_medium a.tamper (passage_of unit (fields_of a lba n) at labels k) frame) k (all_sent a ios cells bs) ≡ judged_out a ios cells bs
+    each (λ k frame. onto_medium a.tamper (passage_of unit (fields_of a lba n) at labels k) frame) k (all_sent a ios cells bs) ≡ judged_out a ios cells bs
 asked-out a ios unit labels cells lba n at dev bytes s t [] k y z p r d = refl
 asked-out a ios unit labels cells lba n at dev bytes s t (b ∷ bs) k y z p r d =
     let l = label-at k labels (map label_of bs) (label_of b) d in
     let m : suc (lba + k) ≡ lba + (k + 1) = omega arith in
     let q : suc k ≡ k + 1 = omega arith in
     let w : at + k ≡ wire_lba a.tamper (route_of a ios b) = sym (ap (λ j. moved b.lba j) r.0.wire ∙ ap (λ j. moved j s) r.0.lba ∙ address-more lba k at s p) in
-    ap (λ j. j ∷ each (λ k frame. to_medium a.tamper (passage_of unit (fields_of a lba n) at labels k) frame) (k + 1) (all_sent a ios cells bs))
-    (alike-out a.tamper (passage_of unit (fields_of a lba n) at labels k) (passage a.tamper (route_of a ios b)) (frame_sent (sends a ios cells b))
+    ap (λ j. j ∷ each (λ k frame. onto_medium a.tamper (passage_of unit (fields_of a lba n) at labels k) frame) (k + 1) (all_sent a ios cells bs))
+    (onto-alike a.tamper (passage_of unit (fields_of a lba n) at labels k) (passage a.tamper (route_of a ios b)) (frame_sent (sends a ios cells b))
     (asked-alike a unit a.tamper labels lba n at k (route_of a ios b) (record { ty = y; bytes = z ∙ sym r.0.long; own_type = refl; mode = refl; lba = r.0.lba; wire = w; label = l.0 })))
-    ∙ ap (λ js. to_medium a.tamper (passage a.tamper (route_of a ios b)) (frame_sent (sends a ios cells b)) ∷ js)
+    ∙ ap (λ js. onto_medium a.tamper (passage a.tamper (route_of a ios b)) (frame_sent (sends a ios cells b)) ∷ js)
     (asked-out a ios unit labels cells lba n at dev bytes s t bs (k + 1) y z p (subst (λ j. Run a ios dev bytes s t j bs) m r.1) (ap (λ j. drop j labels) (sym q) ∙ l.1))
 
 -- the frames that are sent have the wire's size

@@ -4,7 +4,6 @@ use Rattle.std.specs.Prelude.{min, ℤ, pos, ◌+ℤ◌, nat_abs, Result, Ok}
 use Rattle.std.proofs.lemmas.List.{append-nil, length-drop, length-take}
 use Rattle.page_pool.specs.Cells.{flat}
 use Rattle.pi_tuple.specs.Finds.{is_zero}
-use Rattle.pi_tuple.specs.declared.checks.Check.{Check}
 use Rattle.cdb_codec.specs.Decoded.{decoded}
 use Rattle.cdb_codec.specs.Forms.{Fits, form}
 use Rattle.cdb_codec.specs.declared.choice.Dir2.TheVariants.{Out}
@@ -19,7 +18,7 @@ use Rattle.bio_core.specs.declared.request.Io.{Io}
 use Rattle.bio_core.specs.Bios.{Block}
 use Rattle.fault_schedule.specs.declared.Label.{Label}
 use Rattle.fault_schedule.specs.declared.fault.FaultLine.{FaultLine}
-use Rattle.rig_api.specs.Passed.{frames_of, joined, placed, sent_size, to_medium, is_foreign, request_of, Stop, Stored, answer_unless, bytes_of, carried_out, each, has_blocks, kept_over, passage as passage_of, passed, refusal, shape_of, stored_from, storing, target_answer, wire_address, write_end, written_by}
+use Rattle.rig_api.specs.Passed.{Flaw, frames_of, joined, placed, sent_size, onto_medium, is_foreign, request_of, Stop, Stored, answer_unless, bytes_of, carried_out, each, has_blocks, kept_over, passage as passage_of, passed, refusal, shape_of, stored_from, storing, target_answer, wire_address, write_end, written_by}
 use Rattle.rig_api.specs.declared.request.Request.TheVariants.{Write as Writes}
 use Rattle.rig_api.proofs.KeptLaws.{kept-end, kept-many}
 use Rattle.rig_api.proofs.Passed.{few_passed, few_written}
@@ -65,7 +64,7 @@ pub record Before (a : Adapter) (ios : List Io) (unit : Stored) (device bytes ad
   pub here : pos address +ℤ s ≡ pos at
   pub within : has_blocks (shape_of unit) (pos at) n ≡ true
 
-storing-same : (unit : Stored) (c : Rw) (faults : List FaultLine) (labels : List Label) (out : List ℕ) (stop : Option Stop) (at n : ℕ) (js : List (Result (List ℕ) Check)) → wire_address faults labels c ≡ pos at → c.n ≡ n → written_by (shape_of unit) c at faults labels out ≡ js →
+storing-same : (unit : Stored) (c : Rw) (faults : List FaultLine) (labels : List Label) (out : List ℕ) (stop : Option Stop) (at n : ℕ) (js : List (Result (List ℕ) Flaw)) → wire_address faults labels c ≡ pos at → c.n ≡ n → written_by (shape_of unit) c at faults labels out ≡ js →
     carried_out unit (Writes c) faults labels out stop ≡ storing (at - unit.first) unit.blocks (write_end at (kept_over faults labels 0 (stored_from unit at n) js) stop)
 storing-same unit c faults labels out stop at n js e m j =
     ap (λ (z : ℤ). storing (nat_abs z - unit.first) unit.blocks (write_end (nat_abs z) (kept_over faults labels 0 (stored_from unit (nat_abs z) c.n) (written_by (shape_of unit) c (nat_abs z) faults labels out)) stop)) e
@@ -95,7 +94,7 @@ answered-out a ios unit device bytes address n at s t bs cells stop k g =
     ∙ ap (frames_of (width_for a bytes) (length fs)) (sym (append-nil (joined fs))) ∙ cut-joined (width_for a bytes) fs [] wide in
     let zero-more : address ≡ address + 0 = omega arith in
     let j : written_by (shape_of unit) c at a.tamper (map label_of bs) (joined fs) ≡ judged_out a ios cells bs =
-    ap (each (λ i frame. to_medium a.tamper (passage_of (shape_of unit) c at (map label_of bs) i) frame) 0) cut
+    ap (each (λ i frame. onto_medium a.tamper (passage_of (shape_of unit) c at (map label_of bs) i) frame) 0) cut
     ∙ asked-out a ios (shape_of unit) (map label_of bs) cells address n at device bytes s t bs 0 k.ty k.long k.here (subst (λ z. Run a ios device bytes s t z bs) zero-more k.run) refl in
     let r : refusal (shape_of unit) (Ok (command_for a Out address n)) a.tamper (map label_of bs) (length (joined fs)) 0 ≡ None =
     not-refused-out (shape_of unit) (command_for a Out address n) c a.tamper (map label_of bs) (length (joined fs)) 0 (asked-for a Out address n)
@@ -165,7 +164,7 @@ went-by a ios req pool us stop fates old new bytes at width s t o k g l f e w an
     let js = judged_out a ios cells bs in
     let fs = all_sent a ios cells bs in
     let olds : List (List ℕ) = stored_from unit at (size req) in
-    let ks : List (Result (List ℕ) Check) = kept_over a.tamper (map label_of bs) 0 olds js in
+    let ks : List (Result (List ℕ) Flaw) = kept_over a.tamper (map label_of bs) 0 olds js in
     let end = write_end at ks stop in
     let same = kept-end a.tamper (map label_of bs) 0 at olds js stop in
     let ways = ways-are a ios cells bs g in

@@ -29,9 +29,9 @@ use Rattle.script_run_laws.proofs.Standing.{seals-whole, stands-on-ground}
 use Rattle.script_run_laws.proofs.Units.{over-units}
 use Rattle.stack_core.specs.declared.stack.Stack.{Stack}
 use Rattle.stack_core.specs.NewStacks.{IsSetUp}
-use Rattle.stack_core.specs.Walking.{IsOver, Opens, SizesFit, WalksAtFirst, WalksFallingAtFirst}
+use Rattle.stack_core.specs.Walking.{IsOver, Opens, SizesFit, WalksAtFirst, WalksFallingAtFirst, WalksToldAtFirst}
 use Rattle.script_stack.specs.Beginning.{setup_of}
-use Rattle.script_stack.specs.Followed.{BeginsFalling, BeginsWalks, SizesAre, begun_of, setting_of, unit_of}
+use Rattle.script_stack.specs.Followed.{BeginsFalling, BeginsTold, BeginsWalks, SizesAre, begun_of, setting_of, unit_of}
 use Rattle.script_stack.proofs.Runs.{own-infos}
 use Rattle.script_stack.proofs.Ready.{sizes-of}
 
@@ -145,5 +145,10 @@ module _ (s : Script) (t : Table) (devices : List DeviceInfo) (r : Stack) (suits
 
   pub begins-falling : WalksFallingAtFirst r → BeginsFalling s t devices r
   begins-falling first fails us st log found shapes =
+      let b = begins-at fails us st found shapes in
+      first (setting_of s t (shapes_of us) fails) (4096 * s.pages) (begun_of s (shapes_of us) (blocks_told us)) us s.faults st log b.opens_so b.over b.sizes b.site b.units b.armed refl
+
+  pub begins-told : WalksToldAtFirst r → BeginsTold s t devices r
+  begins-told first fails us st log found shapes =
       let b = begins-at fails us st found shapes in
       first (setting_of s t (shapes_of us) fails) (4096 * s.pages) (begun_of s (shapes_of us) (blocks_told us)) us s.faults st log b.opens_so b.over b.sizes b.site b.units b.armed refl

@@ -9,7 +9,7 @@ use Rattle.stack_core.specs.Mediums.{HasCounted, medium_replies, mediums}
 use Rattle.stack_core.specs.Stacks.{plan_in}
 use Rattle.stack_core.proofs.MediumFates.{untouched_mediums}
 
-silent_replies : (n : ℕ) → medium_replies (replicate n Silent) ≡ 0
+pub silent_replies : (n : ℕ) → medium_replies (replicate n Silent) ≡ 0
 silent_replies zero = refl
 silent_replies (suc n) = let r = silent_replies n in omega (arith, r)
 

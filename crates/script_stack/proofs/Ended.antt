@@ -22,13 +22,15 @@ use Rattle.script_text.specs.Bindings.{binding_fault}
 use Rattle.script_text.specs.declared.script.Script.{Script}
 use Rattle.script_run_laws.specs.SuitsStack.{SuitsStack}
 use Rattle.script_run_laws.specs.Units.{AreStored}
-use Rattle.stack_core.specs.Mediums.{HasCounted, RoseBy, medium_lines}
+use Rattle.fault_schedule.specs.Altered.{has_fail}
+use Rattle.stack_core.specs.Mediums.{HasCounted, RoseBy, medium_lines, medium_replies}
 use Rattle.stack_core.specs.Stacks.{GoesOn, IsFinished, IsStack, StackStays, plan_in}
-use Rattle.stack_core.specs.Walking.{Walks, WalksFalling}
+use Rattle.stack_core.specs.Walking.{NoneFailed, Walks, WalksFalling, WalksTold}
 use Rattle.stack_core.specs.declared.stack.Stack.{Stack}
+use Rattle.stack_core.proofs.NoMedium.{none_replied}
 use Rattle.stack_core.proofs.ToldOps.{is_told}
 use Rattle.stack_laws.specs.View.{start}
-use Rattle.script_stack.specs.Followed.{BeginsWalks, HasWalked, IsBackedBy, SizesAre, begun_of, failed_in, none_fails, setting_of, unit_of, BeginsFalling, HasFallen, KnownBlocks, NoMediumLine}
+use Rattle.script_stack.specs.Followed.{BeginsWalks, HasWalked, IsBackedBy, SizesAre, begun_of, failed_in, none_fails, setting_of, unit_of, BeginsFalling, BeginsTold, HasFallen, KnownBlocks, NoMediumLine}
 use Rattle.stack_core.specs.Going.{Went}
 use Rattle.script_stack.specs.Sends.{IsPlanFor, SendsBy, SendsFor, by_words, entries_of}
 use Rattle.script_stack.proofs.Following.{told-shapes, told-stored}
@@ -44,7 +46,14 @@ BackedLaw = (s : Script) (t : Table) (devices : List DeviceInfo) (first : ℕ) (
 abbrev pub ToldLaw : Type 0
 ToldLaw = (s : Script) (t : Table) (us left : List Stored) (first : ℕ) (r : Stack) (armed : List FaultLine) (st : Standing) (log : List LogEntry) → SuitsStack s → length s.lines ≡ length s.faults + length s.ops
     → MadeFor t (map info_of (shapes_of us)) s.block → binding_fault s t (map info_of (shapes_of us)) ≡ None → AreStored us → shapes_of left ≡ shapes_of us → IsStack r → r.sheet.ops ≡ s.ops
-    → medium_lines r.replies.items ≡ 0 → WalksFalling (setting_of s t (shapes_of us) none_fails) (4096 * s.pages) (begun_of s (shapes_of us) (blocks_told us)) first r (Some left) armed st log
+    → NoMediumLine s.faults r.replies.items → WalksFalling (setting_of s t (shapes_of us) none_fails) (4096 * s.pages) (begun_of s (shapes_of us) (blocks_told us)) first r (Some left) armed st log
+    → IsFinished r → HasWalked s t us left r.pool (drop first log) r.replies.items
+
+-- where none of its store calls failed
+abbrev pub CalmLaw : Type 0
+CalmLaw = (s : Script) (t : Table) (us left : List Stored) (first : ℕ) (r : Stack) (armed : List FaultLine) (st : Standing) (log : List LogEntry) → SuitsStack s → length s.lines ≡ length s.faults + length s.ops
+    → MadeFor t (map info_of (shapes_of us)) s.block → binding_fault s t (map info_of (shapes_of us)) ≡ None → AreStored us → shapes_of left ≡ shapes_of us → IsStack r → r.sheet.ops ≡ s.ops
+    → NoneFailed r.replies.items → WalksTold (setting_of s t (shapes_of us) none_fails) (4096 * s.pages) (begun_of s (shapes_of us) (blocks_told us)) first r (Some left) armed st log
     → IsFinished r → HasWalked s t us left r.pool (drop first log) r.replies.items
 
 -- and where its store calls may fail
@@ -72,13 +81,15 @@ pub record IsOver (s : Script) (t : Table) (devices : List DeviceInfo) (words : 
   pub ended : IsFinished r
   pub walks : BeginsWalks s t devices begun
   pub falling : BeginsFalling s t devices begun
+  pub told : BeginsTold s t devices begun
+  pub silent : medium_replies begun.replies.items ≡ 0
   pub goes : GoesOn old new
   pub tells : is_some image' ≡ is_some image
   pub went : Went begun old r new
   pub plan : IsPlanFor s t (plan_in begun.sheet)
   pub first : Holds (plan_in begun.sheet) begun.machine (start (plan_in begun.sheet))
   pub stays : StackStays begun r
-  pub counted : HasCounted old.faults r new.faults
+  pub counted : has_fail s.faults ≡ false → HasCounted old.faults r new.faults
   pub sent : begun.machine.steps ≡ 0 → SendsBy (entries_of words) begun r old.log new.log
 
 pub rest_is : (s : Script) (t : Table) (devices : List DeviceInfo) (words : List (ℕ × ℕ)) (begun r : Stack) (image image' : Option (List ℕ)) (old new : RigState) (o : IsOver s t devices words begun r image image' old new) → drop (length old.log) new.log ≡ o.goes.more
@@ -118,12 +129,12 @@ abbrev pub MediumLaw : Type 0
 MediumLaw = (m : Setting) (n : ℕ) (opening : State) (begun first : ℕ) (s : Stack) (st : Standing) (log : List LogEntry) (count : ℕ) → IsStack s → Walks m n opening begun s st log
     → IsFinished s → HasCounted first s count → RoseBy (medium_lines s.replies.items) first count
 
-pub few_lines : (s : Script) (t : Table) (devices : List DeviceInfo) (words : List (ℕ × ℕ)) (begun r : Stack) (image image' : Option (List ℕ)) (old new : RigState) → MediumLaw → (o : IsOver s t devices words begun r image image' old new) → RoseBy (medium_lines r.replies.items) old.faults new.faults
-few_lines s t devices words begun r image image' old new law o =
+pub few_lines : (s : Script) (t : Table) (devices : List DeviceInfo) (words : List (ℕ × ℕ)) (begun r : Stack) (image image' : Option (List ℕ)) (old new : RigState) → MediumLaw → (o : IsOver s t devices words begun r image image' old new) → has_fail s.faults ≡ false → RoseBy (medium_lines r.replies.items) old.faults new.faults
+few_lines s t devices words begun r image image' old new law o none =
     let m = setting_of s t (map unit_of devices) (failed_in r.replies.items) in
     let opening = begun_of s (map unit_of devices) [] in
     law m (4096 * s.pages) opening (length old.log) old.faults r new.standing new.log new.faults o.stack
-    (o.went.walks m (4096 * s.pages) opening (length old.log) (o.walks (failed_in r.replies.items) [] old.standing old.log o.sizes)) o.ended o.counted
+    (o.went.walks m (4096 * s.pages) opening (length old.log) (o.walks (failed_in r.replies.items) [] old.standing old.log o.sizes)) o.ended (o.counted none)
 
 -- ---- where the rig tells its blocks
 
@@ -149,6 +160,7 @@ pub record IsTold (s : Script) (t : Table) (devices : List DeviceInfo) (us left 
   pub bound : binding_fault s t (map info_of (shapes_of us)) ≡ None
   pub stored : AreStored us
   pub begins_falling : (fails : ℕ → Bool) → WalksFalling (setting_of s t (shapes_of us) fails) (4096 * s.pages) (begun_of s (shapes_of us) (blocks_told us)) (length old.log) begun old.units old.armed old.standing old.log
+  pub begins_told : WalksTold (setting_of s t (shapes_of us) none_fails) (4096 * s.pages) (begun_of s (shapes_of us) (blocks_told us)) (length old.log) begun old.units old.armed old.standing old.log
   pub same : shapes_of left ≡ shapes_of us
 
 pub told_at : (s : Script) (t : Table) (devices : List DeviceInfo) (words : List (ℕ × ℕ)) (begun r : Stack) (image image' : Option (List ℕ)) (old new : RigState) → IsOver s t devices words begun r image image' old new → (known : KnownBlocks old new) → IsTold s t devices known.before known.after begun old new
@@ -166,10 +178,11 @@ told_at s t devices words begun r image image' old new o known =
       bound = subst (λ ds. binding_fault s t ds ≡ None) infos o.bound;
       stored = told-stored old.standing image us told o.ready;
       begins_falling = λ fails. rw (known.began, o.armed) (o.falling fails us old.standing old.log specs shapes);
+      begins_told = rw (known.began, o.armed) (o.told none_fails us old.standing old.log specs shapes);
       same = shapes' ∙ ap specs_of o.goes.standing ∙ sym shapes;
     }
 
-pub walked_at : (s : Script) (t : Table) (devices : List DeviceInfo) (words : List (ℕ × ℕ)) (begun r : Stack) (image image' : Option (List ℕ)) (old new : RigState) → ToldLaw → (o : IsOver s t devices words begun r image image' old new) → (known : KnownBlocks old new) → NoMediumLine r.replies.items →
+pub walked_at : (s : Script) (t : Table) (devices : List DeviceInfo) (words : List (ℕ × ℕ)) (begun r : Stack) (image image' : Option (List ℕ)) (old new : RigState) → ToldLaw → (o : IsOver s t devices words begun r image image' old new) → (known : KnownBlocks old new) → NoMediumLine s.faults r.replies.items →
     HasWalked s t known.before known.after r.pool o.goes.more r.replies.items
 walked_at s t devices words begun r image image' old new law o known none =
     let us = known.before in
@@ -178,6 +191,17 @@ walked_at s t devices words begun r image image' old new law o known none =
     let ends' : WalksFalling (setting_of s t (shapes_of us) none_fails) (4096 * s.pages) (begun_of s (shapes_of us) (blocks_told us)) (length old.log) r (Some known.after) new.armed new.standing new.log = rw known.ended at ends in
     subst (λ (more : List LogEntry). HasWalked s t us known.after r.pool more r.replies.items) (rest_is s t devices words begun r image image' old new o)
     (law s t us known.after (length old.log) r new.armed new.standing new.log o.suits o.lines told.made told.bound told.stored told.same o.stack o.ops none ends' o.ended)
+
+-- where the count of faults didn't rise
+pub calm_at : (s : Script) (t : Table) (devices : List DeviceInfo) (words : List (ℕ × ℕ)) (begun r : Stack) (image image' : Option (List ℕ)) (old new : RigState) → CalmLaw → (o : IsOver s t devices words begun r image image' old new) → (known : KnownBlocks old new) → Calm old.faults new.faults →
+    HasWalked s t known.before known.after r.pool o.goes.more r.replies.items
+calm_at s t devices words begun r image image' old new law o known calm =
+    let us = known.before in
+    let told = told_at s t devices words begun r image image' old new o known in
+    let ends = o.went.told (setting_of s t (shapes_of us) none_fails) (4096 * s.pages) (begun_of s (shapes_of us) (blocks_told us)) (length old.log) calm told.begins_told in
+    let ends' : WalksTold (setting_of s t (shapes_of us) none_fails) (4096 * s.pages) (begun_of s (shapes_of us) (blocks_told us)) (length old.log) r (Some known.after) new.armed new.standing new.log = rw known.ended at ends in
+    subst (λ (more : List LogEntry). HasWalked s t us known.after r.pool more r.replies.items) (rest_is s t devices words begun r image image' old new o)
+    (law s t us known.after (length old.log) r new.armed new.standing new.log o.suits o.lines told.made told.bound told.stored told.same o.stack o.ops (none_replied r.replies.items (o.went.silent calm o.silent)) ends' o.ended)
 
 pub fallen_at : (s : Script) (t : Table) (devices : List DeviceInfo) (words : List (ℕ × ℕ)) (begun r : Stack) (image image' : Option (List ℕ)) (old new : RigState) → FallenLaw → (o : IsOver s t devices words begun r image image' old new) → (known : KnownBlocks old new) →
     HasFallen s t known.before known.after r.pool o.goes.more r.replies.items

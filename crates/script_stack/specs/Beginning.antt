@@ -15,7 +15,7 @@ use Rattle.stack_core.specs.Mediums.{HasCounted}
 use Rattle.stack_core.specs.NewStacks.{IsNewStack, IsSetUp}
 use Rattle.stack_core.specs.Stacks.{HasSpare, IsStack, Reaches, plan_in}
 use Rattle.script_stack.specs.declared.start.Run.{Run}
-use Rattle.script_stack.specs.Followed.{BeginsFalling, BeginsWalks}
+use Rattle.script_stack.specs.Followed.{BeginsFalling, BeginsTold, BeginsWalks}
 use Rattle.script_stack.specs.Sends.{IsPlanFor}
 
 -- A script that suits a stack is bound without a fault to the volume that was made for it of these devices, of which there are at most eight.
@@ -40,6 +40,7 @@ pub record Begins (s : Script) (t : Table) (devices : List DeviceInfo) (r : Run)
   pub schedule : r.schedule ≡ s.schedule
   pub walks : BeginsWalks s t devices r.stack
   pub falling : BeginsFalling s t devices r.stack
+  pub told : BeginsTold s t devices r.stack
   pub counted : (first : ℕ) → HasCounted first r.stack first
 
 -- A rig with as many devices has what the ops name; one that tells its image, where these are its devices.

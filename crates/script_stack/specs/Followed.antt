@@ -16,11 +16,14 @@ use Rattle.dix_adapter.specs.Passed.{State, target}
 use Rattle.script_text.specs.declared.script.Script.{Script}
 use Rattle.script_run_laws.specs.Passed.{Backed, Carried, recorded, fates, info_of}
 use Rattle.script_run_laws.specs.Units.{all_blocks}
-use Rattle.stack_core.specs.Mediums.{RoseBy, medium_lines}
+use Rattle.dix_base.specs.Told.{Calm}
+use Rattle.fault_schedule.specs.Altered.{has_fail}
+use Rattle.fault_schedule.specs.declared.fault.FaultLine.{FaultLine}
+use Rattle.stack_core.specs.Mediums.{RoseBy, medium_lines, unscheduled_mediums}
 use Rattle.stack_core.specs.Passed.{pages_from, requests_from, script_replies, script_walk, Setting}
 use Rattle.stack_core.specs.declared.stack.Stack.{Stack}
 use Rattle.stack_core.specs.Stacks.{IsFinished, IsStack}
-use Rattle.stack_core.specs.Walking.{EndsFallen, Walks, WalksFalling, is_medium}
+use Rattle.stack_core.specs.Walking.{EndsFallen, Walks, WalksFalling, WalksTold, is_medium}
 use Rattle.script_stack.specs.Sends.{SendsFor, by_words}
 use Rattle.page_pool.specs.declared.TheConstants.{PAGE}
 
@@ -89,6 +92,11 @@ abbrev pub BeginsFalling : Script → Table → List DeviceInfo → Stack → Ty
 BeginsFalling s t devices r = (fails : ℕ → Bool) (us : List Stored) (st : Standing) (log : List LogEntry) → devices ≡ map info_of (specs_of st) → shapes_of us ≡ specs_of st
     → WalksFalling (setting_of s t (shapes_of us) fails) (PAGE * s.pages) (begun_of s (shapes_of us) (blocks_told us)) (length log) r (Some us) s.faults st log
 
+-- So it does while none failed.
+abbrev pub BeginsTold : Script → Table → List DeviceInfo → Stack → Type 0
+BeginsTold s t devices r = (fails : ℕ → Bool) (us : List Stored) (st : Standing) (log : List LogEntry) → devices ≡ map info_of (specs_of st) → shapes_of us ≡ specs_of st
+    → WalksTold (setting_of s t (shapes_of us) fails) (PAGE * s.pages) (begun_of s (shapes_of us) (blocks_told us)) (length log) r (Some us) s.faults st log
+
 -- ---- at the end
 
 -- A rig tells its blocks: these before a run, and those after it.
@@ -98,9 +106,9 @@ pub record KnownBlocks (old new : RigState) : Type 0 where
   pub began : old.units ≡ Some before
   pub ended : new.units ≡ Some after
 
--- No line of the report names the medium: no block is listed with it, and no overwrite replied that it failed.
-abbrev pub NoMediumLine : List Reply → Type 0
-NoMediumLine replies = medium_lines replies ≡ 0
+-- No line of the report names the medium but as these fault lines say: no other block is listed with it, and no overwrite replied that it failed.
+abbrev pub NoMediumLine : List FaultLine → List Reply → Type 0
+NoMediumLine faults replies = unscheduled_mediums faults replies ≡ 0
 
 -- A script was run by these words over a rig, to a volume of whose devices it was bound.
 pub record Ran (s : Script) (t : Table) (devices : List DeviceInfo) (words : List (ℕ × ℕ)) (old new : RigState) (r : Stack) : Type 0 where
@@ -124,9 +132,11 @@ pub record Ran (s : Script) (t : Table) (devices : List DeviceInfo) (words : Lis
   pub backed : IsBackedBy s t devices more r.replies.items
   -- They are those that its steps send by these words.
   pub sends : SendsFor (by_words s words) t more r.replies.items
-  -- Lines that name the medium are at most as many as the count of faults rose.
-  pub medium : RoseBy (medium_lines r.replies.items) old.faults new.faults
-  -- Over known blocks, where no line names the medium, the script's ops were done one after another at the target.
-  pub walked : (known : KnownBlocks old new) → NoMediumLine r.replies.items → HasWalked s t known.before known.after r.pool more r.replies.items
+  -- Without `fail` lines, those of the report that name the medium are at most as many as the count of faults rose.
+  pub medium : has_fail s.faults ≡ false → RoseBy (medium_lines r.replies.items) old.faults new.faults
+  -- Over known blocks, where no line names the medium but as `fail` lines say, the script's ops were done one after another at the target.
+  pub walked : (known : KnownBlocks old new) → NoMediumLine s.faults r.replies.items → HasWalked s t known.before known.after r.pool more r.replies.items
+  -- So they were where the count didn't rise.
+  pub calm : (known : KnownBlocks old new) → Calm old.faults new.faults → HasWalked s t known.before known.after r.pool more r.replies.items
   -- Over known blocks, whatever lines name it, so they were but for what the store calls that failed left.
   pub fell : (known : KnownBlocks old new) → HasFallen s t known.before known.after r.pool more r.replies.items

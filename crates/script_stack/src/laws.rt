@@ -15,8 +15,8 @@ ghost use Rattle.script_run_laws.specs.SuitsStack.{SuitsStack};
 ghost use Rattle.script_run_laws.specs.Units.{AreStored};
 ghost use Rattle.stack_core.specs.declared.stack.Stack.{Stack as AnyStack};
 ghost use Rattle.stack_core.specs.Stacks.{IsFinished, IsStack};
-ghost use Rattle.stack_core.specs.Mediums.{medium_lines};
-ghost use Rattle.stack_core.specs.Walking.{Walks, WalksFalling};
+ghost use Rattle.stack_core.specs.Mediums.{unscheduled_mediums};
+ghost use Rattle.stack_core.specs.Walking.{NoneFailed, Walks, WalksFalling, WalksTold};
 ghost use Rattle.script_stack.specs.Followed.{HasFallen, HasWalked, IsBackedBy, begun_of, failed_in, none_fails, setting_of, unit_of};
 ghost use Rattle.page_pool.specs.declared.TheConstants.{PAGE};
 
@@ -40,13 +40,18 @@ pub fn a_script_run_is_backed()
     a_finished_stack_is_backed();
 }
 
-/// Over a rig that tells its blocks, where no line of the replies names the medium, the script's ops were done one after
-/// another at the target.
+/// Over a rig that tells its blocks, where no line of the replies names the medium but as fault lines say, or where no store
+/// call failed, the script's ops were done one after another at the target.
 pub fn a_told_script_run_has_walked()
-    ensures { (s : AnyScript) (t : Table) (us left : List Stored) (first : ℕ) (r : AnyStack) (armed : List FaultLine) (st : Standing) (log : List LogEntry)
+    ensures calm { (s : AnyScript) (t : Table) (us left : List Stored) (first : ℕ) (r : AnyStack) (armed : List FaultLine) (st : Standing) (log : List LogEntry)
         → SuitsStack s → length s.lines ≡ length s.faults + length s.ops → MadeFor t (map info_of (shapes_of us)) s.block → binding_fault s t (map info_of (shapes_of us)) ≡ None
         → AreStored us → shapes_of left ≡ shapes_of us → IsStack r → r.sheet.ops ≡ s.ops
-        → medium_lines r.replies.items ≡ 0 → WalksFalling (setting_of s t (shapes_of us) none_fails) (PAGE * s.pages) (begun_of s (shapes_of us) (blocks_told us)) first r (Some left) armed st log
+        → NoneFailed r.replies.items → WalksTold (setting_of s t (shapes_of us) none_fails) (PAGE * s.pages) (begun_of s (shapes_of us) (blocks_told us)) first r (Some left) armed st log
+        → IsFinished r → HasWalked s t us left r.pool (drop first log) r.replies.items }
+    ensures unnamed { (s : AnyScript) (t : Table) (us left : List Stored) (first : ℕ) (r : AnyStack) (armed : List FaultLine) (st : Standing) (log : List LogEntry)
+        → SuitsStack s → length s.lines ≡ length s.faults + length s.ops → MadeFor t (map info_of (shapes_of us)) s.block → binding_fault s t (map info_of (shapes_of us)) ≡ None
+        → AreStored us → shapes_of left ≡ shapes_of us → IsStack r → r.sheet.ops ≡ s.ops
+        → unscheduled_mediums s.faults r.replies.items ≡ 0 → WalksFalling (setting_of s t (shapes_of us) none_fails) (PAGE * s.pages) (begun_of s (shapes_of us) (blocks_told us)) first r (Some left) armed st log
         → IsFinished r → HasWalked s t us left r.pool (drop first log) r.replies.items }
 {
     // By laws.

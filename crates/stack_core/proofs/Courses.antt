@@ -70,7 +70,7 @@ fallen : (flips : Flips) (m : Setting) (n : ℕ) (ops : List Op) (opening : Stat
     GoesTo (Falling flips) m n ops opening status es bytes blocks
 fallen flips m n ops opening status es bytes blocks c f = record {
   after = f.after;
-  follows = (record { falls = f.falls; after = f.after; told = f.told; follows = f.follows; bytes = refl; blocks_are = refl; stamped = f.stamped; on_record = f.on_record; fallen = f.fallen; sized = f.sized }, (refl, c));
+  follows = (record { falls = f.falls; after = f.after; told = f.told; follows = f.follows; bytes = refl; blocks_are = refl; stamped = f.stamped; on_record = f.on_record; fallen = f.fallen; aside = f.aside; sized = f.sized }, (refl, c));
   bytes_are = f.bytes;
   blocks_are = f.blocks_are;
 }
@@ -119,6 +119,7 @@ same_by (Falling flips) m n ops opening now old new es e h =
         stamped = f.stamped;
         on_record = f.on_record;
         fallen = λ i k. subst (λ s. IfSome (f.falls (record { op = i; k = k })) (λ left. HasFallen s)) (sym (e i k)) (f.fallen i k);
+        aside = f.aside;
         sized = f.sized;
       },
       (h.1.0, still_flipped flips old new (λ i c. ap is_carried (e i 0) ∙ c) h.1.1),
@@ -146,6 +147,7 @@ begins_by (Falling flips) none m n ops opening status w empty =
         stamped = refl;
         on_record = refl;
         fallen = λ i k. tt;
+        aside = λ label. tt;
         sized = λ label. tt;
       },
       (refl, λ i. subst (λ o. IfSome o (λ mask. is_carried (status i 0) ≡ true)) (sym (none i)) tt),

@@ -1,7 +1,7 @@
 -- What failed at the medium so far, from step to step.
 use Rattle.std.proofs.Common.{◌≡◌, ◌⊎◌, inl, inr, ◌<◌, ◌≤◌, ℕ, zero, suc, ◌+◌, ◌^◌, true, false, List, [], ◌∷◌, ◌++◌, length, map, set, replicate, refl, sym, ap, subst, ◌∙◌, ⊎_elim, arith}
-use Rattle.std.specs.Prelude.{if◌then◌else◌}
-use Rattle.std.proofs.lemmas.Bool.{cases_lt, not-true}
+use Rattle.std.specs.Prelude.{if◌then◌else◌, slice_get, Option, Some, None}
+use Rattle.std.proofs.lemmas.Bool.{cases_lt, false≢true, not-true}
 use Rattle.page_pool.specs.Cells.{flat}
 use Rattle.bio_core.specs.declared.bio.Bio.{Bio}
 use Rattle.bio_core.specs.declared.fate.Fate.{Fate}
@@ -14,7 +14,12 @@ use Rattle.dix_adapter.specs.Groups as Carry
 use Rattle.dix_adapter.specs.Groups.{blocks_in, first_of}
 use Rattle.dix_adapter.specs.Outcomes.{done_of, rest_of}
 use Rattle.bio_core.specs.declared.fate.Fate.TheVariants.{Good}
+use Rattle.fault_schedule.specs.Altered.{has_fail}
+use Rattle.fault_schedule.specs.declared.Label.{Label}
+use Rattle.fault_schedule.specs.declared.fault.FaultLine.{FaultLine}
+use Rattle.fault_schedule.proofs.Unfailing.{unfailing}
 use Rattle.rig_api.specs.Log.{IsMedium}
+use Rattle.rig_api.specs.Target.{fails_at, fails_under}
 use Rattle.rig_api.specs.declared.rig.Outcome.{Outcome}
 use Rattle.rig_api.specs.State.{RigState}
 use Rattle.stack_ops.specs.declared.reply.Reply.{Reply}
@@ -120,8 +125,8 @@ other_counts first p m m' held held' replies replies' count count' word cut c h 
 pub no_more_replies : (replies replies' : List Reply) (first count count' : ℕ) → count ≤ count' → medium_replies replies' ≤ medium_replies replies → (n : ℕ) → RoseBy (n + medium_replies replies) first count → RoseBy (n + medium_replies replies') first count'
 no_more_replies replies replies' first count count' c l n h = rose_less _ _ first count count' (omega (arith, l)) c h
 
-pub group_counts : (first : ℕ) (p : Plan) (m m' : Machine) (held : List Fate) (replies : List Reply) (count count' word d i : ℕ) → Chooses p m word (Send d i) → ((v : View) → Holds p m v → 0 < length (enabled p v)) → Spoils p m d i m' count count' → HasCountedBy first p m held replies count → HasCountedBy first p m' held replies count'
-group_counts first p m m' held replies count count' word d i h has s x =
+pub group_counts : (first : ℕ) (p : Plan) (m m' : Machine) (held : List Fate) (replies : List Reply) (armed : List FaultLine) (count count' word d i : ℕ) → has_fail armed ≡ false → Chooses p m word (Send d i) → ((v : View) → Holds p m v → 0 < length (enabled p v)) → Spoils p m d i m' armed count count' → HasCountedBy first p m held replies count → HasCountedBy first p m' held replies count'
+group_counts first p m m' held replies armed count count' word d i none h has s x =
     let v = x.view in
     let some = has v x.holds in
     let able = chosen-can p v word some in
@@ -129,7 +134,7 @@ group_counts first p m m' held replies count count' word d i h has s x =
     let k = s.takes v (chosen p v word) x.holds able mean in
     let c : Command = record { dev = d; bios = group_at v d i; fates = s.fates; completed = false } in
     let e = flight_more v.commands c refl in
-    let r = s.rose (in_flight v.commands + (mediums held + medium_replies replies)) first x.rose in
+    let r = s.rose none (in_flight v.commands + (mediums held + medium_replies replies)) first x.rose in
     record {
       view = step p v (StepSend d i) 0 s.fates;
       holds = s.flies v i 0 k.0 k.1 s.settles;
@@ -137,6 +142,15 @@ group_counts first p m m' held replies count count' word d i h has s x =
     }
 
 -- ---- how a group is carried
+
+-- Where no fault line says that the medium fails a block, the count rose.
+none_under : (faults : List FaultLine) → has_fail faults ≡ false → (label : Option Label) → fails_under faults label ≡ false
+none_under faults none None = refl
+none_under faults none (Some label) = unfailing faults none label
+
+unscheduled : {P : Type 0} (faults : List FaultLine) (labels : List Label) (k : ℕ) → has_fail faults ≡ false → P ⊎ (fails_at faults labels k ≡ true) → P
+unscheduled faults labels k none (inl x) = x
+unscheduled faults labels k none (inr e) = absurd (false≢true (sym (none_under faults none (slice_get labels k)) ∙ e))
 
 rest_rises : (fates front : List Fate) (n count count' : ℕ) (o : Outcome) → fates ≡ front ++ rest_of n o → mediums front ≡ 0 → count ≤ count' → (IsMedium o → Rose count count') → (m first : ℕ) → RoseBy m first count → RoseBy (m + mediums fates) first count'
 rest_rises fates front n count count' o e z c r m first h =
@@ -149,17 +163,17 @@ rest_rises fates front n count count' o e z c r m first h =
 
 module _ (p : Plan) (m : Machine) (d i : ℕ) (m' taken : Machine) (group : List Bio) (fates : List Fate) (takes : Takes p m d i group taken) (flies : Flies p taken d group fates m') (settles : Settles group fates)
     (a : Adapter) (ios : List Io) (pool pool' : List (List ℕ)) (old new : RigState) where
-  spoiled : ((n first : ℕ) → RoseBy n first old.faults → RoseBy (n + mediums fates) first new.faults) → Spoils p m d i m' old.faults new.faults
+  spoiled : (has_fail old.armed ≡ false → (n first : ℕ) → RoseBy n first old.faults → RoseBy (n + mediums fates) first new.faults) → Spoils p m d i m' old.armed old.faults new.faults
   spoiled r = record { taken = taken; group = group; fates = fates; takes = takes; flies = flies; settles = settles; rose = r }
 
   pub spoiled_by : ((first_of group).dir ≡ Write → any_bad (map (sends a ios (flat pool)) (blocks_in group)) ≡ true → Unsent a ios group pool pool' fates × (new.faults ≡ old.faults)) →
       ((first_of group).dir ≡ Write → any_bad (map (sends a ios (flat pool)) (blocks_in group)) ≡ false → WasSent a ios group pool pool' fates old new) →
-      ((first_of group).dir ≡ Read → Fetched a ios group pool pool' fates old new) → Spoils p m d i m' old.faults new.faults
+      ((first_of group).dir ≡ Read → Fetched a ios group pool pool' fates old new) → Spoils p m d i m' old.armed old.faults new.faults
   spoiled_by unsent goes fetched =
-      either-way (Spoils p m d i m' old.faults new.faults) (first_of group).dir (any_bad (map (sends a ios (flat pool)) (blocks_in group)))
+      either-way (Spoils p m d i m' old.armed old.faults new.faults) (first_of group).dir (any_bad (map (sends a ios (flat pool)) (blocks_in group)))
       (λ w b. (let x = unsent w b in
       let z = ap mediums (x.0).fates_are ∙ held_mediums (map (sends a ios (flat pool)) (blocks_in group)) in
       let same = x.1 in
-      spoiled (λ n first h. rose_less _ _ first old.faults new.faults (omega (arith, z)) (omega (arith, same)) h)))
-      (λ w b. (let x = goes w b in spoiled (rest_rises fates (replicate (done_of (Carry.size group) x.outcome) Good) (Carry.size group) old.faults new.faults x.outcome x.fates_are (good_mediums (done_of (Carry.size group) x.outcome)) x.exchanged.count x.exchanged.medium)))
-      (λ r. (let x = fetched r in spoiled (rest_rises fates (fates_in a ios (blocks_in group) (frames_came a ios group x.outcome x.came)) (Carry.size group) old.faults new.faults x.outcome x.fates_are (came_mediums a ios (blocks_in group) (frames_came a ios group x.outcome x.came)) x.exchanged.count x.exchanged.medium)))
+      spoiled (λ none n first h. rose_less _ _ first old.faults new.faults (omega (arith, z)) (omega (arith, same)) h)))
+      (λ w b. (let x = goes w b in spoiled (λ none. rest_rises fates (replicate (done_of (Carry.size group) x.outcome) Good) (Carry.size group) old.faults new.faults x.outcome x.fates_are (good_mediums (done_of (Carry.size group) x.outcome)) x.exchanged.count (λ is_medium. unscheduled old.armed (map Carry.label_of (blocks_in group)) x.outcome.done none (x.exchanged.medium is_medium)))))
+      (λ r. (let x = fetched r in spoiled (λ none. rest_rises fates (fates_in a ios (blocks_in group) (frames_came a ios group x.outcome x.came)) (Carry.size group) old.faults new.faults x.outcome x.fates_are (came_mediums a ios (blocks_in group) (frames_came a ios group x.outcome x.came)) x.exchanged.count (λ is_medium. unscheduled old.armed (map Carry.label_of (blocks_in group)) x.outcome.done none (x.exchanged.medium is_medium)))))

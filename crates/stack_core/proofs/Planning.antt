@@ -8,7 +8,7 @@ use Rattle.fault_schedule.specs.Altered.{is_same, shift_by, shift_of}
 use Rattle.fault_schedule.specs.declared.fault.Crossing.{Crossing}
 use Rattle.fault_schedule.specs.declared.fault.Crossing.TheVariants.{AdapterToTarget, MediumToTarget}
 use Rattle.fault_schedule.specs.declared.fault.FaultKind.{FaultKind}
-use Rattle.fault_schedule.specs.declared.fault.FaultKind.TheVariants.{Flip, Shift, Keep}
+use Rattle.fault_schedule.specs.declared.fault.FaultKind.TheVariants.{Flip, Shift, Keep, Fail}
 use Rattle.fault_schedule.specs.declared.fault.FaultLine.{FaultLine}
 use Rattle.bio_core.specs.declared.request.Io.{Io}
 use Rattle.merge_queue.specs.declared.limits.Limits.{Limits}
@@ -40,6 +40,7 @@ unmoved line at op h = by (eqb line.op op) refl line.kind refl
     by false e kind k = let x = and_right (is_same line.at at) (eqb line.op op) e in rw x refl
     by true e (Flip off bytes) k = ⊎_elim (λ (x : (is_same line.at at && eqb line.op op) ≡ true). rw (x, k) refl) (λ (x : (is_same line.at at && eqb line.op op) ≡ false). rw x refl) (cases_Bool (is_same line.at at && eqb line.op op))
     by true e (Keep bytes) k = ⊎_elim (λ (x : (is_same line.at at && eqb line.op op) ≡ true). rw (x, k) refl) (λ (x : (is_same line.at at && eqb line.op op) ≡ false). rw x refl) (cases_Bool (is_same line.at at && eqb line.op op))
+    by true e Fail k = ⊎_elim (λ (x : (is_same line.at at && eqb line.op op) ≡ true). rw (x, k) refl) (λ (x : (is_same line.at at && eqb line.op op) ≡ false). rw x refl) (cases_Bool (is_same line.at at && eqb line.op op))
     by true e (Shift by') k = let z : true ≡ false = sym (rw (e, k) refl) ∙ h in cc
 
 pub not_shifted : (lines : List FaultLine) (at : Crossing) (op : ℕ) → list_any (shifts op) lines ≡ false → shift_of lines at op ≡ pos 0

@@ -1,11 +1,13 @@
 -- What failed at the medium in a stack, from step to step.
-use Rattle.std.proofs.Common.{◌≡◌, ◌⊎◌, inl, inr, ◌<◌, ◌≤◌, ℕ, ◌+◌, ◌^◌, List, [], ◌∷◌, length, set, refl, sym, subst, arith}
+use Rattle.std.proofs.Common.{◌≡◌, false, ◌⊎◌, inl, inr, ◌<◌, ◌≤◌, ℕ, ◌+◌, ◌^◌, List, [], ◌∷◌, length, set, refl, sym, subst, arith}
 use Rattle.pi_tuple.specs.declared.checks.PiType.{PiType}
 use Rattle.block_path.specs.declared.mode.Mode.{Mode}
 use Rattle.bio_core.specs.declared.bio.Bio.{Bio}
 use Rattle.bio_core.specs.declared.fate.Fate.{Fate}
 use Rattle.bio_core.specs.declared.request.Io.{Io}
 use Rattle.dix_base.specs.Told.{Calm}
+use Rattle.fault_schedule.specs.Altered.{has_fail}
+use Rattle.fault_schedule.specs.declared.fault.FaultLine.{FaultLine}
 use Rattle.dix_adapter.specs.Groups.{blocks_in}
 use Rattle.merge_queue.specs.Groups.{size}
 use Rattle.stack_ops.specs.declared.reply.BadBlock.{BadBlock}
@@ -19,6 +21,7 @@ use Rattle.stack_core.specs.declared.kept.Room.{Room}
 use Rattle.stack_core.specs.declared.kept.Room.TheVariants.{Blocks, Bytes, Nothing, Tuples}
 use Rattle.stack_core.specs.declared.sheet.Sheet.{Sheet}
 use Rattle.stack_core.specs.declared.stack.Stack.{Stack}
+use Rattle.stack_core.specs.Going.{FailsCounted}
 use Rattle.stack_core.specs.Mediums.{Counts, HasCounted, HasCountedBy, RoseBy, Spoils, medium_replies, mediums, one_reply}
 use Rattle.stack_core.specs.Replies.{bad_from, reply_of, whole_or}
 use Rattle.stack_walk_laws.specs.Settled.{AllSettled, KeptFates}
@@ -88,9 +91,16 @@ few_counts replies replies' count l n first x = no_more_replies replies replies'
 pub same_counts : (replies replies' : List Reply) (count : ℕ) → replies' ≡ replies → (n first : ℕ) → RoseBy (n + medium_replies replies) first count → RoseBy (n + medium_replies replies') first count
 same_counts replies replies' count e n first x = subst (λ (rs : List Reply). RoseBy (n + medium_replies rs) first count) (sym e) x
 
-pub sent_counts : (s s' : Stack) (word d i count count' : ℕ) → StackStays s s' → Chooses (plan_in s.sheet) s.machine word (Send d i) → HasStep (plan_in s.sheet) s.machine → Spoils (plan_in s.sheet) s.machine d i s'.machine count count' → s'.kept ≡ s.kept → s'.replies.items ≡ s.replies.items → (first : ℕ) → HasCounted first s count → HasCounted first s' count'
-sent_counts s s' word d i count count' stays h has spoils kept replies first x =
+pub sent_counts : (s s' : Stack) (armed : List FaultLine) (word d i count count' : ℕ) → has_fail armed ≡ false → StackStays s s' → Chooses (plan_in s.sheet) s.machine word (Send d i) → HasStep (plan_in s.sheet) s.machine → Spoils (plan_in s.sheet) s.machine d i s'.machine armed count count' → s'.kept ≡ s.kept → s'.replies.items ≡ s.replies.items → (first : ℕ) → HasCounted first s count → HasCounted first s' count'
+sent_counts s s' armed word d i count count' none stays h has spoils kept replies first x =
     subst (λ (sh : Sheet). HasCountedBy first (plan_in sh) s'.machine s'.kept.held.items s'.replies.items count') (sym stays.sheet)
     (subst (λ (f : Fates). HasCountedBy first (plan_in s.sheet) s'.machine f.held.items s'.replies.items count') (sym kept)
     (subst (λ (rs : List Reply). HasCountedBy first (plan_in s.sheet) s'.machine s.kept.held.items rs count') (sym replies)
-    (group_counts first (plan_in s.sheet) s.machine s'.machine s.kept.held.items s.replies.items count count' word d i h has spoils x)))
+    (group_counts first (plan_in s.sheet) s.machine s'.machine s.kept.held.items s.replies.items armed count count' word d i none h has spoils x)))
+
+-- where the count stays, no reply says that an overwrite failed
+pub still_silent : (replies replies' : List Reply) (count count' : ℕ) → FailsCounted replies replies' count count' → Calm count count' → medium_replies replies ≡ 0 → medium_replies replies' ≡ 0
+still_silent replies replies' count count' fails calm z = by (fails 0 count (inl (omega (arith, z)))) where
+  by : RoseBy (0 + medium_replies replies') count count' → medium_replies replies' ≡ 0
+  by (inl h) = let a = calm.0 in omega arith
+  by (inr h) = let a = calm.1 in absurd (omega arith)

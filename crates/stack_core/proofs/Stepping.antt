@@ -1,5 +1,5 @@
 -- What a step keeps: its steps can still be done over the rig, and the stack goes on.
-use Rattle.std.proofs.Common.{◌≡◌, ℕ, false, refl, arith}
+use Rattle.std.proofs.Common.{◌≡◌, ◌≤◌, ℕ, false, refl, arith}
 use Rattle.std.specs.List.{list_any}
 use Rattle.std.specs.Prelude.{is_some}
 use Rattle.rig_api.specs.State.{RigState, Stays as RigStays}
@@ -10,13 +10,14 @@ use Rattle.stack_ops.specs.Ops.{is_overwrite}
 use Rattle.stack_steps.specs.declared.choice.Choice.{Choice}
 use Rattle.stack_steps.specs.Does.{Chooses, Does}
 use Rattle.stack_core.specs.declared.stack.Stack.{Stack}
-use Rattle.stack_core.specs.Going.{StandsOver, Went}
-use Rattle.stack_core.specs.Mediums.{HasCounted}
+use Rattle.stack_core.specs.Going.{FailsCounted, StandsOver, Went}
+use Rattle.stack_core.specs.Mediums.{HasCounted, medium_replies}
 use Rattle.stack_core.specs.Stacks.{HasStep, IsStack, Reaches, StackStays, plan_in}
 use Rattle.stack_core.specs.Walking.{Enters, WalksOn}
 use Rattle.stack_core.proofs.Going.{spare-left}
+use Rattle.stack_core.proofs.StackCounts.{still_silent}
 use Rattle.stack_core.proofs.Steps.{SendsNot}
-use Rattle.stack_core.proofs.ToldOps.{falling_entered, falling_on, walks_entered, walks_on}
+use Rattle.stack_core.proofs.ToldOps.{falling_entered, falling_on, told_entered, told_on, walks_entered, walks_on}
 
 -- the rig has what the ops name, as long as it stands
 pub reaches-on : (s s' : Stack) (o o' : RigState) → s'.sheet ≡ s.sheet → o'.standing ≡ o.standing → is_some o'.image ≡ is_some o.image → Reaches s (is_some o.image) o.standing → Reaches s' (is_some o'.image) o'.standing
@@ -32,24 +33,28 @@ stands-left s s' word cut c o o' n h a ch d is e st room t = record {
 }
 
 -- one that leaves the rig alone
-pub went-still : (s s' : Stack) (o : RigState) → IsStack s → StackStays s s' → WalksOn s s' → ((first : ℕ) → HasCounted first s o.faults → HasCounted first s' o.faults) → Went s o s' o
-went-still s s' o k stays on counts = record {
+pub went-still : (s s' : Stack) (o : RigState) → IsStack s → StackStays s s' → WalksOn s s' → medium_replies s'.replies.items ≤ medium_replies s.replies.items → ((first : ℕ) → HasCounted first s o.faults → HasCounted first s' o.faults) → Went s o s' o
+went-still s s' o k stays on few counts = record {
   walks = λ m n opening first w. walks_on m n opening first s s' o.standing o.log k stays on w;
   falling = λ m n opening first w. falling_on m n opening first s s' o.units o.armed o.standing o.log k stays on w;
+  told = λ m n opening first calm w. told_on m n opening first s s' o.units o.armed o.standing o.log k stays on w;
+  silent = λ calm z. omega (arith, few, z);
   faults = omega arith;
-  counts = counts;
+  counts = λ none. counts;
   sheet = stays.sheet;
   answered = λ m n opening first w none. puts_nothing o o refl refl refl refl;
 }
 
 -- one that admits an op
 pub went-entered : (s s' : Stack) (o o' : RigState) → IsStack s → StackStays s s' → Enters o o' s s' → RigStays o o' → o'.log ≡ o.log → o.units ≡ units_told o.standing o.image → IsStanding o.standing o.image →
-    ((first : ℕ) → HasCounted first s o.faults → HasCounted first s' o'.faults) → (list_any is_overwrite s.sheet.ops ≡ false → PutsAnswers o o') → Went s o s' o'
-went-entered s s' o o' k stays enters rig log laid ready counts answered = record {
+    FailsCounted s.replies.items s'.replies.items o.faults o'.faults → ((first : ℕ) → HasCounted first s o.faults → HasCounted first s' o'.faults) → (list_any is_overwrite s.sheet.ops ≡ false → PutsAnswers o o') → Went s o s' o'
+went-entered s s' o o' k stays enters rig log laid ready fails counts answered = record {
   walks = λ m n opening first w. rw (rig.standing, log) (walks_entered m n opening first s s' o o' k stays enters w);
   falling = λ m n opening first w. rw (rig.standing, log) (falling_entered m n opening first s s' o o' k stays enters laid ready rig.armed w);
+  told = λ m n opening first calm w. rw (rig.standing, log) (told_entered m n opening first s s' o o' k stays enters laid ready rig.armed calm w);
+  silent = still_silent s.replies.items s'.replies.items o.faults o'.faults fails;
   faults = rig.count;
-  counts = counts;
+  counts = λ none. counts;
   sheet = stays.sheet;
   answered = λ m n opening first w none. answered none;
 }

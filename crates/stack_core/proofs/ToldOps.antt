@@ -2,6 +2,7 @@
 use Rattle.std.proofs.Common.{◌≡◌, ◌⊎◌, inl, inr, ◌<◌, ◌≤◌, ℕ, ◌+◌, ◌-◌, true, leb, ltb, List, [], ◌∷◌, length, drop, get_or, set, Option, Some, None, refl, sym, ap, subst, ◌∙◌, arith}
 use Rattle.std.specs.Prelude.{is_some}
 use Rattle.std.proofs.lemmas.Bool.{and_parts}
+use Rattle.dix_base.specs.Told.{Calm}
 use Rattle.fault_schedule.specs.Altered.{byte_at, xored_from}
 use Rattle.fault_schedule.specs.declared.fault.FaultLine.{FaultLine}
 use Rattle.rig_api.specs.Target.{Stored}
@@ -28,7 +29,7 @@ use Rattle.stack_core.specs.Courses.{Course, Falling, Straight}
 use Rattle.stack_core.specs.declared.stack.Stack.{Stack}
 use Rattle.stack_core.specs.Doing.{CanReach}
 use Rattle.stack_core.specs.Stacks.{IsStack, StackStays}
-use Rattle.stack_core.specs.Walking.{Enters, Fails, IsKnown, KnownBy, Walks, WalksAtTarget, WalksBy, WalksFalling, WalksOn, op_left, units_left}
+use Rattle.stack_core.specs.Walking.{Enters, Fails, IsKnown, KnownBy, Walks, WalksAtTarget, WalksBy, WalksFalling, WalksOn, WalksTold, op_left, units_left}
 use Rattle.stack_core.proofs.WalkedRecord.{over_record, records_stay}
 use Rattle.stack_core.proofs.WalkedTold.{told_stay}
 
@@ -117,6 +118,9 @@ at_target_on course m n opening first s s' units armed st log k stays on w =
 pub falling_on : (m : Setting) (n : ℕ) (opening : State) (first : ℕ) (s s' : Stack) (units : Option (List Stored)) (armed : List FaultLine) (st : Standing) (log : List LogEntry) → IsStack s → StackStays s s' → WalksOn s s' → WalksFalling m n opening first s units armed st log → WalksFalling m n opening first s' units armed st log
 falling_on m n opening first s s' units armed st log k stays on w = (w.0, at_target_on (Falling w.0) m n opening first s s' units armed st log k stays on w.1)
 
+pub told_on : (m : Setting) (n : ℕ) (opening : State) (first : ℕ) (s s' : Stack) (units : Option (List Stored)) (armed : List FaultLine) (st : Standing) (log : List LogEntry) → IsStack s → StackStays s s' → WalksOn s s' → WalksTold m n opening first s units armed st log → WalksTold m n opening first s' units armed st log
+told_on m n opening first s s' units armed st log k stays on w = at_target_on Straight m n opening first s s' units armed st log k stays on w
+
 -- ---- an op is admitted
 
 pub walks_entered : (m : Setting) (n : ℕ) (opening : State) (first : ℕ) (s s' : Stack) (o o' : RigState) → IsStack s → StackStays s s' → Enters o o' s s' →
@@ -167,3 +171,11 @@ falling_entered m n opening first s s' o o' k stays enters laid ready still w = 
           walks = subst (λ x. WalksBy (Falling on.0) m n opening (recorded m (drop first o.log)) x s') blocks on.1;
         },
       )
+
+-- where the count of faults didn't rise, its store call didn't fail
+pub told_entered : (m : Setting) (n : ℕ) (opening : State) (first : ℕ) (s s' : Stack) (o o' : RigState) → IsStack s → StackStays s s' →
+    (enters : Enters o o' s s') → o.units ≡ units_told o.standing o.image → IsStanding o.standing o.image → o'.armed ≡ o.armed → Calm o.faults o'.faults → WalksTold m n opening first s o.units o.armed o.standing o.log → WalksTold m n opening first s' o'.units o'.armed o.standing o.log
+told_entered m n opening first s s' o o' k stays enters laid ready still calm w = by enters.known where
+  by : IsKnown enters.op enters.reply ⊎ Fails o o' enters.op s s' → WalksTold m n opening first s' o'.units o'.armed o.standing o.log
+  by (inl known) = at_target_entered Straight m n opening first s s' o o' k stays enters laid ready still known tt w
+  by (inr f) = absurd (f.rose calm)

@@ -26,7 +26,7 @@ use Rattle.stack_core.specs.Rooms.{Suits}
 use Rattle.stack_walk_laws.specs.Sheets.{op_in, request_in}
 use Rattle.stack_core.specs.Stacks.{IsStack, plan_in, room_at}
 use Rattle.stack_core.proofs.Courses.{FlipsNone, begins_by}
-use Rattle.stack_core.specs.Walking.{IsOver, Opens, SizesFit, Walks, WalksAtTarget, WalksBy, WalksFalling, WalksOver, data_of, shown_in, status_of, why_in}
+use Rattle.stack_core.specs.Walking.{IsOver, Opens, SizesFit, Walks, WalksAtTarget, WalksBy, WalksFalling, WalksOver, WalksTold, data_of, shown_in, status_of, why_in}
 
 start_waits : (rs : List PlannedOp) (i : ℕ) → i < length rs → is_waiting (get_or (map waiting rs) i no_op).phase ≡ true
 start_waits [] i l = absurd (omega arith)
@@ -105,3 +105,8 @@ pub falling_begins : (m : Setting) (n : ℕ) (opening : State) (s : Stack) (us :
     Opens opening s → IsOver m n opening s.sheet s.adapter s.host → SizesFit m st → m.site ≡ site_of s.adapter (specs_of st) → AreAtUnits m (specs_of st) s.sheet.ops → armed ≡ s.adapter.tamper → opening.blocks ≡ blocks_told us →
     WalksFalling m n opening (length log) s (Some us) armed st log
 falling_begins m n opening s us armed st log k h whole suits o over sizes site behind armed_are blocks = (no_flips, at_target_begins (Falling no_flips) (λ i. refl) m n opening s us armed st log k h whole suits o over sizes site behind armed_are blocks)
+
+pub told_begins : (m : Setting) (n : ℕ) (opening : State) (s : Stack) (us : List Stored) (armed : List FaultLine) (st : Standing) (log : List LogEntry) → IsStack s → Holds (plan_in s.sheet) s.machine (start (plan_in s.sheet)) → AreWhole s.pool → ((i : ℕ) → i < length s.sheet.ops → Suits (op_in s.sheet.ops i) (room_at s.rooms.items i)) →
+    Opens opening s → IsOver m n opening s.sheet s.adapter s.host → SizesFit m st → m.site ≡ site_of s.adapter (specs_of st) → AreAtUnits m (specs_of st) s.sheet.ops → armed ≡ s.adapter.tamper → opening.blocks ≡ blocks_told us →
+    WalksTold m n opening (length log) s (Some us) armed st log
+told_begins m n opening s us armed st log k h whole suits o over sizes site behind armed_are blocks = at_target_begins Straight tt m n opening s us armed st log k h whole suits o over sizes site behind armed_are blocks

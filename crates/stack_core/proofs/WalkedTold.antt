@@ -15,13 +15,13 @@ use Rattle.bio_core.specs.declared.fate.Fate.{Fate}
 use Rattle.bio_core.specs.declared.request.Dir.{Dir}
 use Rattle.bio_core.specs.declared.request.Dir.TheVariants.{Read, Write as WriteDir}
 use Rattle.bio_core.specs.declared.request.Io.{Io}
-use Rattle.fault_schedule.specs.Altered.{shift_of}
+use Rattle.fault_schedule.specs.Altered.{fails_of, shift_of}
 use Rattle.fault_schedule.specs.declared.fault.Crossing.TheVariants.{AdapterToTarget, MediumToTarget}
 use Rattle.fault_schedule.specs.declared.fault.FaultLine.{FaultLine}
 use Rattle.pi_tuple.specs.declared.checks.Check.{Check}
 use Rattle.rig_api.specs.Frames.{stored_size}
 use Rattle.rig_api.specs.Passing.{from_medium}
-use Rattle.rig_api.specs.Target.{Stop, Stored, has_blocks}
+use Rattle.rig_api.specs.Target.{Flaw, Stop, Stored, has_blocks, sent_unless}
 use Rattle.dix_adapter.specs.Carried.{Unsent, any_bad, frame_len, sends}
 use Rattle.dix_adapter.specs.Groups as Carry
 use Rattle.dix_adapter.specs.Groups.{blocks_in, first_of, route_of}
@@ -29,6 +29,7 @@ use Rattle.dix_adapter.specs.Ways.{CameIn, IsBehind, IsRecord, RecordedIn, Recor
 use Rattle.dix_adapter.proofs.Asking.{is-pos}
 use Rattle.dix_adapter.proofs.Blocks.{length-in}
 use Rattle.dix_adapter.proofs.CameIn.{fetched-block}
+use Rattle.dix_adapter.proofs.Flaws.{by_flaw, sends-by}
 use Rattle.dix_adapter.proofs.GoingIn.{long-at, sent-long-in}
 use Rattle.dix_adapter.proofs.Landing.{group-width}
 use Rattle.dix_adapter.proofs.Runs.{Next, Run, group-run, width_for}
@@ -52,7 +53,7 @@ use Rattle.stack_steps.specs.Does.{Flies, Takes}
 use Rattle.block_path.specs.Acts.{State}
 use Rattle.block_path.specs.Blocks.{Sent, Site, fetched_cell}
 use Rattle.block_path.specs.declared.route.Route.{Route}
-use Rattle.block_path.specs.Routes.{by_target, passage}
+use Rattle.block_path.specs.Routes.{by_target, passage, sends_unless}
 use Rattle.stack_walk_laws.specs.Passed.{is_shifted, fates_of, recorded, Setting, block_of, route}
 use Rattle.stack_walk_laws.specs.Sending.{AllGoing, AllSized, NoneBefore, with_fates}
 use Rattle.stack_walk_laws.specs.Slots.{Status}
@@ -89,9 +90,12 @@ up_to Straight faults faults' frame P calm h = (None, (refl, h.0 calm))
 up_to (Falling flips) faults faults' frame P calm h = (h.1.0, (stop_left h.1.0 frame faults faults' h.1.1, h.1.2))
 
 -- the same of what the target says
-by_target_ok : (x : Result (List ℕ) Check) (P : List ℕ → Type 0) → IfOk x P → IfOk (by_target x) P
-by_target_ok (Ok frame) P h = h
-by_target_ok (Err check) P h = tt
+by_flaw_ok : (x : Result (List ℕ) Flaw) (P : List ℕ → Type 0) → IfOk x P → IfOk (by_flaw x) P
+by_flaw_ok (Ok frame) P h = h
+by_flaw_ok (Err flaw) P h = tt
+
+sends_ok : (broken : Bool) (came : Result (List ℕ) Check) (P : List ℕ → Type 0) → IfOk (sent_unless broken came) P → IfOk (sends_unless broken (by_target came)) P
+sends_ok broken came P h = subst (λ x. IfOk x P) (sym (sends-by broken came)) (by_flaw_ok (sent_unless broken came) P h)
 
 module _ {course : Course} (m : Setting) (n : ℕ) (opening : State) (first : ℕ) (s : Stack) (units : Option (List Stored)) (armed : List FaultLine) (st : Standing) (log : List LogEntry) (k : IsStack s) (w : WalksAtTarget course m n opening first s units armed st log) where
   abbrev records : List Sent
@@ -365,7 +369,7 @@ module _ {course : Course} (m : Setting) (n : ℕ) (opening : State) (first : �
           let ty : (unit_at w.us dev).ty ≡ a.ty = is_behind.ty in
           let bytes : (unit_at w.us dev).size ≡ m.size = ap (λ z. z.size) u.shape ∙ first_at.size in
           let sized : length stored ≡ stored_size a.ty m.size = ap length block ∙ (long-at (stored_size (unit_at w.us dev).ty (unit_at w.us dev).size) (unit_at w.us dev).blocks (from + q - (unit_at w.us dev).first) u.long (omega (arith, f, h)) ∙ (ap (λ z. stored_size z (unit_at w.us dev).size) ty ∙ ap (stored_size a.ty) bytes)) in (
-            by_target_ok (from_medium a.tamper (passage a.tamper (route_of a ios b)) stored) (λ frame. length frame ≡ width_for a m.size) (sent-long-in a ios b stored m.size k.fixed.protect r.0.long sized),
+            sends_ok (fails_of a.tamper (route_of a ios b).label) (from_medium a.tamper (passage a.tamper (route_of a ios b)) stored) (λ frame. length frame ≡ width_for a m.size) (sent-long-in a ios b stored m.size k.fixed.protect r.0.long sized),
             sized_from cs at from (suc q) x y f (omega (arith, h)) (subst (λ z. Run a ios dev m.size wire medium z cs) e r.1),
           )
 

@@ -1,7 +1,9 @@
 -- What failed at the medium so far: blocks of commands in flight, blocks that are kept, and overwrites.
-use Rattle.std.specs.Prelude.{◌≡◌, ◌≤◌, ◌⊎◌, ℕ, ◌+◌, ◌^◌, true, if◌then◌else◌, List, [], ◌∷◌}
+use Rattle.std.specs.Prelude.{◌≡◌, ◌≤◌, ◌⊎◌, ℕ, suc, ◌+◌, ◌^◌, true, false, not, ◌&&◌, if◌then◌else◌, List, [], ◌∷◌}
 use Rattle.bio_core.specs.declared.fate.Fate.{Fate}
 use Rattle.bio_core.specs.declared.fate.Fate.TheVariants.{Good, Bad, Untouched}
+use Rattle.fault_schedule.specs.Altered.{fails_of, has_fail}
+use Rattle.fault_schedule.specs.declared.fault.FaultLine.{FaultLine}
 use Rattle.merge_queue.specs.Index.{total}
 use Rattle.stack_ops.specs.declared.reply.BadBlock.{BadBlock}
 use Rattle.stack_ops.specs.declared.reply.Reply.{Reply}
@@ -67,15 +69,15 @@ HasCounted first s count = HasCountedBy first (plan_in s.sheet) s.machine s.kept
 abbrev pub Counts : Plan → Machine → Choice → (held held' : List Fate) → Type 0
 Counts p m c held held' = (v : View) (t : Step) (cut : ℕ) → Holds p m v → can p v t ≡ true → Means p v c t → in_flight (step p v t cut []).commands + mediums held' ≤ in_flight v.commands + mediums held
 
--- A group was taken and sent; for each of its blocks that failed at the medium the count rose.
-pub record Spoils (p : Plan) (m : Machine) (d i : ℕ) (m' : Machine) (count count' : ℕ) : Type 0 where
+-- A group was taken and sent; for each of its blocks that failed at the medium the count rose, where no fault line says that the medium fails a block.
+pub record Spoils (p : Plan) (m : Machine) (d i : ℕ) (m' : Machine) (armed : List FaultLine) (count count' : ℕ) : Type 0 where
   pub taken : Machine
   pub group : List Bio
   pub fates : List Fate
   pub takes : Takes p m d i group taken
   pub flies : Flies p taken d group fates m'
   pub settles : Settles group fates
-  pub rose : (n first : ℕ) → RoseBy n first count → RoseBy (n + mediums fates) first count'
+  pub rose : has_fail armed ≡ false → (n first : ℕ) → RoseBy n first count → RoseBy (n + mediums fates) first count'
 
 -- ---- replies
 
@@ -87,3 +89,18 @@ listed_mediums (b ∷ blocks) = (if is_medium_why b.why then 1 else 0) + listed_
 abbrev pub medium_lines : List Reply → ℕ
 medium_lines [] = 0
 medium_lines (r ∷ rs) = listed_mediums (bad_blocks r) + one_reply r + medium_lines rs
+
+-- ---- beside the fault lines
+
+-- those of the blocks that the reply of this op lists with the medium of which no fault line says that it fails them
+abbrev pub listed_unscheduled : List FaultLine → (op : ℕ) → List BadBlock → ℕ
+listed_unscheduled faults op [] = 0
+listed_unscheduled faults op (b ∷ blocks) = (if is_medium_why b.why && not (fails_of faults (record { op = op; k = b.k })) then 1 else 0) + listed_unscheduled faults op blocks
+
+abbrev pub unscheduled_from : List FaultLine → (op : ℕ) → List Reply → ℕ
+unscheduled_from faults op [] = 0
+unscheduled_from faults op (r ∷ rs) = listed_unscheduled faults op (bad_blocks r) + one_reply r + unscheduled_from faults (suc op) rs
+
+-- the lines that name the medium and are no block that a fault line says it fails; ops are numbered from 1
+abbrev pub unscheduled_mediums : List FaultLine → List Reply → ℕ
+unscheduled_mediums faults replies = unscheduled_from faults 1 replies

@@ -21,7 +21,7 @@ use Rattle.stack_core.specs.declared.sheet.Sheet.{Sheet}
 use Rattle.stack_core.specs.declared.stack.Stack.{Stack}
 use Rattle.stack_core.specs.OnRecord.{HasQueues}
 use Rattle.stack_core.specs.Stacks.{plan_in}
-use Rattle.stack_core.specs.Walking.{WalksAtFirst, WalksFallingAtFirst}
+use Rattle.stack_core.specs.Walking.{WalksAtFirst, WalksFallingAtFirst, WalksToldAtFirst}
 
 -- The stack is that of these ops, with their requests, as it was set up. No step changes that.
 pub record IsSetUp (setup : Setup) (given : List Op) (s : Stack) : Type 0 where
@@ -58,3 +58,4 @@ pub record IsNewStack (setup : Setup) (given : List Op) (s : Stack) : Type 0 whe
 pub record FollowsAtFirst (s : Stack) : Type 0 where
   pub walks : WalksAtFirst s
   pub falling : WalksFallingAtFirst s
+  pub told : WalksToldAtFirst s

@@ -1,5 +1,6 @@
 -- That a stack between two steps follows the walk of its script.
 use Rattle.std.specs.Prelude.{◌≡◌, ◌⊎◌, ℕ, zero, suc, ◌+◌, ◌*◌, ◌<◌, ◌≤◌, Bool, false, true, List, [], length, drop, get_or, is_some, set, take, Option, Some}
+use Rattle.dix_base.specs.Told.{Calm}
 use Rattle.page_pool.specs.Cells.{flat}
 use Rattle.page_pool.specs.Pages.{AreWhole}
 use Rattle.bio_core.specs.declared.fate.Fate.{Fate}
@@ -223,6 +224,12 @@ WalksFallingAtFirst s = (m : Setting) (n : ℕ) (opening : State) (us : List Sto
     → Opens opening s → IsOver m n opening s.sheet s.adapter s.host → SizesFit m st → m.site ≡ site_of s.adapter (specs_of st) → AreAtUnits m (specs_of st) s.sheet.ops
     → armed ≡ s.adapter.tamper → opening.blocks ≡ blocks_told us → WalksFalling m n opening (length log) s (Some us) armed st log
 
+-- And it does so while none failed.
+abbrev pub WalksToldAtFirst : Stack → Type 0
+WalksToldAtFirst s = (m : Setting) (n : ℕ) (opening : State) (us : List Stored) (armed : List FaultLine) (st : Standing) (log : List LogEntry)
+    → Opens opening s → IsOver m n opening s.sheet s.adapter s.host → SizesFit m st → m.site ≡ site_of s.adapter (specs_of st) → AreAtUnits m (specs_of st) s.sheet.ops
+    → armed ≡ s.adapter.tamper → opening.blocks ≡ blocks_told us → WalksTold m n opening (length log) s (Some us) armed st log
+
 -- ---- from one step to the next
 
 -- some word chooses this step
@@ -290,12 +297,13 @@ abbrev pub KnownBy : Course → Op → Reply → Type 0
 KnownBy Straight op reply = Unit {0}
 KnownBy (Falling flips) op reply = IsKnown op reply
 
--- An overwrite is admitted whose store call fails. Whatever it leaves in its block, of its size, the stack follows the walk with that; and a rig that tells its blocks tells what it left there.
+-- An overwrite is admitted whose store call fails, and the count of faults rises. Whatever it leaves in its block, of its size, the stack follows the walk with that; and a rig that tells its blocks tells what it left there.
 pub record Fails (before after : RigState) (op : Op) (old new : Stack) : Type 0 where
   pub dev : ℕ
   pub lba : ℕ
   pub change : Change
   pub is : op ≡ Overwrite dev lba change
+  pub rose : Calm before.faults after.faults → ⊥
   pub walks : (flips : Flips) (over : Setting) (n : ℕ) (opening : State) (es : List Sent) (left : List (List ℕ)) → IsOver over n opening old.sheet old.adapter old.host → WalksBy (Falling flips) over n opening es left old
       → (block : List ℕ) → length block ≡ length (get_or left (over.site.cell dev lba) []) → (flips' : Flips) × WalksBy (Falling flips') over n opening es (set left (over.site.cell dev lba) block) new
   pub tells : (us : List Stored) → before.units ≡ Some us → (block : List ℕ) × ((length block ≡ frame_size (unit_at us dev)) × (after.units ≡ Some (with_block us dev lba block)))

@@ -11,7 +11,7 @@ ghost use Rattle.stack_walk_laws.specs.Passed.{IsBoundRun, Backed, recorded, tol
 ghost use Rattle.stack_walk_laws.specs.Takes.{AllTakeAny};
 ghost use Rattle.dix_adapter.specs.Ways.{blocks_told};
 ghost use Rattle.stack_core.specs.declared.stack.Stack.{Stack as AnyStack};
-ghost use Rattle.stack_core.specs.Mediums.{HasCounted, RoseBy, medium_lines};
+ghost use Rattle.stack_core.specs.Mediums.{HasCounted, RoseBy, medium_lines, unscheduled_mediums};
 ghost use Rattle.stack_core.specs.OnRecord.{AreRecords, HasSent, ListsNone};
 ghost use Rattle.stack_core.specs.Stacks.{IsFinished, IsStack, plan_in};
 ghost use Rattle.stack_core.specs.Walking.{EndsFallen, EndsTold, HasFails, Walks, WalksFalling, WalksTold};
@@ -105,9 +105,9 @@ pub fn a_finished_stack_names_the_medium_seldom()
         → IsFinished s → HasCounted first s count → RoseBy (medium_lines s.replies.items) first count }
 {}
 
-/// Where no line of its replies names the medium no store call failed: over a rig that tells its blocks it followed the
+/// Where no line of its replies names the medium but for blocks that a fault line says it fails, no store call failed: over a rig that tells its blocks it followed the
 /// walk at the target, whatever the count of faults did.
 pub fn a_finished_stack_that_names_no_medium_has_followed_the_walk()
     ensures { (m : Setting) (n : ℕ) (opening : State) (first : ℕ) (s : AnyStack) (us : List Stored) (armed : List FaultLine) (st : Standing) (log : List LogEntry)
-        → IsStack s → WalksFalling m n opening first s (Some us) armed st log → IsFinished s → medium_lines s.replies.items ≡ 0 → WalksTold m n opening first s (Some us) armed st log }
+        → IsStack s → WalksFalling m n opening first s (Some us) armed st log → IsFinished s → unscheduled_mediums m.site.faults s.replies.items ≡ 0 → WalksTold m n opening first s (Some us) armed st log }
 {}

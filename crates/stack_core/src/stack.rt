@@ -241,7 +241,7 @@ impl Stack {
         ensures rig { RigStays (R.state rig.old) (R.state rig.new) }
         ensures goes { GoesOn (R.state rig.old) (R.state rig.new) }
         ensures carries { Carries self.old.adapter (plan_in self.old.sheet) self.old.machine d i self.new.machine (R.state rig.old).log (R.state rig.new).log }
-        ensures spoils { Spoils (plan_in self.old.sheet) self.old.machine d i self.new.machine (R.state rig.old).faults (R.state rig.new).faults }
+        ensures spoils { Spoils (plan_in self.old.sheet) self.old.machine d i self.new.machine (R.state rig.old).armed (R.state rig.old).faults (R.state rig.new).faults }
     {
         self.machine.take(d, i, &mut self.group);
         self.adapter.carry(

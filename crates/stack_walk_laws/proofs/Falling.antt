@@ -2,7 +2,9 @@
 use Rattle.std.proofs.Common.{◌≡◌, ◌⊎◌, inl, inr, ℕ, zero, suc, Bool, true, false, ◌&&◌, eqb, if◌then◌else◌, List, [], ◌∷◌, ◌++◌, length, Option, Some, None, refl, sym, ap, ◌∙◌}
 use Rattle.std.specs.Prelude.{Result, IfSome, ltb}
 use Rattle.std.proofs.lemmas.Bool.{eq-eqb, eqb-true, false≢true}
+use Rattle.fault_schedule.specs.Altered.{fails_of}
 use Rattle.fault_schedule.specs.declared.Label.{Label}
+use Rattle.fault_schedule.specs.declared.fault.FaultLine.{FaultLine}
 use Rattle.bio_core.specs.Bios.{Block}
 use Rattle.bio_core.specs.declared.fate.Why.{Why}
 use Rattle.run_laws.specs.Passed.{Op}
@@ -15,7 +17,7 @@ use Rattle.stack_walk_laws.specs.Slots.{Cut, Status}
 use Rattle.block_path.specs.Passed.{Stop}
 use Rattle.block_path.specs.Routes.{Device}
 use Rattle.stack_walk_laws.specs.Falls.{Falls, forgive, forgiven, left_of, none_falls, put_really, really, writes_of}
-use Rattle.stack_walk_laws.specs.FollowsFalling.{LeavesSized}
+use Rattle.stack_walk_laws.specs.FollowsFalling.{FallsAside, LeavesSized}
 use Rattle.stack_walk_laws.proofs.Recording.{same_numbers}
 use Rattle.stack_walk_laws.proofs.Forgiving.{AreFresh}
 
@@ -248,3 +250,27 @@ stand_alike s falls stop limit bs (x ∷ told) es n =
 -- So the record in truth stays what it was, where more calls fail.
 pub record_still : (s : Site) (falls : Falls) (stop : Option Stop) (limit : ℕ) (bs : List Block) (told : List Sent) → NoneStand (put_really s falls told []) bs → put_really s falls told [] ≡ put_really s (falls_by stop limit bs falls) told []
 record_still s falls stop limit bs told n = put_alike s falls (falls_by stop limit bs falls) told [] (stand_alike s falls stop limit bs told [] n)
+
+-- none falls of which a fault line says that the medium fails it
+
+-- that block of a group is one
+abbrev pub fails_in : List FaultLine → List Block → ℕ → Bool
+fails_in faults [] at = false
+fails_in faults (b ∷ bs) zero = fails_of faults (label_of b)
+fails_in faults (b ∷ bs) (suc at) = fails_in faults bs at
+
+aside_at : (faults : List FaultLine) (bs : List Block) (at : ℕ) (left : List ℕ) (falls : Falls) → fails_in faults bs at ≡ false → FallsAside faults falls → FallsAside faults (fall_at bs at left falls)
+aside_at faults [] at left falls f h label = h label
+aside_at faults (b ∷ bs) zero left falls f h label = by (eqb label.op b.op) (eqb label.k b.k) refl refl where
+  by : (x y : Bool) → eqb label.op b.op ≡ x → eqb label.k b.k ≡ y → IfSome (or_left (x && y) left (falls label)) (λ left. fails_of faults label ≡ false)
+  by true true p q = ap (λ i. fails_of faults (label_at i label.k)) (eqb-true label.op b.op p) ∙ ap (λ k. fails_of faults (label_at b.op k)) (eqb-true label.k b.k q) ∙ f
+  by true false p q = h label
+  by false y p q = h label
+aside_at faults (b ∷ bs) (suc at) left falls f h label = aside_at faults bs at left falls f h label
+
+pub aside_by : (faults : List FaultLine) (stop : Option Stop) (limit : ℕ) (bs : List Block) (falls : Falls) → IfSome stop (λ s. ltb s.at limit ≡ true → fails_in faults bs s.at ≡ false) → FallsAside faults falls → FallsAside faults (falls_by stop limit bs falls)
+aside_by faults None limit bs falls f h = h
+aside_by faults (Some s) limit bs falls f h = by (ltb s.at limit) refl where
+  by : (c : Bool) → ltb s.at limit ≡ c → FallsAside faults (fall_if c bs s.at s.left falls)
+  by true e = aside_at faults bs s.at s.left falls (f e) h
+  by false e = h

@@ -38,7 +38,7 @@ use Rattle.stack_walk_laws.proofs.Together.{all_admitted, all_are_cut}
 use Rattle.stack_walk_laws.proofs.FollowRows.{becomes}
 use Rattle.stack_walk_laws.specs.AtTheEnd.{EndsAsFalling}
 use Rattle.stack_walk_laws.specs.Falls.{Falls, falling, forgive, forgiven, left_of, none_falls, over_falls, put_really}
-use Rattle.stack_walk_laws.specs.FollowsFalling.{AllFallen, LeavesSized, FollowsFalling, HasFallen}
+use Rattle.stack_walk_laws.specs.FollowsFalling.{AllFallen, FallsAside, LeavesSized, FollowsFalling, HasFallen}
 use Rattle.stack_walk_laws.proofs.Ending.{ends_as_falling}
 use Rattle.stack_walk_laws.proofs.Falling.{or_left}
 use Rattle.stack_walk_laws.proofs.Outward.{forgiven_at, way_over}
@@ -198,6 +198,13 @@ all_fallen i k = by (eqb i 1 && eqb k 0) where
   by true = refl
   by false = tt
 
+-- No fault line fails the block.
+aside : FallsAside m.site.faults falls
+aside label = by (eqb label.op 1 && eqb label.k 0) where
+  by : (c : Bool) → IfSome (or_left c left None) (λ left. false ≡ false)
+  by true = refl
+  by false = tt
+
 all_sized : LeavesSized 12 falls
 all_sized label = by (eqb label.op 1 && eqb label.k 0) where
   by : (c : Bool) → IfSome (or_left c left None) (λ left. length left ≡ 12)
@@ -216,6 +223,7 @@ fallen = record {
   stamped = refl;
   on_record = refl;
   fallen = all_fallen;
+  aside = aside;
   sized = all_sized;
 }
 

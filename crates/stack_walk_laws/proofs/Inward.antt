@@ -1,9 +1,10 @@
 -- A group of a read over a rig whose store call may have failed at one of its blocks.
 use Rattle.std.proofs.Common.{◌≡◌, ◌<◌, ◌≤◌, ◌⊎◌, inl, inr, ℕ, zero, suc, ◌+◌, Bool, true, false, if◌then◌else◌, List, [], ◌∷◌, ◌++◌, length, map, get_or, set, Option, Some, None, refl, sym, ap, subst, ◌∙◌, arith}
-use Rattle.std.specs.Prelude.{Result, Ok, Err, IfOk, ltb}
+use Rattle.std.specs.Prelude.{Result, Ok, Err, IfOk, IfSome, ltb}
 use Rattle.std.proofs.lemmas.Bool.{false≢true}
 use Rattle.pi_tuple.specs.declared.checks.Check.{Check}
-use Rattle.block_path.specs.Passed.{UnitSpec, Stop}
+use Rattle.fault_schedule.specs.declared.fault.FaultLine.{FaultLine}
+use Rattle.block_path.specs.Passed.{UnitSpec, Stop, from_medium}
 use Rattle.bio_core.specs.Bios.{Block}
 use Rattle.bio_core.specs.declared.fate.Fate.{Fate}
 use Rattle.bio_core.specs.declared.fate.Fate.TheVariants.{Bad, Good, Untouched}
@@ -12,8 +13,8 @@ use Rattle.bio_core.specs.declared.fate.Why.TheVariants.{Adapter as ByAdapter, M
 use Rattle.bio_core.specs.declared.request.Dir.TheVariants.{Read}
 use Rattle.bio_core.specs.declared.request.Io.{Io}
 use Rattle.block_path.specs.Blocks.{Site, fetched_cell}
-use Rattle.block_path.specs.Routes.{target}
-use Rattle.block_path.specs.WayIn.{Stops, WayIn, at_host, from_device, from_wire}
+use Rattle.block_path.specs.Routes.{by_target, passage, sends_unless, target}
+use Rattle.block_path.specs.WayIn.{Stops, WayIn, at_host, comes_in, from_device, from_wire}
 use Rattle.run_laws.specs.Passed.{Setting, Op}
 use Rattle.dix_adapter.specs.declared.adapter.Adapter.{Adapter}
 use Rattle.dix_adapter.specs.Carried.{arrives, carried}
@@ -26,8 +27,8 @@ use Rattle.stack_walk_laws.proofs.Recording.{arrived}
 use Rattle.stack_walk_laws.proofs.Sends.{with_here, with_other}
 use Rattle.stack_walk_laws.proofs.Ends.{one as one_more}
 use Rattle.stack_walk_laws.specs.Falls.{Falls, forgive, forgiven, left_of, over_falls, really, sends_or, writes_of}
-use Rattle.stack_walk_laws.specs.FollowsFalling.{AllFallen, HasFallen}
-use Rattle.stack_walk_laws.proofs.Falling.{NoneFall, all_really, decide, elsewhere_still, fall_at, fall_if, falls_by, here, none_fall, none_of_rest, rest_none, there, with_fall}
+use Rattle.stack_walk_laws.specs.FollowsFalling.{AllFallen, FallsAside, HasFallen}
+use Rattle.stack_walk_laws.proofs.Falling.{NoneFall, all_really, aside_by, decide, elsewhere_still, fall_at, fall_if, fails_in, falls_by, here, none_fall, none_of_rest, rest_none, there, with_fall}
 use Rattle.stack_walk_laws.proofs.Forgiving.{AllDir, AreFresh}
 use Rattle.stack_walk_laws.proofs.Outward.{falls_here, forgiven_here, not_here, some_if, nothing_really}
 use Rattle.stack_walk_laws.proofs.StillFates.{still_in}
@@ -71,6 +72,32 @@ in_statuses ops falls base (b ∷ bs) (x ∷ fs) status f = ap (with_fates bs fs
   by (Bad why) = forgiven_here ops falls b (Carried (Some why)) (Carried (Some why)) status (ap (λ o. forgive o (Carried (Some why))) (left_unwritten ops falls b f.0.1.0))
   by Untouched = refl
 
+abbrev unless_fails : Bool → Stop → Option Stop
+unless_fails true s = None
+unless_fails false s = Some s
+
+-- a store call that failed, but at a block of which a fault line says that the medium fails it
+abbrev pub beside : List FaultLine → List Block → Option Stop → Option Stop
+beside faults bs None = None
+beside faults bs (Some s) = unless_fails (fails_in faults bs s.at) s
+
+pub beside_if : (P : Stop → Type 0) (faults : List FaultLine) (bs : List Block) (stop : Option Stop) → IfSome stop P → IfSome (beside faults bs stop) P
+beside_if P faults bs None h = tt
+beside_if P faults bs (Some s) h = by (fails_in faults bs s.at) where
+  by : (c : Bool) → IfSome (unless_fails c s) P
+  by true = tt
+  by false = h
+
+beside_not : (faults : List FaultLine) (bs : List Block) (limit : ℕ) (stop : Option Stop) → IfSome (beside faults bs stop) (λ s. ltb s.at limit ≡ true → fails_in faults bs s.at ≡ false)
+beside_not faults bs limit None = tt
+beside_not faults bs limit (Some s) = by (fails_in faults bs s.at) refl where
+  by : (c : Bool) → fails_in faults bs s.at ≡ c → IfSome (unless_fails c s) (λ s. ltb s.at limit ≡ true → fails_in faults bs s.at ≡ false)
+  by true e = tt
+  by false e = λ l. e
+
+pub aside_in : (faults : List FaultLine) (stop : Option Stop) (limit : ℕ) (bs : List Block) (falls : Falls) → FallsAside faults falls → FallsAside faults (falls_by (beside faults bs stop) limit bs falls)
+aside_in faults stop limit bs falls h = aside_by faults (beside faults bs stop) limit bs falls (beside_not faults bs limit stop) h
+
 module _ (a : Adapter) (ios : List Io) (units : List UnitSpec) (blocks : List (List ℕ)) where
   abbrev pub sent : Block → Came
   sent b = (target a.tamper).sends (route_of a ios b) (get_or blocks (fetched_cell (site_of a units) (route_of a ios b)) [])
@@ -104,6 +131,24 @@ module _ (a : Adapter) (ios : List Io) (units : List UnitSpec) (blocks : List (L
     by : (c : Bool) → (if c then set (ways_in a ios units blocks bs) s.at (Stops Medium) else ways_in a ios units blocks bs) ≡ ways_fall (fall_if c bs s.at s.left falls) bs
     by true = set_in falls ops bs s.at s.left f
     by false = fall_none falls bs (none_fall falls ops false bs f)
+
+  -- A failing store call comes to no block of which a fault line says that the medium fails it: the command ends there in the same way.
+
+  failing_still : (bs : List Block) (at : ℕ) → fails_in a.tamper bs at ≡ true → set (ways_in a ios units blocks bs) at (Stops Medium) ≡ ways_in a ios units blocks bs
+  failing_still [] at e = refl
+  failing_still (b ∷ bs) zero e =
+      ap (λ c. from_device a.tamper (route_of a ios b) (sends_unless c (by_target (from_medium a.tamper (passage a.tamper (route_of a ios b)) (get_or blocks (fetched_cell (site_of a units) (route_of a ios b)) [])))) ∷ ways_in a ios units blocks bs) (sym e)
+  failing_still (b ∷ bs) (suc at) e = ap (λ ws. comes_in a.tamper (target a.tamper) (route_of a ios b) (get_or blocks (fetched_cell (site_of a units) (route_of a ios b)) []) ∷ ws) (failing_still bs at e)
+
+  pub stops_alike : (stop : Option Stop) (bs : List Block) → stopped_in stop (ways_in a ios units blocks bs) ≡ stopped_in (beside a.tamper bs stop) (ways_in a ios units blocks bs)
+  stops_alike None bs = refl
+  stops_alike (Some s) bs = by (fails_in a.tamper bs s.at) refl where
+    by : (c : Bool) → fails_in a.tamper bs s.at ≡ c → stopped_in (Some s) (ways_in a ios units blocks bs) ≡ stopped_in (unless_fails c s) (ways_in a ios units blocks bs)
+    by true e = at (ltb s.at (length (frames_in (ways_in a ios units blocks bs)) + 1)) where
+      at : (d : Bool) → (if d then set (ways_in a ios units blocks bs) s.at (Stops Medium) else ways_in a ios units blocks bs) ≡ ways_in a ios units blocks bs
+      at true = failing_still bs s.at e
+      at false = refl
+    by false e = refl
 
   -- what came
 

@@ -4,7 +4,8 @@ use Rattle.std.specs.Prelude.{Result, Ok, Err, IfSome, ltb}
 use Rattle.std.proofs.lemmas.Bool.{eqb-true, false≢true, or_parts}
 use Rattle.page_pool.specs.Cells.{scatter}
 use Rattle.pi_tuple.specs.declared.checks.Check.{Check}
-use Rattle.block_path.specs.Passed.{UnitSpec, Stop}
+use Rattle.fault_schedule.specs.Altered.{fails_of}
+use Rattle.block_path.specs.Passed.{UnitSpec, Stop, to_medium}
 use Rattle.bio_core.specs.Bios.{Block}
 use Rattle.bio_core.specs.declared.fate.Fate.{Fate}
 use Rattle.bio_core.specs.declared.fate.Fate.TheVariants.{Bad, Good, Untouched}
@@ -15,7 +16,7 @@ use Rattle.bio_core.specs.declared.request.Io.{Io}
 use Rattle.block_path.specs.Acts.{State, act}
 use Rattle.block_path.specs.Blocks.{Site, own_cell, stored_cell, stored_over, written_by}
 use Rattle.block_path.specs.Moves.{carry_out}
-use Rattle.block_path.specs.Routes.{Device, target}
+use Rattle.block_path.specs.Routes.{Device, by_target, passage, stores_unless, target}
 use Rattle.block_path.specs.Serial.{plain}
 use Rattle.block_path.specs.WayOut.{Fails, Refuses, Stores, WayOut, at_device, from_adapter, goes_out}
 use Rattle.run_laws.specs.Passed.{Setting, Op}
@@ -28,9 +29,9 @@ use Rattle.stack_walk_laws.specs.Slots.{Carried, Status}
 use Rattle.stack_walk_laws.proofs.Recording.{arrived}
 use Rattle.stack_walk_laws.proofs.Sends.{with_here, with_other}
 use Rattle.stack_walk_laws.specs.Falls.{Falls, falling, forgive, forgiven, leaves_or, left_of, over_falls, really, stores_or, writes_of}
-use Rattle.stack_walk_laws.specs.FollowsFalling.{AllFallen, HasFallen}
+use Rattle.stack_walk_laws.specs.FollowsFalling.{AllFallen, FallsAside, HasFallen}
 use Rattle.stack_walk_laws.proofs.Devices.{fall_alike}
-use Rattle.stack_walk_laws.proofs.Falling.{NoneFall, all_really, decide, elsewhere_still, fall_at, fall_if, falls_by, here, none_of_rest, rest_none, there, with_fall}
+use Rattle.stack_walk_laws.proofs.Falling.{NoneFall, all_really, aside_by, decide, elsewhere_still, fall_at, fall_if, fails_in, falls_by, here, none_of_rest, rest_none, there, with_fall}
 use Rattle.stack_walk_laws.proofs.Forgiving.{AllDir, AreFresh}
 use Rattle.stack_walk_laws.proofs.Switching.{out_same}
 use Rattle.stack_walk_laws.proofs.Ends.{one as one_more}
@@ -314,6 +315,26 @@ module _ (a : Adapter) (ios : List Io) (units : List UnitSpec) (cells : List ℕ
       to (inl x) = inl (some_if (falls (record { op = i; k = k })) (HasFallen (status i k)) left x (h i k))
       to (inr x) = inr x
     by false q e = inl (some_if (falls (record { op = i; k = k })) (HasFallen (status i k)) left e (h i k))
+
+  -- A call fails at a block that was accepted, so not at one of which a fault line says that the medium fails it.
+  stores_whole : (broken : Bool) (came : Came) (frame : List ℕ) (ws : List WayOut) → 0 < length (frames_out (at_device frame (stores_unless broken came) ∷ ws)) → broken ≡ false
+  stores_whole false came frame ws l = refl
+  stores_whole true (Ok st) frame ws l = absurd (omega (arith, l))
+  stores_whole true (Err why) frame ws l = absurd (omega (arith, l))
+
+  not_failing : (bs : List Block) (at : ℕ) → at < length (frames_out (plain_ways bs)) → fails_in a.tamper bs at ≡ false
+  not_failing [] at l = refl
+  not_failing (b ∷ bs) zero l = stores_whole (fails_of a.tamper (label_of b)) (by_target (to_medium a.tamper (passage a.tamper (route_of a ios b)) (sent b))) (sent b) (plain_ways bs) l
+  not_failing (b ∷ bs) (suc at) l = by (stored b) l (not_failing bs at) where
+    by : (came : Came) → suc at < length (frames_out (at_device (sent b) came ∷ plain_ways bs)) → (at < length (frames_out (plain_ways bs)) → fails_in a.tamper bs at ≡ false) → fails_in a.tamper bs at ≡ false
+    by (Err why) l h = absurd (omega (arith, l))
+    by (Ok st) l h = h (omega (arith, l))
+
+  pub aside_out : (falls : Falls) (stop : Option Stop) (bs : List Block) → FallsAside a.tamper falls → FallsAside a.tamper (falls_by stop (length (frames_out (plain_ways bs))) bs falls)
+  aside_out falls stop bs h = aside_by a.tamper stop (length (frames_out (plain_ways bs))) bs falls (by stop) h where
+    by : (stop : Option Stop) → IfSome stop (λ s. ltb s.at (length (frames_out (plain_ways bs))) ≡ true → fails_in a.tamper bs s.at ≡ false)
+    by None = tt
+    by (Some s) = λ e. not_failing bs s.at (let u : s.at < length (frames_out (plain_ways bs)) = grind (arith, e) in u)
 
   -- stored blocks
 

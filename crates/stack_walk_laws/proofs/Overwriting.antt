@@ -80,6 +80,7 @@ overwrite_falling m n front behind dev lba change mask opening old new pages blo
       stamped = f.stamped;
       on_record = f.on_record;
       fallen = f.fallen;
+      aside = f.aside;
       sized = f.sized;
     } in
     whole_falling m n front behind flip opening old new pages blocks es one placed (record { in_pages = mine.in_pages; reads = mine.reads; writes = mine.writes; blocks = mine.blocks }) tt

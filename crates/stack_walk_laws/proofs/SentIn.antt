@@ -33,11 +33,11 @@ use Rattle.stack_walk_laws.proofs.Recording.{came_length, in_fates_are, lands}
 use Rattle.stack_walk_laws.proofs.Sends.{in_all}
 use Rattle.stack_walk_laws.proofs.Telling.{last_one}
 use Rattle.stack_walk_laws.specs.Falls.{Falls, falling, forgiven, left_of, over_falls, put_really}
-use Rattle.stack_walk_laws.specs.FollowsFalling.{FollowsFalling, HasFallen}
+use Rattle.stack_walk_laws.specs.FollowsFalling.{FallsAside, FollowsFalling, HasFallen}
 use Rattle.stack_walk_laws.proofs.Devices.{more_fall}
 use Rattle.stack_walk_laws.proofs.Falling.{all_really, alike_by, before_by, carried_none, falls_by, put_all, record_still, sized_by, still_stamped}
 use Rattle.stack_walk_laws.proofs.Forgiving.{are_fresh, still_carried, still_going}
-use Rattle.stack_walk_laws.proofs.Inward.{all_come, came_ins, ends_so, fell_by, has_fallen, in_statuses, long_frames, really_in, stopped_is, ways_fall}
+use Rattle.stack_walk_laws.proofs.Inward.{all_come, aside_in, beside, beside_if, came_ins, ends_so, fell_by, has_fallen, in_statuses, long_frames, really_in, stopped_is, stops_alike, ways_fall}
 use Rattle.stack_walk_laws.proofs.Outward.{if_some}
 use Rattle.stack_walk_laws.proofs.OverDevice.{going_over}
 use Rattle.stack_walk_laws.proofs.SentOut.{all_cut, none_stand, turn_dir}
@@ -69,7 +69,8 @@ module _ (m : Setting) (n : ℕ) (ops : List Op) (a : Adapter) (ios : List Io) (
       let len = frame_len a ios req in
       let faults = ap (λ (s : Site). s.faults) site in
       let limit = length (frames_in (ways_in a ios units blocks bs)) + 1 in
-      let more = falls_by stop limit bs h.falls in
+      let other_stop = beside a.tamper bs stop in
+      let more = falls_by other_stop limit bs h.falls in
       let over = over_falls m more in
       let real = ways_fall a ios units blocks more bs in
       let walk = came_ins a ios units blocks more bs in
@@ -77,7 +78,7 @@ module _ (m : Setting) (n : ℕ) (ops : List Op) (a : Adapter) (ios : List Io) (
       let dirs = turn_dir Read (first_of req).dev (first_of req).lba bs turns in
       let fresh = are_fresh m n ops a ios logs h.falls status Read bs spots h.fallen dirs going in
       let cut = all_cut m n ops a ios logs status bs spots going in
-      let ways : stopped_in stop (ways_in a ios units blocks bs) ≡ real = stopped_is a ios units blocks h.falls ops stop bs fresh in
+      let ways : stopped_in stop (ways_in a ios units blocks bs) ≡ real = stops_alike a ios units blocks stop bs ∙ stopped_is a ios units blocks h.falls ops other_stop bs fresh in
       let k = done_of (size req) o in
       let frames = frames_of len k r.entry.moved in
       let cames = came_of (size req) o.done o.sense frames in
@@ -97,8 +98,8 @@ module _ (m : Setting) (n : ℕ) (ops : List Op) (a : Adapter) (ios : List Io) (
       let short : length ended ≤ length bs = subst (λ c. length c ≤ length bs) alike (came_length m n ops a ios req pool protect g faults o frames count) in
       let came : cames ≡ walk = alike ∙ ends_so a ios units blocks more bs (ltb o.done (size req)) (why_ended o.sense) short (ap (in_fates a ios bs) (sym alike) ∙ fate ∙ told.fates_are ∙ ap fates_of_in ways) in
       let other = more_fall m n ops opening h.after (forgiven ops h.falls status) h.falls more h.told
-      (λ i l c. sym (before_by stop limit bs h.falls i l (carried_none status bs i l cut (sym (still_carried (left_of ops h.falls i l) (status i l)) ∙ c)))) h.follows in
-      let follows = subst (λ st. Follows over n ops opening st h.after h.told) (λ x i l. alike_by ops stop limit bs h.falls status i l cut x) other in
+      (λ i l c. sym (before_by other_stop limit bs h.falls i l (carried_none status bs i l cut (sym (still_carried (left_of ops h.falls i l) (status i l)) ∙ c)))) h.follows in
+      let follows = subst (λ st. Follows over n ops opening st h.after h.told) (λ x i l. alike_by ops other_stop limit bs h.falls status i l cut x) other in
       let there = still_going over n ops ops a ios logs more status bs spots (going_over m (falling more m.site.device) n ops a ios logs status bs spots going) in
       let comes = subst (λ x. AllComeIn over a ios x bs walk) (sym h.blocks_are) (all_come a ios units blocks m site more bs dirs) in
       let sent = in_all over n ops a ios opening faults bs spots walk h.after (forgiven ops more status) h.told there comes follows in
@@ -112,10 +113,11 @@ module _ (m : Setting) (n : ℕ) (ops : List Op) (a : Adapter) (ios : List Io) (
         blocks_are = sent.blocks ∙ h.blocks_are;
         stamped = still_stamped m.site (falling more m.site.device) bs walk h.told h.stamped;
         on_record = put ∙ ap (λ cs. put_each m.site bs cs es) (came ∙ sym (really_in a ios units blocks more bs))
-            ∙ ap (put_each m.site bs (all_really more bs walk)) (h.on_record ∙ record_still m.site h.falls stop limit bs h.told (none_stand status (put_really m.site h.falls h.told []) bs cut (subst (NoneBefore status) h.on_record none)))
+            ∙ ap (put_each m.site bs (all_really more bs walk)) (h.on_record ∙ record_still m.site h.falls other_stop limit bs h.told (none_stand status (put_really m.site h.falls h.told []) bs cut (subst (NoneBefore status) h.on_record none)))
             ∙ sym (put_all m.site over.site more bs walk h.told []);
         fallen = λ i l. if_some (more (record { op = i; k = l })) (HasFallen (with_fates bs fates status i l))
             (λ left e. subst (λ f. HasFallen (with_fates bs f status i l)) (ap (in_fates a ios bs) (sym came) ∙ fate)
-            (has_fallen a ios units blocks more bs status (fell_by a ios units blocks h.falls ops stop bs status fresh h.fallen) i l left e));
-        sized = sized_by (stored_size m.ty m.size) stop limit bs h.falls sized h.sized;
+            (has_fallen a ios units blocks more bs status (fell_by a ios units blocks h.falls ops other_stop bs status fresh h.fallen) i l left e));
+        aside = subst (λ f. FallsAside f more) (sym faults) (aside_in a.tamper stop limit bs h.falls (subst (λ f. FallsAside f h.falls) faults h.aside));
+        sized = sized_by (stored_size m.ty m.size) other_stop limit bs h.falls (beside_if (λ s. length s.left ≡ stored_size m.ty m.size) a.tamper bs stop sized) h.sized;
       }

@@ -34,11 +34,11 @@ use Rattle.stack_walk_laws.proofs.Recording.{came_length, out_fates_are}
 use Rattle.stack_walk_laws.proofs.Sends.{out_all}
 use Rattle.stack_walk_laws.proofs.Telling.{last_one}
 use Rattle.stack_walk_laws.specs.Falls.{Falls, falling, forgiven, left_of, over_falls, put_really}
-use Rattle.stack_walk_laws.specs.FollowsFalling.{FollowsFalling, HasFallen}
+use Rattle.stack_walk_laws.specs.FollowsFalling.{FallsAside, FollowsFalling, HasFallen}
 use Rattle.stack_walk_laws.proofs.Devices.{more_fall}
 use Rattle.stack_walk_laws.proofs.Falling.{AllCut, NoneStand, all_really, alike_by, before_by, carried_none, falls_by, none_fall, put_all, record_still, sized_by, still_stamped}
 use Rattle.stack_walk_laws.proofs.Forgiving.{AllDir, are_fresh, still_carried, still_going}
-use Rattle.stack_walk_laws.proofs.Outward.{all_go, blocks_walk, came_ways, ends_so, fell_by, fill_is, frames_are, has_fallen, if_some, out_statuses, plain_ways, real_ways, really_walk, stopped_is, walk_cames, ways_plain}
+use Rattle.stack_walk_laws.proofs.Outward.{all_go, aside_out, blocks_walk, came_ways, ends_so, fell_by, fill_is, frames_are, has_fallen, if_some, out_statuses, plain_ways, real_ways, really_walk, stopped_is, walk_cames, ways_plain}
 use Rattle.stack_walk_laws.proofs.OverDevice.{going_over}
 
 pub turn_dir : (dir : Dir) (dev lba : ℕ) (bs : List Block) → InTurn dir dev lba bs → AllDir dir bs
@@ -78,6 +78,7 @@ module _ (m : Setting) (n : ℕ) (ops : List Op) (a : Adapter) (ios : List Io) (
       let logs = length opening.logs in
       let o = r.entry.what.outcome in
       let es = recorded m old.log in
+      let faults = ap (λ (s : Site). s.faults) site in
       let limit = length (frames_out (plain_ways a ios units cells bs)) in
       let more = falls_by stop limit bs h.falls in
       let over = over_falls m more in
@@ -108,7 +109,7 @@ module _ (m : Setting) (n : ℕ) (ops : List Op) (a : Adapter) (ios : List Io) (
       let cut_there : frames ≡ frames_out real = ap (λ j. take j all) enough ∙ frames_are a ios units cells more bs in
       let ended = came_of (size req) o.done o.sense (frames_out real) in
       let alike : cames ≡ ended = ap (came_of (size req) o.done o.sense) cut_there in
-      let short : length ended ≤ length bs = subst (λ c. length c ≤ length bs) alike (came_length m n ops a ios req pool protect g (ap (λ (s : Site). s.faults) site) o frames count) in
+      let short : length ended ≤ length bs = subst (λ c. length c ≤ length bs) alike (came_length m n ops a ios req pool protect g faults o frames count) in
       let came : cames ≡ came_ways real = alike ∙ ends_so a ios units cells more bs (ltb o.done (size req)) (why_ended o.sense) short (ap (out_fates bs) (sym alike) ∙ fate ∙ told.fates_are ∙ ap fates_out ways) in
       let other = more_fall m n ops opening h.after (forgiven ops h.falls status) h.falls more h.told
       (λ i l c. sym (before_by stop limit bs h.falls i l (carried_none status bs i l cut (sym (still_carried (left_of ops h.falls i l) (status i l)) ∙ c)))) h.follows in
@@ -135,5 +136,6 @@ module _ (m : Setting) (n : ℕ) (ops : List Op) (a : Adapter) (ios : List Io) (
         fallen = λ i l. if_some (more (record { op = i; k = l })) (HasFallen (with_fates bs fates status i l))
             (λ left e. subst (λ f. HasFallen (with_fates bs f status i l)) (ap (out_fates bs) (sym came) ∙ fate)
             (has_fallen a ios units cells more bs status (fell_by a ios units cells h.falls ops stop limit bs status fresh refl h.fallen) i l left e));
+        aside = subst (λ f. FallsAside f more) (sym faults) (aside_out a ios units cells h.falls stop bs (subst (λ f. FallsAside f h.falls) faults h.aside));
         sized = sized_by (stored_size m.ty m.size) stop limit bs h.falls sized h.sized;
       }

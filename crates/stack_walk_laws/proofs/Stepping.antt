@@ -70,6 +70,7 @@ begins m n ops opening empty = record {
   stamped = refl;
   on_record = refl;
   fallen = λ i k. tt;
+  aside = λ label. tt;
   sized = λ label. tt;
 }
 
@@ -140,6 +141,7 @@ module _ (m : Setting) (n : ℕ) (ops : List Op) (opening : State) (status : ℕ
         stamped = f.stamped;
         on_record = f.on_record;
         fallen = all_fallen m n ops f.falls status Waits Admitted spots may (λ x. x) f.fallen;
+        aside = f.aside;
         sized = f.sized;
       }
 
@@ -159,6 +161,7 @@ module _ (m : Setting) (n : ℕ) (ops : List Op) (opening : State) (status : ℕ
         stamped = f.stamped;
         on_record = f.on_record;
         fallen = all_fallen m n ops f.falls status Admitted Cut spots may (λ x. x) f.fallen;
+        aside = f.aside;
         sized = f.sized;
       }
 
@@ -215,6 +218,7 @@ module _ (m : Setting) (n : ℕ) (s : BlockSpot) (opening : State) (old new : �
         stamped = f.stamped;
         on_record = f.on_record;
         fallen = λ j l. if_some (f.falls (label_at j l)) (HasFallen (new j l)) (λ left q. fell j l (some_if (f.falls (label_at j l)) (HasFallen (old j l)) left q (f.fallen j l)));
+        aside = f.aside;
         sized = f.sized;
       }
     where
@@ -286,6 +290,7 @@ whole_falling m n front behind op opening old new pages blocks es cells placed m
       stamped = f.stamped;
       on_record = f.on_record;
       fallen = λ j l. if_some (f.falls (label_at j l)) (HasFallen (new j l)) (λ left q. fell j l (some_if (f.falls (label_at j l)) (HasFallen (old j l)) left q (f.fallen j l)));
+      aside = f.aside;
       sized = f.sized;
     }
   where
@@ -344,5 +349,6 @@ held_falling m n ops a ios req pool pool' fates opening status blocks es spots g
       on_record = f.on_record;
       fallen = λ i k. if_some (f.falls (label_at i k)) (HasFallen (with_fates bs fates status i k))
           (λ left e. subst HasFallen (sym (fates_other i k bs fates status (none_there f.falls i k left bs e none))) (some_if (f.falls (label_at i k)) (HasFallen (status i k)) left e (f.fallen i k)));
+      aside = f.aside;
       sized = f.sized;
     }

@@ -1,6 +1,8 @@
-use Rattle.std.specs.Prelude.{ℕ, ◌≡◌, List, [], length, Some, IfSome}
+use Rattle.std.specs.Prelude.{ℕ, ◌≡◌, List, [], length, false, Some, IfSome}
 use Rattle.bio_core.specs.declared.fate.Why.TheVariants.{Medium}
+use Rattle.fault_schedule.specs.Altered.{fails_of}
 use Rattle.fault_schedule.specs.declared.Label.{Label}
+use Rattle.fault_schedule.specs.declared.fault.FaultLine.{FaultLine}
 use Rattle.block_path.specs.Passed.{stored_size}
 use Rattle.block_path.specs.Acts.{State}
 use Rattle.block_path.specs.Blocks.{Sent}
@@ -23,6 +25,10 @@ HasFallen (Done shown) = ⊥
 abbrev pub AllFallen : Falls → (ℕ → ℕ → Status) → Type 0
 AllFallen falls status = (i k : ℕ) → IfSome (falls (record { op = i; k = k })) (λ left. HasFallen (status i k))
 
+-- None is a block of which a fault line says that the medium fails it: that one comes to no store call.
+abbrev pub FallsAside : List FaultLine → Falls → Type 0
+FallsAside faults falls = (label : Label) → IfSome (falls label) (λ left. fails_of faults label ≡ false)
+
 -- what is left has the size of a stored block
 abbrev pub LeavesSized : (size : ℕ) → Falls → Type 0
 LeavesSized size falls = (label : Label) → IfSome (falls label) (λ left. length left ≡ size)
@@ -40,4 +46,5 @@ pub record FollowsFalling (m : Setting) (n : ℕ) (ops : List Op) (opening : Sta
   pub stamped : put_really m.site none_falls told [] ≡ told
   pub on_record : es ≡ put_really m.site falls told []
   pub fallen : AllFallen falls status
+  pub aside : FallsAside m.site.faults falls
   pub sized : LeavesSized (stored_size m.ty m.size) falls

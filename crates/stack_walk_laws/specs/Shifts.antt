@@ -2,7 +2,7 @@
 use Rattle.std.specs.Prelude.{ℕ, ◌+◌, Bool, true, false, ◌&&◌, eqb, List, map}
 use Rattle.std.specs.List.{list_any}
 use Rattle.fault_schedule.specs.declared.fault.FaultKind.{FaultKind}
-use Rattle.fault_schedule.specs.declared.fault.FaultKind.TheVariants.{Flip, Shift, Keep}
+use Rattle.fault_schedule.specs.declared.fault.FaultKind.TheVariants.{Flip, Shift, Keep, Fail}
 use Rattle.fault_schedule.specs.declared.fault.FaultLine.{FaultLine}
 use Rattle.stack_laws.specs.Passed.{numbers}
 
@@ -10,6 +10,7 @@ abbrev pub is_shift : FaultKind → Bool
 is_shift (Flip off bytes) = false
 is_shift (Shift by) = true
 is_shift (Keep bytes) = false
+is_shift Fail = false
 
 -- the line shifts the op of this number, from 1
 abbrev pub shifts : ℕ → FaultLine → Bool

@@ -1,5 +1,5 @@
 use Rattle.std.proofs.Common.{[], refl, replicate}
-use Rattle.script_stack.proofs.Begins.{begins-falling, begins-walks}
+use Rattle.script_stack.proofs.Begins.{begins-falling, begins-told, begins-walks}
 use Rattle.script_stack.proofs.Reach.{reaches}
 use Rattle.script_stack.proofs.Ready.{can-start}
 use Rattle.script_stack.proofs.SendsBy.{plan_is}
@@ -25,6 +25,7 @@ returns-clause-begins c =
       schedule = refl;
       walks = begins-walks s t devices r c.requires.suits c.requires.lines c.requires.few c.requires.made c.requires.bound made.is made.new.pool made.follows.walks;
       falling = begins-falling s t devices r c.requires.suits c.requires.lines c.requires.few c.requires.made c.requires.bound made.is made.new.pool made.follows.falling;
+      told = begins-told s t devices r c.requires.suits c.requires.lines c.requires.few c.requires.made c.requires.bound made.is made.new.pool made.follows.told;
       counted = none_counted r _ _ made.new.first made.new.kept made.new.replies;
     }
 

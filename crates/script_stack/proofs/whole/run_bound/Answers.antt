@@ -1,15 +1,18 @@
 use Rattle.std.proofs.Common.{◌≡◌, ◌≤◌, ◌++◌, List, Some, ap, map, subst, sym, ◌∙◌}
 use Rattle.std.specs.Prelude.{is_some}
+use Rattle.dix_base.specs.Told.{Calm}
 use Rattle.rig_api.specs.Telling.{Standing, specs_of}
+use Rattle.fault_schedule.specs.Altered.{has_fail}
 use Rattle.rig_api.specs.State.{RigState}
 use Rattle.script_run_laws.specs.Passed.{info_of}
 use Rattle.rig_api.specs.Target.{Stored}
 use Rattle.dix_adapter.specs.Groups.{mode_of}
 use Rattle.dix_adapter.specs.declared.adapter.Adapter.{Adapter}
-use Rattle.stack_core.specs.Mediums.{RoseBy, medium_lines}
+use Rattle.stack_core.specs.Mediums.{RoseBy, medium_lines, medium_replies}
 use Rattle.stack_core.specs.declared.sheet.Sheet.{Sheet}
 use Rattle.script_stack.specs.Followed.{KnownBlocks, SizesAre}
-use Rattle.script_stack.proofs.Ended.{IsOver, backed_by, fallen_at, few_lines, sent_by, still_told, walked_at}
+use Rattle.script_stack.proofs.Counted.{silent_replies}
+use Rattle.script_stack.proofs.Ended.{IsOver, backed_by, calm_at, fallen_at, few_lines, sent_by, still_told, walked_at}
 use Rattle.script_stack.proofs.whole.run_bound.Goals as goal
 
 abbrev is_known : (old new : RigState) (us left : List Stored) → old.units ≡ Some us → new.units ≡ Some left → KnownBlocks old new
@@ -49,13 +52,15 @@ returns-clause-ran g c =
       ended = c.run_all.ensures.ended;
       walks = begins.walks;
       falling = begins.falling;
+      told = begins.told;
+      silent = ap medium_replies begins.new.replies ∙ silent_replies _;
       goes = c.run_all.ensures.goes;
       tells = c.run_all.ensures.rig.tells;
       went = c.run_all.ensures.went;
       plan = begins.plan;
       first = begins.new.first;
       stays = c.run_all.ensures.stays;
-      counted = c.run_all.ensures.went.counts (g.R.Rig.state ready).faults (begins.counted (g.R.Rig.state ready).faults);
+      counted = λ none. c.run_all.ensures.went.counts (ap (λ (x : RigState). has_fail x.armed) armed ∙ none) (g.R.Rig.state ready).faults (begins.counted (g.R.Rig.state ready).faults);
       sent = c.run_all.ensures.sends;
     } in
     let since = λ (known : KnownBlocks (g.R.Rig.state asked) after). is_known before after known.before known.after (ap (λ (x : RigState). x.units) armed ∙ known.began) known.ended in
@@ -73,9 +78,10 @@ returns-clause-ran g c =
       armed_there = c.run_all.ensures.rig.armed ∙ ap (λ (x : RigState). x.armed) armed;
       backed = backed_by s t devices words begun r (g.R.Rig.state ready).image (g.R.Rig.state end).image before after c.a_script_run_is_backed.ensures o;
       sends = sent_by s t devices words begun r (g.R.Rig.state ready).image (g.R.Rig.state end).image before after c.a_finished_stack_has_sent.ensures.few c.a_finished_stack_has_sent.ensures.all o;
-      medium = subst (λ n. RoseBy (medium_lines r.replies.items) n (g.R.Rig.state end).faults) count (few_lines s t devices words begun r (g.R.Rig.state ready).image (g.R.Rig.state end).image before after c.a_finished_stack_names_the_medium_seldom.ensures o);
+      medium = λ none. subst (λ n. RoseBy (medium_lines r.replies.items) n (g.R.Rig.state end).faults) count (few_lines s t devices words begun r (g.R.Rig.state ready).image (g.R.Rig.state end).image before after c.a_finished_stack_names_the_medium_seldom.ensures o none);
       tells_blocks = still_told (g.R.Rig.state ready).image (g.R.Rig.state end).image before.standing after.standing before.units after.units o.laid o.laid_after o.tells ∙ ap (λ (x : RigState). is_some x.units) armed;
-      walked = λ known none. walked_at s t devices words begun r (g.R.Rig.state ready).image (g.R.Rig.state end).image before after c.a_told_script_run_has_walked.ensures o (since known) none;
+      walked = λ known none. walked_at s t devices words begun r (g.R.Rig.state ready).image (g.R.Rig.state end).image before after c.a_told_script_run_has_walked.ensures.unnamed o (since known) none;
+      calm = λ known calm. calm_at s t devices words begun r (g.R.Rig.state ready).image (g.R.Rig.state end).image before after c.a_told_script_run_has_walked.ensures.calm o (since known) (subst (λ n. Calm n (g.R.Rig.state end).faults) (sym count) calm);
       fell = λ known. fallen_at s t devices words begun r (g.R.Rig.state ready).image (g.R.Rig.state end).image before after c.a_told_script_run_has_fallen.ensures o (since known);
     }
 

@@ -1,4 +1,4 @@
-use Rattle.std.proofs.Common.{◌≡◌, ◌+◌, ◌*◌, ◌++◌, min, length, map, get_or, drop, refl, ap, sym, ◌∙◌, arith, length-append}
+use Rattle.std.proofs.Common.{◌≡◌, ◌+◌, ◌*◌, ◌++◌, min, length, map, get_or, drop, refl, ap, ◌∙◌, arith, length-append}
 use Rattle.page_pool.specs.Cells.{flat}
 use Rattle.block_path.specs.Routes.{wire_size}
 use Rattle.dix_adapter.specs.Carried.{carried, comes_first, frame_len, lands_first}

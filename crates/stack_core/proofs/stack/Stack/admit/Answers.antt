@@ -132,6 +132,7 @@ returns-clause-walks g c = λ ch.
           lba = x.lba;
           change = x.change;
           is = x.is;
+          rose = λ calm. false≢true (sym (c.do_op-done.ensures.silent calm) ∙ m);
           walks = λ flips over n opening es left o w block long. walk_fails flips over n opening es left s c.requires.stands.stack o w _ c.args.q i (record { sheet = refl; adapter = refl; host = refl }) ch (c.admit-op.ensures.step 0) c.admit-op.ensures.op empty c.do_op-done.new.pool c.do_op-done.result done'
               x.dev x.lba x.change x.is m block long same;
           tells = λ us e. subst (λ op. LeavesOwn op us (g.R.Rig.state c.do_op-done.new.rig).units) (c.op.ensures ∙ x.is) (c.do_op-done.ensures.failed us e m);

@@ -17,7 +17,7 @@ use Rattle.stack_core.proofs.StackCounts.{sent_counts}
 use Rattle.stack_core.proofs.Stepping.{reaches-on}
 use Rattle.stack_core.proofs.Sent.{can-carry, holds-group, holds-still, sending, sent-works, spare-sent}
 use Rattle.stack_core.specs.declared.stack.Stack.{Stack}
-use Rattle.stack_core.specs.Walking.{Walks, WalksFalling}
+use Rattle.stack_core.specs.Walking.{Walks, WalksFalling, WalksTold}
 use Rattle.stack_core.proofs.WalkedRecord.{size_is, walk_sends}
 use Rattle.stack_core.proofs.WalkedTold.{told_sends}
 use Rattle.stack_core.proofs.Mediums.{spoiled_by}
@@ -140,8 +140,14 @@ returns-clause-went g c = λ ch.
                 old new old.image refl refl refl c.carry.ensures.stays.armed tt (g.met.R.Rig.laid a) (g.met.R.Rig.ready a) c.requires.stands.reaches.devices
                 (λ e q. ((unsent e q).0, (ap (λ (s : RigState). s.log) (ap g.R.Rig.state (unsent e q).1), ap (λ (s : RigState). s.units) (ap g.R.Rig.state (unsent e q).1)))) (λ e q. (out e q).sent.pool_is) (λ e. (back e).fetched.whole) (λ k e q. (out e q).recorded k) (λ k e. (back e).recorded k) (λ us u k e q. (out e q).went us u k) (λ us u k e. (back e).came us u k)),
           );
+      told = λ m n opening first calm w.
+          subst (λ st. WalksTold m n opening first after new.units new.armed st new.log) (sym c.carry.ensures.stays.standing)
+          (told_sends m n opening first s old.units old.armed old.standing old.log c.requires.stands.stack w after c.args.d c.args.i c.take.new.group.items c.carry.new.fates.items c.take.new.self stays ch (c.take.ensures.takes (plan_in c.args.self.now.sheet)) flies settles refl
+          old new old.image refl refl refl c.carry.ensures.stays.armed calm (g.met.R.Rig.laid a) (g.met.R.Rig.ready a) c.requires.stands.reaches.devices
+          (λ e q. ((unsent e q).0, (ap (λ (s : RigState). s.log) (ap g.R.Rig.state (unsent e q).1), ap (λ (s : RigState). s.units) (ap g.R.Rig.state (unsent e q).1)))) (λ e q. (out e q).sent.pool_is) (λ e. (back e).fetched.whole) (λ k e q. (out e q).recorded k) (λ k e. (back e).recorded k) (λ us u k e q. (out e q).went us u k) (λ us u k e. (back e).came us u k));
+      silent = λ calm z. z;
       faults = c.carry.ensures.stays.count;
-      counts = sent_counts s after ch.0 c.args.d c.args.i old.faults new.faults stays ch.1 ch.2 (returns-clause-spoils g c) refl refl;
+      counts = λ none. sent_counts s after old.armed ch.0 c.args.d c.args.i old.faults new.faults none stays ch.1 ch.2 (returns-clause-spoils g c) refl refl;
       sheet = refl;
       answered = λ m n opening first w none us told armed calm.
           (let s = c.args.self.now in
