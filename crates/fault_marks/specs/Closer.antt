@@ -2,7 +2,7 @@ use Rattle.std.specs.Prelude.{ℕ, ◌+◌, ◌-◌, ◌*◌, ◌^◌, Bool, fal
 use Rattle.std.specs.List.{list_any, position}
 use Rattle.std.specs.Str.{bytes_eq}
 use Rattle.fault_schedule.specs.declared.fault.FaultKind.{FaultKind}
-use Rattle.fault_schedule.specs.declared.fault.FaultKind.TheVariants.{Flip as FlipKind, Shift as ShiftKind, Keep as KeepKind}
+use Rattle.fault_schedule.specs.declared.fault.FaultKind.TheVariants.{Flip as FlipKind, Shift as ShiftKind, Keep as KeepKind, Fail as FailKind}
 use Rattle.fault_schedule.specs.declared.fault.FaultLine.{FaultLine}
 use Rattle.page_pool.specs.Places.{total}
 use Rattle.page_pool.specs.declared.segs.Seg.{Seg}
@@ -14,11 +14,11 @@ use Rattle.script_lines.specs.declared.kind.ScriptKind.TheVariants.{OutOfPlace, 
 use Rattle.script_lines.specs.declared.line.OpLine.{OpLine}
 use Rattle.script_lines.specs.declared.line.OpLine.TheVariants.{Fill, Put, Show, Seal, Write, Read, WritePi, ReadPi, Flip as FlipOp}
 use Rattle.script_lines.specs.declared.line.ScriptLine.{ScriptLine}
-use Rattle.script_lines.specs.declared.line.ScriptLine.TheVariants.{Inner, Linear, Stripe, Over, Flip, Shift, Keep, Schedule, Op}
+use Rattle.script_lines.specs.declared.line.ScriptLine.TheVariants.{Inner, Linear, Stripe, Over, Flip, Shift, Keep, Fail, Schedule, Op}
 use Rattle.script_lines.specs.declared.verb.ScriptVersion.{ScriptVersion}
 use Rattle.script_lines.specs.declared.verb.ScriptVersion.TheVariants.{One, Two, Three}
 use Rattle.script_lines.specs.declared.verb.Verb.{Verb}
-use Rattle.script_text.specs.Bindings.{is_at_medium, keeps_block, request_at, request_of, shifts}
+use Rattle.script_text.specs.Bindings.{is_at_medium, names_block, request_at, request_of, shifts}
 use Rattle.script_text.specs.Language.{is_comment, script_in}
 use Rattle.script_text.specs.Segments.{are_whole_tuples, is_inside}
 use Rattle.script_text.specs.declared.TheConstants.{MOST_LEGS, MOST_OPS}
@@ -158,6 +158,7 @@ many_closer ops (Over start len chunk volumes) = many_entry (length volumes)
 many_closer ops (Flip op k spot off bytes) = at_word ManyFaults 0
 many_closer ops (Shift op spot by) = at_word ManyFaults 0
 many_closer ops (Keep op k bytes) = at_word ManyFaults 0
+many_closer ops (Fail op k) = at_word ManyFaults 0
 many_closer ops (Schedule entries) = at_word ManySteps 0
 many_closer ops (Op op) = many_op ops op
 many_closer ops _ = plain
@@ -249,12 +250,13 @@ shift_closer earlier f = if is_at_medium f.at then at_word ShiftStored 2 else (i
 
 -- a block that is lost or torn, of a script of blocks of this size: what isn't the op or an earlier line is LEN, on a unit without tuples
 abbrev pub keep_closer : (size : ℕ) → (earlier : List FaultLine) → FaultLine → Closer
-keep_closer size earlier f = if not (is_at_medium f.at) then at_word NoWrite 1 else (if list_any (keeps_block f.op f.k) earlier then at_word KeptTwice 2 else at_word (KeptWhole size) 3)
+keep_closer size earlier f = if not (is_at_medium f.at) then at_word NoWrite 1 else (if list_any (names_block f.op f.k) earlier then at_word KeptTwice 2 else at_word (KeptWhole size) 3)
 
 abbrev pub kind_closer : (size : ℕ) → (earlier : List FaultLine) → FaultLine → FaultKind → Closer
 kind_closer size earlier f (FlipKind off bytes) = plain
 kind_closer size earlier f (ShiftKind by) = shift_closer earlier f
 kind_closer size earlier f (KeepKind bytes) = keep_closer size earlier f
+kind_closer size earlier f FailKind = at_word KeptTwice 2
 
 abbrev pub request_closer : (size : ℕ) → (earlier : List FaultLine) → FaultLine → Option (ℕ × ℕ) → Closer
 request_closer size earlier f None = at_word NoRequest 1

@@ -23,7 +23,7 @@ or_else None other = other
 abbrev pub overwrite_at : Script → Option ℕ
 overwrite_at script = op_line_at script (position is_overwrite script.ops)
 
--- the first line that alters anything: a `fault`, `shift`, `lose` or `tear`, else an `overwrite`
+-- the first line that alters anything: a `fault`, `shift`, `lose`, `tear` or `fail`, else an `overwrite`
 abbrev pub calm_at : Script → Option ℕ
 calm_at script = or_else (fault_line_at script 0) (overwrite_at script)
 

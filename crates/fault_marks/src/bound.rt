@@ -1,8 +1,8 @@
 //! What is wrong with a line of a script over its volume.
 
 ghost use Rattle.std.specs.Prelude.{◌≡◌, eqb, slice_get, take, Some};
-ghost use Rattle.std.specs.List.{list_any, position};
-ghost use Rattle.script_text.specs.Bindings.{is_at_medium, is_keep, is_shift, keeps_block, request_of, shifts};
+ghost use Rattle.std.specs.List.{position};
+ghost use Rattle.script_text.specs.Bindings.{is_at_medium, request_of};
 ghost use Rattle.volume_table.specs.Entries.{entry_len};
 ghost use Rattle.volume_table.specs.Places.{volume_len};
 ghost use Rattle.fault_marks.specs.Closer.{bound_closer, bound_fault, bound_line, bound_op, keep_closer, kind_closer, past_volume, request_closer, shift_closer, told_number};
@@ -10,27 +10,9 @@ ghost use Rattle.fault_marks.specs.Closer.{bound_closer, bound_fault, bound_line
 use crate::closer::{Closer, at_word, plain};
 use crate::detail::Detail;
 use fault_schedule::{Crossing, FaultKind, FaultLine};
-use script_text::{Script, ScriptKind, request_at};
+use script_text::{Script, ScriptKind, is_named, is_shifted, request_at};
 use stack_ops::Op;
 use volume_table::Entry;
-
-fn is_shift(kind: &FaultKind) -> bool
-    ensures { result ≡ is_shift kind.now }
-{
-    match kind {
-        FaultKind::Shift { .. } => true,
-        _ => false,
-    }
-}
-
-fn is_keep(kind: &FaultKind) -> bool
-    ensures { result ≡ is_keep kind.now }
-{
-    match kind {
-        FaultKind::Keep { .. } => true,
-        _ => false,
-    }
-}
 
 fn is_at_medium(at: Crossing) -> bool
     ensures { result ≡ is_at_medium at }
@@ -39,24 +21,6 @@ fn is_at_medium(at: Crossing) -> bool
         Crossing::TargetToMedium => true,
         _ => false,
     }
-}
-
-/// Whether one of these lines shifts the op of this number.
-fn is_shifted(lines: &[FaultLine], op: u32) -> bool
-    ensures { result ≡ list_any (shifts op) lines.now }
-{
-    lines
-        .iter()
-        .any(|line| op == line.op && is_shift(&line.kind))
-}
-
-/// Whether one of these lines loses or tears this block.
-fn is_kept(lines: &[FaultLine], op: u32, k: u32) -> bool
-    ensures { result ≡ list_any (keeps_block op k) lines.now }
-{
-    lines
-        .iter()
-        .any(|line| op == line.op && k == line.k && is_keep(&line.kind))
 }
 
 /// A shift behind these lines.
@@ -79,7 +43,7 @@ fn keep_closer(size: u32, earlier: &[FaultLine], line: &FaultLine) -> Closer
     if !is_at_medium(line.at) {
         return at_word(Detail::NoWrite, 1);
     }
-    if is_kept(earlier, line.op, line.k) {
+    if is_named(earlier, line.op, line.k) {
         return at_word(Detail::KeptTwice, 2);
     }
     let stored = u64::from(size);
@@ -94,6 +58,7 @@ fn kind_closer(size: u32, earlier: &[FaultLine], line: &FaultLine) -> Closer
         FaultKind::Flip { .. } => plain(),
         FaultKind::Shift { .. } => shift_closer(earlier, line),
         FaultKind::Keep { .. } => keep_closer(size, earlier, line),
+        FaultKind::Fail => at_word(Detail::KeptTwice, 2),
     }
 }
 

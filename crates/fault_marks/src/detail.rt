@@ -120,7 +120,7 @@ fn front_text(kind: ScriptKind, detail: Detail) -> &'static [u8]
         Detail::NoWrite =>
             b"the medium loses or tears what an op writes, and this op does not write",
         Detail::KeptWhole { .. } => b"LEN is less than what the unit stores of a block, which is ",
-        Detail::KeptTwice => b"an earlier line loses or tears this block",
+        Detail::KeptTwice => b"an earlier line loses, tears or fails this block",
         Detail::NoStored =>
             b"the image has no such block, or of another type or size than the volume",
         Detail::NoBytes => b"a segment has at least one byte",

@@ -195,9 +195,10 @@ fn many_closer(line: &ScriptLine, ops: usize) -> Closer
         ScriptLine::Linear(_) => at_word(Detail::ManyEntries, 0),
         ScriptLine::Stripe { legs, .. } => many_entry(legs.as_slice().len()),
         ScriptLine::Over { volumes, .. } => many_entry(volumes.as_slice().len()),
-        ScriptLine::Flip { .. } | ScriptLine::Shift { .. } | ScriptLine::Keep { .. } => {
-            at_word(Detail::ManyFaults, 0)
-        }
+        ScriptLine::Flip { .. }
+        | ScriptLine::Shift { .. }
+        | ScriptLine::Keep { .. }
+        | ScriptLine::Fail { .. } => { at_word(Detail::ManyFaults, 0) }
         ScriptLine::Schedule(_) => at_word(Detail::ManySteps, 0),
         ScriptLine::Op(op) => many_op(op, ops),
         _ => plain(),

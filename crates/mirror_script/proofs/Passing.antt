@@ -9,6 +9,7 @@ use Rattle.script_lines.specs.declared.kind.ScriptKind.TheVariants.{BadFault}
 use Rattle.stack_ops.specs.declared.op.Op.{Op}
 use Rattle.volume_table.specs.declared.device.DeviceInfo.{DeviceInfo}
 use Rattle.volume_table.specs.Tables.{Table}
+use Rattle.script_text.proofs.Lines.{taken_more}
 use Rattle.script_text.specs.Bindings.{at_line}
 use Rattle.mirror_script.specs.MirrorFaults.{faults_fault, is_bad_line, op_fault, ops_fault}
 
@@ -21,15 +22,6 @@ left protect stored ops faults lines i f h l e =
     ap (λ fs. faults_fault protect stored ops (take i faults) fs (drop i lines)) (drop-cons faults i f h ∙ ap (λ x. x ∷ drop (suc i) faults) e)
     ∙ ap (faults_fault protect stored ops (take i faults) (f ∷ drop (suc i) faults)) (drop-cons lines i 0 l)
 
-pub at_fault : (protect stored : ℕ) (ops : List Op) (faults : List FaultLine) (lines : List ℕ) (i : ℕ) (f : FaultLine) → i < length faults → i < length lines → get_or faults i f ≡ f → is_bad_line protect stored ops (take i faults) f ≡ true
-    → faults_fault protect stored ops (take i faults) (drop i faults) (drop i lines) ≡ Some (record { line = get_or lines i 0; kind = BadFault })
-at_fault protect stored ops faults lines i f h l e bad =
-    left protect stored ops faults lines i f h l e
-    ∙ ap (λ b. if b then Some (record { line = get_or lines i 0; kind = BadFault }) else faults_fault protect stored ops (take i faults ++ (f ∷ [])) (drop (suc i) faults) (drop (suc i) lines)) bad
-
-taken_more : (faults : List FaultLine) (i : ℕ) (f : FaultLine) → i < length faults → get_or faults i f ≡ f → take (i + 1) faults ≡ take i faults ++ (f ∷ [])
-taken_more faults i f h e = ap (λ k. take k faults) (add-one i) ∙ take-suc faults i f h ∙ ap (λ x. take i faults ++ (x ∷ [])) e
-
 pub passes : (protect stored : ℕ) (ops : List Op) (faults : List FaultLine) (lines : List ℕ) (i : ℕ) (f : FaultLine) → i < length faults → i < length lines → get_or faults i f ≡ f → is_bad_line protect stored ops (take i faults) f ≡ false
     → faults_fault protect stored ops (take i faults) (drop i faults) (drop i lines) ≡ faults_fault protect stored ops (take (i + 1) faults) (drop (i + 1) faults) (drop (i + 1) lines)
 passes protect stored ops faults lines i f h l e good =
@@ -37,9 +29,6 @@ passes protect stored ops faults lines i f h l e good =
     ∙ ap (λ b. if b then Some (record { line = get_or lines i 0; kind = BadFault }) else faults_fault protect stored ops (take i faults ++ (f ∷ [])) (drop (suc i) faults) (drop (suc i) lines)) good
     ∙ ap (λ fs. faults_fault protect stored ops fs (drop (suc i) faults) (drop (suc i) lines)) (sym (taken_more faults i f h e))
     ∙ ap (λ k. faults_fault protect stored ops (take (i + 1) faults) (drop k faults) (drop k lines)) (sym (add-one i))
-
-pub no_faults_left : (protect stored : ℕ) (ops : List Op) (faults : List FaultLine) (lines : List ℕ) (i : ℕ) → length faults ≤ i → faults_fault protect stored ops (take i faults) (drop i faults) (drop i lines) ≡ None
-no_faults_left protect stored ops faults lines i h = ap (λ fs. faults_fault protect stored ops (take i faults) fs (drop i lines)) (drop_of_length-le faults h)
 
 -- The op at i is the first of those that are left.
 ops_left : (protect : ℕ) (t : Table) (devices : List DeviceInfo) (size : ℕ) (ops : List Op) (lines : List ℕ) (k i : ℕ) (op : Op) → i < length ops → k + i < length lines → get_or ops i op ≡ op

@@ -1,6 +1,6 @@
 use Rattle.std.specs.Prelude.{ℕ, ◌+◌, ◌*◌, ◌/◌, ◌%◌, Bool, true, false, not, ◌||◌, ◌&&◌, eqb, nat_lt, if◌then◌else◌, List, ◌∷◌, length, drop, slice_get, Option, Some, None, [], ◌++◌}
 use Rattle.fault_schedule.specs.declared.fault.FaultKind.{FaultKind}
-use Rattle.fault_schedule.specs.declared.fault.FaultKind.TheVariants.{Flip as FlipKind, Shift as ShiftKind, Keep as KeepKind}
+use Rattle.fault_schedule.specs.declared.fault.FaultKind.TheVariants.{Flip as FlipKind, Shift as ShiftKind, Keep as KeepKind, Fail as FailKind}
 use Rattle.fault_schedule.specs.declared.fault.FaultLine.{FaultLine}
 use Rattle.pi_tuple.specs.declared.checks.PiType.{PiType}
 use Rattle.pi_tuple.specs.declared.checks.PiType.TheVariants.{Zero as TypeZero, One as TypeOne, Two as TypeTwo, Three as TypeThree}
@@ -14,7 +14,7 @@ use Rattle.script_lines.specs.declared.kind.ScriptKind.{ScriptKind}
 use Rattle.script_lines.specs.declared.kind.ScriptKind.TheVariants.{BadFault, BadRange, NoIntegrity, OutOfPlace}
 use Rattle.script_text.specs.declared.fault.ScriptFault.{ScriptFault}
 use Rattle.script_text.specs.declared.script.Script.{Script}
-use Rattle.script_text.specs.Bindings.{at_line, is_alterable, is_bad_change, is_bad_keep, or_else, request_at, stored_bytes}
+use Rattle.script_text.specs.Bindings.{at_line, is_alterable, is_bad_change, is_bad_fail, is_bad_keep, or_else, request_at, stored_bytes}
 
 -- What a script may not do on a mirror: a volume of two legs of equal length.
 
@@ -37,11 +37,12 @@ abbrev pub is_past : (k : ℕ) → Option (ℕ × ℕ) → Bool
 is_past k None = true
 is_past k (Some request) = not (nat_lt k (2 * request.1))
 
--- A mirror has no shifts. What a leg's medium loses or tears is judged as that of any volume.
+-- A mirror has no shifts. What a leg's medium loses, tears or fails is judged as that of any volume.
 abbrev pub is_bad_kind : (stored : ℕ) → (earlier : List FaultLine) → FaultLine → FaultKind → Bool
 is_bad_kind stored earlier f (FlipKind off bytes) = false
 is_bad_kind stored earlier f (ShiftKind by) = true
 is_bad_kind stored earlier f (KeepKind bytes) = is_bad_keep stored earlier f bytes
+is_bad_kind stored earlier f FailKind = is_bad_fail earlier f
 
 -- It has faults with protect field 001b alone. So many bytes are stored of a block.
 abbrev pub is_bad_line : (protect stored : ℕ) → List Op → (earlier : List FaultLine) → FaultLine → Bool

@@ -8,8 +8,8 @@ use block_path::Mode;
 use fault_schedule::{FaultKind, FaultLine};
 use pi_tuple::PiType;
 use script_text::{
-    Against, Script, ScriptFault, ScriptKind, can_alter, is_bad_change, is_bad_keep, request_at,
-    stored_bytes,
+    Against, Script, ScriptFault, ScriptKind, can_alter, is_bad_change, is_bad_fail, is_bad_keep,
+    request_at, stored_bytes,
 };
 use stack_ops::Op;
 use volume_table::{DeviceInfo, VolumeTable};
@@ -58,6 +58,7 @@ fn is_bad_kind(stored: u64, earlier: &[FaultLine], line: &FaultLine) -> bool
         FaultKind::Flip { .. } => false,
         FaultKind::Shift { .. } => true,
         FaultKind::Keep { bytes } => is_bad_keep(stored, earlier, line, bytes),
+        FaultKind::Fail => is_bad_fail(earlier, line),
     }
 }
 

@@ -5,7 +5,7 @@ use Rattle.std.specs.List.{list_all, list_any}
 use Rattle.std.proofs.lemmas.Bool.{and_parts, not-true}
 use Rattle.std.proofs.lemmas.List.Elements.{All-cons, All-nil, All-replicate}
 use Rattle.fault_schedule.specs.declared.fault.FaultKind.{FaultKind}
-use Rattle.fault_schedule.specs.declared.fault.FaultKind.TheVariants.{Flip, Shift, Keep}
+use Rattle.fault_schedule.specs.declared.fault.FaultKind.TheVariants.{Flip, Shift, Keep, Fail}
 use Rattle.fault_schedule.specs.declared.fault.FaultLine.{FaultLine}
 use Rattle.rig_api.specs.Target.{Stored}
 use Rattle.volume_table.specs.Tables.{Table}
@@ -25,6 +25,7 @@ kind-bytes : (size : ℕ) (f : FaultLine) (kind : FaultKind) → IsKind size f k
 kind-bytes size f (Flip off bytes) h = are-bytes bytes h.are_bytes
 kind-bytes size f (Shift by) h = tt
 kind-bytes size f (Keep bytes) h = tt
+kind-bytes size f Fail h = tt
 
 pub lines-bytes : (size : ℕ) (ops : List Op) (faults : List FaultLine) → Each (IsFault size ops) faults → All (λ (line : FaultLine). IsOfBytes line.kind) faults
 lines-bytes size ops [] h = All-nil (λ (line : FaultLine). IsOfBytes line.kind)

@@ -15,13 +15,13 @@ use Rattle.script_words.specs.Hexes.{hex_in, tag_in}
 use Rattle.script_words.specs.Numbers.{number_within, signed_within}
 use Rattle.script_words.specs.Places.{choice_in, word32, word64}
 use Rattle.script_lines.specs.declared.kind.ScriptKind.{ScriptKind}
-use Rattle.script_lines.specs.declared.line.ScriptLine.TheVariants.{Mode as ModeLine, Limits as LimitsLine, Pages as PagesLine, Block as BlockLine, Expect as ExpectLine, Linear as LinearLine, Stripe as StripeLine, Flip as FlipLine, Shift as ShiftLine, Keep as KeepLine, Schedule as ScheduleLine}
+use Rattle.script_lines.specs.declared.line.ScriptLine.TheVariants.{Mode as ModeLine, Limits as LimitsLine, Pages as PagesLine, Block as BlockLine, Expect as ExpectLine, Linear as LinearLine, Stripe as StripeLine, Flip as FlipLine, Shift as ShiftLine, Keep as KeepLine, Fail as FailLine, Schedule as ScheduleLine}
 use Rattle.script_lines.specs.declared.line.Spot.{Spot}
 use Rattle.script_lines.specs.declared.line.Spot.TheVariants.{Host, Wire, Medium}
-use Rattle.script_lines.specs.Forms.{block_form, expect_form, fault_form, flip_form, flip_spot, leg_word, len_in, limits_form, linear_form, lose_form, mask_by, mask_in, mode_form, pages_form, place_form, protect_by, protect_in, schedule_form, shift_form, shift_spot, size_by, size_in, stripe_form, striped_form, tear_form}
+use Rattle.script_lines.specs.Forms.{block_form, expect_form, fault_form, flip_form, flip_spot, leg_word, len_in, limits_form, linear_form, lose_form, fail_form, mask_by, mask_in, mode_form, pages_form, place_form, protect_by, protect_in, schedule_form, shift_form, shift_spot, size_by, size_in, stripe_form, striped_form, tear_form}
 use Rattle.script_lines.specs.Reading.{◌>>=◌, all_of, ended, fixed, or_bad, some_of, value}
 use Rattle.script_laws.specs.Keeping.{AreLegs, AreLimits, Each, IsChoice, IsFlip, IsLeg, IsProtect, IsShift, IsShiftSpot, IsWithin}
-use Rattle.script_laws.specs.Lines.{choice_text, fault_words, flip_words, guard_word, leg_words, limits_words, linear_words, lose_words, shift_words, spot_word, stripe_words, switch_word, expect_words, tear_words}
+use Rattle.script_laws.specs.Lines.{choice_text, fault_words, flip_words, guard_word, leg_words, limits_words, linear_words, block_words, shift_words, spot_word, stripe_words, switch_word, expect_words, tear_words}
 use Rattle.script_laws.proofs.Words.{hex_back, negative_back, positive_back, tag_back, within_back}
 use Rattle.script_laws.proofs.Places.{choice_alone, choice_both, leg_back, word32_back, word64_back}
 
@@ -143,7 +143,7 @@ fault_back size op k spot off bytes s o l h =
     (ap (λ r. r >>= (λ found. fixed (codes "flip") found.1 >>= (λ behind. flip_form size behind >>= (λ flip. Ok (FlipLine op k found.0 flip.0 flip.1))))) (flip_spot_is spot (codes "flip" ∷ flip_words off bytes))
     ∙ ap (λ r. r >>= (λ flip. Ok (FlipLine op k spot flip.0 flip.1))) (flip_back size off bytes s h)))
 
-pub lose_back : (op k : ℕ) → IsWithin 1 1024 op → k ≤ 2047 → lose_form (lose_words op k) ≡ Ok (KeepLine op k 0)
+pub lose_back : (op k : ℕ) → IsWithin 1 1024 op → k ≤ 2047 → lose_form (block_words op k) ≡ Ok (KeepLine op k 0)
 unfolding lose_form
 lose_back op k o l =
     value_is (number_within 1 1024) (decimal op) _ op _ _ (within_is 1 1024 op (omega arith) o)
@@ -155,6 +155,12 @@ tear_back size op k bytes s o l some most =
     value_is (number_within 1 1024) (decimal op) _ op _ _ (within_is 1 1024 op (omega arith) o)
     (value_is (number_within 0 2047) (decimal k) _ k _ _ (within_back 0 2047 k (omega arith) l (omega (arith, l)))
     (value_is (number_within 1 (size + 7)) (decimal bytes) _ bytes _ _ (within_back 1 (size + 7) bytes some most (omega (arith, most, s))) refl))
+
+pub fail_back : (op k : ℕ) → IsWithin 1 1024 op → k ≤ 2047 → fail_form (block_words op k) ≡ Ok (FailLine op k)
+unfolding fail_form
+fail_back op k o l =
+    value_is (number_within 1 1024) (decimal op) _ op _ _ (within_is 1 1024 op (omega arith) o)
+    (value_is (number_within 0 2047) (decimal k) _ k _ _ (within_back 0 2047 k (omega arith) l (omega (arith, l))) refl)
 
 signed_is : (by : ℤ) → IsShift by → signed_within 64 (signed_decimal by) ≡ Some by
 signed_is (pos n) h = let l = h.high_is in positive_back 64 n l (omega (arith, l))

@@ -13,14 +13,14 @@ use Rattle.script_words.specs.Numbers.{as_negative, as_positive, number_within, 
 use Rattle.script_words.specs.Places.{both as both_numbers, choice_by, choice_in, leg_in, pair_by, seg_in, segs_in, spot_in, word32, word64}
 use Rattle.script_lines.specs.declared.kind.ScriptKind.{ScriptKind}
 use Rattle.script_lines.specs.declared.line.ScriptLine.{ScriptLine}
-use Rattle.script_lines.specs.declared.line.ScriptLine.TheVariants.{Mode as ModeLine, Limits as LimitsLine, Pages as PagesLine, Block as BlockLine, Expect as ExpectLine, Inner as InnerLine, Linear as LinearLine, Stripe as StripeLine, Over as OverLine, Flip as FlipLine, Shift as ShiftLine, Keep as KeepLine, Schedule as ScheduleLine, Op as AnOp}
+use Rattle.script_lines.specs.declared.line.ScriptLine.TheVariants.{Mode as ModeLine, Limits as LimitsLine, Pages as PagesLine, Block as BlockLine, Expect as ExpectLine, Inner as InnerLine, Linear as LinearLine, Stripe as StripeLine, Over as OverLine, Flip as FlipLine, Shift as ShiftLine, Keep as KeepLine, Fail as FailLine, Schedule as ScheduleLine, Op as AnOp}
 use Rattle.script_lines.specs.declared.line.ModeLine.{ModeLine as Moded}
 use Rattle.script_lines.specs.declared.line.OpLine.{OpLine}
 use Rattle.script_lines.specs.declared.line.OpLine.TheVariants.{Fill, Put, Show, Seal, Write, Read, WritePi, ReadPi, Flip, Copy, Wait}
 use Rattle.script_lines.specs.declared.line.Spot.{Spot}
 use Rattle.script_lines.specs.declared.line.Spot.TheVariants.{Wire, Medium}
 use Rattle.script_lines.specs.declared.volume_lines.Striped.{Striped}
-use Rattle.script_lines.specs.Forms.{app_form, as_line, block_form, change_form, expect_form, fault_form, fill_form, flip_form, flip_spot, inner_form, leg_by, leg_word, len_in, limits_form, linear_form, lose_form, mask_by, mask_in, mode_form, or_unknown, over_form, overwrite_form, pages_form, place_form, protect_by, protect_in, put_form, read_form, readpi_form, schedule_form, seal_form, shift_form, shift_spot, show_form, size_by, size_in, stripe_form, striped_form, wire_or_medium_in, write_form, writepi_form, guard_by, tear_form}
+use Rattle.script_lines.specs.Forms.{app_form, as_line, block_form, change_form, expect_form, fault_form, fill_form, flip_form, flip_spot, inner_form, leg_by, leg_word, len_in, limits_form, linear_form, lose_form, fail_form, mask_by, mask_in, mode_form, or_unknown, over_form, overwrite_form, pages_form, place_form, protect_by, protect_in, put_form, read_form, readpi_form, schedule_form, seal_form, shift_form, shift_spot, show_form, size_by, size_in, stripe_form, striped_form, wire_or_medium_in, write_form, writepi_form, guard_by, tear_form}
 use Rattle.script_lines.specs.Reading.{all_of, either, fixed, or_bad, some_of, value}
 use Rattle.script_laws.specs.Keeping.{AreLimits, Each, IsChoice, IsLeg, IsProtect, IsShiftSpot, IsTag, IsWithin}
 use Rattle.script_laws.proofs.Inverse.{byte_ok, ended_ok, got32, got64, hex_got, long_tag_ok, ok_of, or_bad_ok, tag_got, tag_ok, value_ok, within_got, within_ok, word32_ok, word64_ok}
@@ -284,6 +284,13 @@ tear_gives size ws line h =
     let b = ok_of (value (number_within 0 2047) (a.0).1) _ line a.2 in
     let c = ok_of (value (number_within 1 (size + 7)) (b.0).1) _ line b.2 in
     ((a.0).0, (b.0).0, (c.0).0, ended_ok _ (c.0).1 line c.2, within_got 1 1024 ws a.0 a.1, (within_got 0 2047 (a.0).1 b.0 b.1).high_is, (within_got 1 (size + 7) (b.0).1 c.0 c.1).high_is)
+
+pub fail_gives : (ws : List (List ℕ)) (line : ScriptLine) → fail_form ws ≡ Ok line → (op : ℕ) × (k : ℕ) × (line ≡ FailLine op k) × IsWithin 1 1024 op × (k ≤ 2047)
+unfolding fail_form
+fail_gives ws line h =
+    let a = ok_of (value (number_within 1 1024) ws) _ line h in
+    let b = ok_of (value (number_within 0 2047) (a.0).1) _ line a.2 in
+    ((a.0).0, (b.0).0, ended_ok _ (b.0).1 line b.2, within_got 1 1024 ws a.0 a.1, (within_got 0 2047 (a.0).1 b.0 b.1).high_is)
 
 choice_ok : (w : List ℕ) (e : ℕ × ℕ) → choice_in w ≡ Some e → IsChoice e
 choice_ok w e h = by (cut 47 w) h

@@ -5,7 +5,7 @@ use Rattle.std.proofs.lemmas.Bool.Decides.{nat_tests}
 use Rattle.std.proofs.lemmas.Bool.{eqb-true}
 use Rattle.hex.specs.Hex.{IsBytes}
 use Rattle.fault_schedule.specs.declared.fault.FaultKind.{FaultKind}
-use Rattle.fault_schedule.specs.declared.fault.FaultKind.TheVariants.{Flip as FlipKind, Shift as ShiftKind, Keep as KeepKind}
+use Rattle.fault_schedule.specs.declared.fault.FaultKind.TheVariants.{Flip as FlipKind, Shift as ShiftKind, Keep as KeepKind, Fail as FailKind}
 use Rattle.script_lines.specs.Passed.{Limits}
 use Rattle.page_pool.specs.declared.segs.Seg.{Seg}
 use Rattle.script_text.specs.Passed.{Op, Fill as FillOp, Put as PutOp, Show as ShowOp, Seal as SealOp, Write as WriteOp, Fetch, WritePi as WritePiOp, FetchPi, Overwrite, Wait as WaitOp, Flip as FlipChange, Copy as CopyChange}
@@ -180,6 +180,7 @@ spot_back Host kind true = refl
 spot_back Wire (FlipKind off bytes) true = refl
 spot_back Wire (ShiftKind by) true = refl
 spot_back Wire (KeepKind bytes) true = refl
+spot_back Wire FailKind true = refl
 spot_back Medium kind true = refl
 spot_back Host kind false = refl
 spot_back Wire kind false = refl
@@ -211,6 +212,14 @@ keep_raw size op k bytes o l h ops = record {
   k_is = l;
   crossing = ap (λ s. crossing_of s (KeepKind bytes) (is_read ops op)) (spot_back Medium (KeepKind bytes) (is_read ops op));
   kind_is = (spot_back Medium (KeepKind bytes) (is_read ops op), h);
+}
+
+pub fail_raw : (size op k : ℕ) → IsWithin 1 1024 op → k ≤ 2047 → IsRaw size (record { op = op; k = k; spot = Medium; kind = FailKind })
+fail_raw size op k o l ops = record {
+  op_is = o;
+  k_is = l;
+  crossing = ap (λ s. crossing_of s FailKind (is_read ops op)) (spot_back Medium FailKind (is_read ops op));
+  kind_is = spot_back Medium FailKind (is_read ops op);
 }
 
 -- an op is that of its line

@@ -7,7 +7,7 @@ use Rattle.script_lines.specs.declared.kind.ScriptKind.TheVariants.{LongLine, No
 use Rattle.script_lines.specs.declared.line.ScriptLine.{ScriptLine}
 use Rattle.script_lines.specs.declared.line.OpLine.TheVariants.{Wait}
 use Rattle.script_lines.specs.declared.verb.Verb.{Verb}
-use Rattle.script_lines.specs.declared.verb.Verb.TheVariants.{Dix as DixVerb, Mode as ModeVerb, Limits as LimitsVerb, Pages as PagesVerb, Block as BlockVerb, Expect as ExpectVerb, Inner as InnerVerb, Linear as LinearVerb, Stripe as StripeVerb, Over as OverVerb, Fault as FaultVerb, Shift as ShiftVerb, Lose as LoseVerb, Tear as TearVerb, Schedule as ScheduleVerb, Begin as BeginVerb, Fill as FillVerb, Put as PutVerb, Show as ShowVerb, Seal as SealVerb, Write as WriteVerb, Read as ReadVerb, WritePi as WritePiVerb, ReadPi as ReadPiVerb, Overwrite as OverwriteVerb, Wait as WaitVerb}
+use Rattle.script_lines.specs.declared.verb.Verb.TheVariants.{Dix as DixVerb, Mode as ModeVerb, Limits as LimitsVerb, Pages as PagesVerb, Block as BlockVerb, Expect as ExpectVerb, Inner as InnerVerb, Linear as LinearVerb, Stripe as StripeVerb, Over as OverVerb, Fault as FaultVerb, Shift as ShiftVerb, Lose as LoseVerb, Tear as TearVerb, Fail as FailVerb, Schedule as ScheduleVerb, Begin as BeginVerb, Fill as FillVerb, Put as PutVerb, Show as ShowVerb, Seal as SealVerb, Write as WriteVerb, Read as ReadVerb, WritePi as WritePiVerb, ReadPi as ReadPiVerb, Overwrite as OverwriteVerb, Wait as WaitVerb}
 use Rattle.script_lines.specs.declared.verb.ScriptVersion.{ScriptVersion}
 use Rattle.script_lines.specs.declared.verb.Section.{Section}
 use Rattle.script_lines.specs.declared.verb.Section.TheVariants.{Dix as AtDix, Mode as AtMode, Limits as AtLimits, Pages as AtPages, Block as AtBlock, Expect as AtExpect, Inner as AtInner, Volume as AtVolume, Fault as AtFault, Schedule as AtSchedule, Begin as AtBegin, Op as AtOp}
@@ -24,7 +24,7 @@ use Rattle.script_laws.specs.Keeping.{Each, IsFault, Keeps}
 use Rattle.script_laws.proofs.FormsGive.{Numbers, fill_gives, overwrite_gives, put_gives, read_gives, readpi_gives, seal_gives, show_gives, write_gives, writepi_gives}
 use Rattle.script_laws.proofs.Held.{Goes, Held, InOrder, IsRaw, goes, length_both, nothing_held, number_of}
 use Rattle.script_laws.proofs.Inverse.{ended_ok, ok_of}
-use Rattle.script_laws.proofs.Kept.{Rules, begin_kept, block_kept, expect_kept, fault_kept, inner_kept, limits_kept, linear_kept, lose_kept, mode_kept, op_kept, over_kept, pages_kept, rules_of, schedule_kept, shift_kept, stripe_kept, tear_kept, ok_draft}
+use Rattle.script_laws.proofs.Kept.{Rules, begin_kept, block_kept, expect_kept, fail_kept, fault_kept, inner_kept, limits_kept, linear_kept, lose_kept, mode_kept, op_kept, over_kept, pages_kept, rules_of, schedule_kept, shift_kept, stripe_kept, tear_kept, ok_draft}
 use Rattle.small_laws.proofs.Tests.{and_second}
 
 -- a line of this verb that is taken
@@ -44,6 +44,7 @@ verb_kept FaultVerb n words d e h g line f r t = fault_kept n words d e h g line
 verb_kept ShiftVerb n words d e h g line f r t = shift_kept n words d e h g line f r t
 verb_kept LoseVerb n words d e h g line f r t = lose_kept n words d e h g line f r t
 verb_kept TearVerb n words d e h g line f r t = tear_kept n words d e h g line f r t
+verb_kept FailVerb n words d e h g line f r t = fail_kept n words d e h g line f r t
 verb_kept ScheduleVerb n words d e h g line f r t = schedule_kept n words d e h g line f r t
 verb_kept BeginVerb n words d e h g line f r t = begin_kept n words d e h g line f t
 verb_kept FillVerb n words d e h g line f r t = op_kept n d e h g (op_form FillVerb d.block words) line f (λ op i. fill_gives d.block words op i) r t

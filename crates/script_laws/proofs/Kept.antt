@@ -7,7 +7,7 @@ use Rattle.script_lines.specs.declared.kind.ScriptKind.TheVariants.{TooMany}
 use Rattle.script_lines.specs.declared.line.ScriptLine.{ScriptLine}
 use Rattle.script_lines.specs.declared.line.ScriptLine.TheVariants.{Begin as BeginLine}
 use Rattle.script_lines.specs.declared.line.OpLine.{OpLine}
-use Rattle.script_lines.specs.declared.verb.Verb.TheVariants.{Mode as ModeVerb, Limits as LimitsVerb, Pages as PagesVerb, Block as BlockVerb, Expect as ExpectVerb, Inner as InnerVerb, Linear as LinearVerb, Stripe as StripeVerb, Over as OverVerb, Fault as FaultVerb, Shift as ShiftVerb, Lose as LoseVerb, Tear as TearVerb, Schedule as ScheduleVerb, Begin as BeginVerb}
+use Rattle.script_lines.specs.declared.verb.Verb.TheVariants.{Mode as ModeVerb, Limits as LimitsVerb, Pages as PagesVerb, Block as BlockVerb, Expect as ExpectVerb, Inner as InnerVerb, Linear as LinearVerb, Stripe as StripeVerb, Over as OverVerb, Fault as FaultVerb, Shift as ShiftVerb, Lose as LoseVerb, Tear as TearVerb, Fail as FailVerb, Schedule as ScheduleVerb, Begin as BeginVerb}
 use Rattle.script_lines.specs.declared.verb.Section.TheVariants.{Mode as AtMode, Limits as AtLimits, Pages as AtPages, Block as AtBlock, Expect as AtExpect, Inner as AtInner, Volume as AtVolume, Fault as AtFault, Schedule as AtSchedule, Begin as AtBegin, Op as AtOp}
 use Rattle.script_lines.specs.Forms.{as_line, line_form}
 use Rattle.volume_table.specs.declared.entry.Entry.{Entry}
@@ -18,8 +18,8 @@ use Rattle.script_text.specs.Ops.{op_in}
 use Rattle.script_text.specs.Rules.{broken_rule, is_bad_fault, is_too_many, lacks_integrity, request_blocks}
 use Rattle.script_text.specs.Trees.{entries_over}
 use Rattle.script_laws.specs.Keeping.{Each, IsChoice, IsEntry}
-use Rattle.script_laws.proofs.FormsGive.{Numbers, as_line_ok, block_gives, expect_gives, fault_gives, inner_gives, limits_gives, linear_gives, lose_gives, mode_gives, over_gives, pages_gives, schedule_gives, shift_gives, stripe_gives, tear_gives}
-use Rattle.script_laws.proofs.Held.{Goes, Held, each_both, each_none, each_snoc, faults_more, flip_raw, keep_raw, length_both, number_of, op_of, ops_more, order_on, shift_raw}
+use Rattle.script_laws.proofs.FormsGive.{Numbers, as_line_ok, block_gives, expect_gives, fault_gives, inner_gives, limits_gives, linear_gives, lose_gives, fail_gives, mode_gives, over_gives, pages_gives, schedule_gives, shift_gives, stripe_gives, tear_gives}
+use Rattle.script_laws.proofs.Held.{Goes, Held, each_both, each_none, each_snoc, faults_more, flip_raw, keep_raw, fail_raw, length_both, number_of, op_of, ops_more, order_on, shift_raw}
 use Rattle.script_laws.proofs.Inverse.{ended_ok, ok_of}
 use Rattle.script_laws.proofs.Over.{IsInner, over_entries, unbroken}
 use Rattle.script_laws.proofs.Front.{parts_false}
@@ -295,6 +295,28 @@ tear_kept n words d e h g line f r t =
     let few = leb-false 256 (length d.faults) (sym (ap (is_too_many d) m.3) ∙ r.few) in
     let raw = keep_raw d.block m.0 m.1 m.2 m.4 m.5 m.6 in
     let same = ok_draft _ e (sym (ap (λ l. taken n l d) m.3) ∙ t) in
+    let o = order_on (number_of d.section) 8 d.mask d.entries d.faults d.ops (λ s. absurd (omega (arith, s))) g h.order in
+    subst (λ x. Held (record x { section = Some AtFault })) (sym same)
+    (record {
+      front = h.front;
+      inner_are = h.inner_are;
+      inner_count = h.inner_count;
+      entries_are = h.entries_are;
+      entries_count = h.entries_count;
+      faults_hold = faults_more d.block d.faults d.fault_lines _ n h.faults_hold raw few;
+      choices_are = h.choices_are;
+      choices_count = h.choices_count;
+      ops_hold = h.ops_hold;
+      order = record { before_expect = o.before_expect; no_faults = λ l. absurd (omega (arith, l)); no_ops = λ l. absurd (omega (arith, l)); with_volume = o.with_volume };
+    })
+
+pub fail_kept : (n : ℕ) (words : List (List ℕ)) (d e : Drafted) → Held d → Goes (number_of d.section) 8 → (line : ScriptLine) → line_form FailVerb d.block words ≡ Ok line → Rules d line → taken n line d ≡ Ok e → Held (record e { section = Some AtFault })
+unfolding taken
+fail_kept n words d e h g line f r t =
+    let m = fail_gives words line f in
+    let few = leb-false 256 (length d.faults) (sym (ap (is_too_many d) m.2) ∙ r.few) in
+    let raw = fail_raw d.block m.0 m.1 m.3 m.4 in
+    let same = ok_draft _ e (sym (ap (λ l. taken n l d) m.2) ∙ t) in
     let o = order_on (number_of d.section) 8 d.mask d.entries d.faults d.ops (λ s. absurd (omega (arith, s))) g h.order in
     subst (λ x. Held (record x { section = Some AtFault })) (sym same)
     (record {

@@ -18,7 +18,7 @@ use Rattle.stripe_volume.specs.declared.legs.Leg.{Leg}
 use Rattle.volume_table.specs.declared.entry.Entry.TheVariants.{Linear as LinearEntry, Stripe as StripeEntry}
 use Rattle.script_text.specs.Printed.{app_text, block_text, cut_text, entry_text, expect_text, fault_text, guard_text, legs_text, limits_text, mode_text, op_text, pages_text, pair_text, schedule_line, segs_text, spot_text, switch_text}
 use Rattle.script_text.specs.Crossings.{spot_of}
-use Rattle.script_laws.specs.Lines.{app_words, choice_text, expect_words, fault_words, guard_word, leg_text, leg_words, limits_words, line_of, linear_words, lose_words, mode_words, op_word, op_words_behind, shift_words, spot_word, stripe_words, switch_word, tag_of, tear_words}
+use Rattle.script_laws.specs.Lines.{app_words, choice_text, expect_words, fault_words, guard_word, leg_text, leg_words, limits_words, line_of, linear_words, block_words, mode_words, op_word, op_words_behind, shift_words, spot_word, stripe_words, switch_word, tag_of, tear_words}
 use Rattle.script_laws.specs.Texts.{spaced}
 
 guarded : (kind : GuardKind) (more : List ℕ) → guard_text kind ++ more ≡ codes "mode" ++ (32 ∷ (guard_word kind ++ more))
@@ -93,8 +93,11 @@ shift_line op k at by rest =
     let words : spaced (codes "shift" ∷ shift_words op (spot_of at) by) ++ (10 ∷ rest) ≡ codes "shift " ++ (decimal op ++ (32 ∷ (spot_word (spot_of at) ++ last))) = simp append_assoc in
     text ∙ ap (λ x. codes "shift " ++ (decimal op ++ x)) (spotted at last) ∙ sym words
 
-pub lose_line : (op k : ℕ) (rest : List ℕ) → (codes "lose " ++ (pair_text op (codes " ") k ++ codes "\n")) ++ rest ≡ spaced (codes "lose" ∷ lose_words op k) ++ (10 ∷ rest)
+pub lose_line : (op k : ℕ) (rest : List ℕ) → (codes "lose " ++ (pair_text op (codes " ") k ++ codes "\n")) ++ rest ≡ spaced (codes "lose" ∷ block_words op k) ++ (10 ∷ rest)
 lose_line op k rest = simp append_assoc
+
+pub fail_line : (op k : ℕ) (rest : List ℕ) → (codes "fail " ++ (pair_text op (codes " ") k ++ codes "\n")) ++ rest ≡ spaced (codes "fail" ∷ block_words op k) ++ (10 ∷ rest)
+fail_line op k rest = simp append_assoc
 
 pub tear_line : (op k bytes : ℕ) (rest : List ℕ)
     → (codes "tear " ++ (pair_text op (codes " ") k ++ (codes " " ++ (decimal bytes ++ codes "\n")))) ++ rest ≡ spaced (codes "tear" ∷ tear_words op k bytes) ++ (10 ∷ rest)

@@ -17,7 +17,7 @@ use Rattle.script_text.specs.Passed.{EntriesFollow, tree_place}
 use Rattle.script_lines.specs.declared.kind.ScriptKind.{ScriptKind}
 use Rattle.script_lines.specs.declared.kind.ScriptKind.TheVariants.{LongLine, NotAscii, OutOfPlace, TooMany}
 use Rattle.script_lines.specs.declared.line.ScriptLine.{ScriptLine}
-use Rattle.script_lines.specs.declared.line.ScriptLine.TheVariants.{Mode, Limits, Pages, Block, Expect, Inner, Linear, Stripe, Over, Flip, Shift, Keep, Schedule, Begin, Op}
+use Rattle.script_lines.specs.declared.line.ScriptLine.TheVariants.{Mode, Limits, Pages, Block, Expect, Inner, Linear, Stripe, Over, Flip, Shift, Keep, Fail, Schedule, Begin, Op}
 use Rattle.script_lines.specs.declared.verb.Verb.{Verb}
 use Rattle.script_lines.specs.declared.verb.Verb.TheVariants.{Over as OverVerb}
 use Rattle.script_lines.specs.declared.verb.ScriptVersion.{ScriptVersion}
@@ -78,6 +78,7 @@ taken_grows n (Over start len chunk volumes) d e h =
 taken_grows n (Flip op k spot off bytes) d e h = given d e _ refl h
 taken_grows n (Shift op spot by) d e h = given d e _ refl h
 taken_grows n (Keep op k bytes) d e h = given d e _ refl h
+taken_grows n (Fail op k) d e h = given d e _ refl h
 taken_grows n (Schedule entries) d e h = given d e _ refl h
 taken_grows n Begin d e h = given d e _ refl h
 taken_grows n (Op line) d e h = let a = ok_of (op_in d.pages d.block line) (with_op n line d) e h in given d e _ refl a.2

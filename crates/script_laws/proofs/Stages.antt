@@ -6,23 +6,23 @@ use Rattle.std.proofs.lemmas.Bool.Decides.{nat_tests}
 use Rattle.std.proofs.lemmas.Bool.{eqb-false, eqb-true, le-ltb, lt-leb, or_left, or_right}
 use Rattle.fault_schedule.specs.declared.fault.Crossing.{Crossing}
 use Rattle.fault_schedule.specs.declared.fault.FaultKind.{FaultKind}
-use Rattle.fault_schedule.specs.declared.fault.FaultKind.TheVariants.{Flip as FlipKind, Shift as ShiftKind, Keep as KeepKind}
+use Rattle.fault_schedule.specs.declared.fault.FaultKind.TheVariants.{Flip as FlipKind, Shift as ShiftKind, Keep as KeepKind, Fail as FailKind}
 use Rattle.fault_schedule.specs.declared.fault.FaultLine.{FaultLine}
 use Rattle.script_text.specs.Passed.{Op}
 use Rattle.stripe_volume.specs.declared.legs.Leg.{Leg}
 use Rattle.volume_table.specs.declared.entry.Entry.{Entry}
 use Rattle.volume_table.specs.declared.entry.Entry.TheVariants.{Linear as LinearEntry, Stripe as StripeEntry}
 use Rattle.script_lines.specs.declared.kind.ScriptKind.TheVariants.{TooMany, BadFault}
-use Rattle.script_lines.specs.declared.line.ScriptLine.TheVariants.{Linear as LinearLine, Stripe as StripeLine, Flip as FlipLine, Shift as ShiftLine, Keep as KeepLine}
+use Rattle.script_lines.specs.declared.line.ScriptLine.TheVariants.{Linear as LinearLine, Stripe as StripeLine, Flip as FlipLine, Shift as ShiftLine, Keep as KeepLine, Fail as FailLine}
 use Rattle.script_lines.specs.declared.line.Spot.{Spot}
 use Rattle.script_lines.specs.declared.line.Spot.TheVariants.{Host, Wire, Medium}
-use Rattle.script_lines.specs.declared.verb.Verb.TheVariants.{Linear as LinearVerb, Stripe as StripeVerb, Fault as FaultVerb, Shift as ShiftVerb, Lose as LoseVerb, Tear as TearVerb}
+use Rattle.script_lines.specs.declared.verb.Verb.TheVariants.{Linear as LinearVerb, Stripe as StripeVerb, Fault as FaultVerb, Shift as ShiftVerb, Lose as LoseVerb, Tear as TearVerb, Fail as FailVerb}
 use Rattle.script_lines.specs.declared.verb.ScriptVersion.{ScriptVersion}
 use Rattle.script_lines.specs.declared.verb.ScriptVersion.TheVariants.{Three}
 use Rattle.script_lines.specs.declared.verb.Section.{Section}
 use Rattle.script_lines.specs.declared.verb.Section.TheVariants.{Volume as AtVolume, Fault as AtFault}
 use Rattle.std.specs.List.{list_any}
-use Rattle.script_text.specs.Bindings.{is_keep, is_keep_line}
+use Rattle.script_text.specs.Bindings.{is_of_medium, is_of_medium_line}
 use Rattle.script_text.specs.Drafts.{Drafted}
 use Rattle.script_text.specs.Language.{is_behind, taken}
 use Rattle.script_text.specs.Printed.{entries_text, entry_text, fault_text, faults_text, pair_text}
@@ -30,10 +30,10 @@ use Rattle.script_text.specs.Rules.{is_bad_flip, is_no_shift}
 use Rattle.script_laws.specs.Clean.{AreWords, IsWord}
 use Rattle.script_laws.specs.Keeping.{Each, IsEntry, IsFault, IsFlip, IsKind, IsLeg, IsShift, IsShiftSpot, IsWithin}
 use Rattle.script_text.specs.Crossings.{raw_of, spot_of}
-use Rattle.script_laws.specs.Lines.{fault_words, leg_words, linear_words, lose_words, shift_words, spot_word, stripe_words, tear_words}
+use Rattle.script_laws.specs.Lines.{fault_words, leg_words, linear_words, block_words, shift_words, spot_word, stripe_words, tear_words}
 use Rattle.script_laws.proofs.Clean.{decimal_word}
-use Rattle.script_laws.proofs.Forms.{fault_back, linear_back, lose_back, shift_back, some_byte, stripe_back, tear_back}
-use Rattle.script_laws.proofs.Lined.{fault_line, linear_line, lose_line, shift_line, stripe_line, tear_line}
+use Rattle.script_laws.proofs.Forms.{fault_back, linear_back, lose_back, fail_back, shift_back, some_byte, stripe_back, tear_back}
+use Rattle.script_laws.proofs.Lined.{fault_line, linear_line, lose_line, fail_line, shift_line, stripe_line, tear_line}
 use Rattle.script_laws.proofs.Places.{pair_word}
 use Rattle.script_laws.proofs.Steps.{Step, behind, from_text, joined, line_step, stay, to_draft, to_number, verb_step}
 use Rattle.script_laws.proofs.Words.{hex_word, minus_word}
@@ -173,11 +173,11 @@ shift_step n op at by rest d section o w h p b few =
     (ap (λ b. if b then Some TooMany else (if is_no_shift by then Some BadFault else None)) (lt-leb 256 (length d.faults) few) ∙ ap (λ b. if b then Some BadFault else None) (some_shift by h)) refl))
 
 -- a line that version 3 brought stands where a fault does
-third_behind : (version : ScriptVersion) (section : Option Section) → version ≡ Three → is_behind version FaultVerb section ≡ true → (is_behind version LoseVerb section ≡ true) × (is_behind version TearVerb section ≡ true)
+third_behind : (version : ScriptVersion) (section : Option Section) → version ≡ Three → is_behind version FaultVerb section ≡ true → (is_behind version LoseVerb section ≡ true) × (is_behind version TearVerb section ≡ true) × (is_behind version FailVerb section ≡ true)
 third_behind version None e b = absurd (cc)
 third_behind version (Some section) e b =
     let three = subst (λ v. is_behind v FaultVerb (Some section) ≡ true) e b in
-    (subst (λ v. is_behind v LoseVerb (Some section) ≡ true) (sym e) three, subst (λ v. is_behind v TearVerb (Some section) ≡ true) (sym e) three)
+    (subst (λ v. is_behind v LoseVerb (Some section) ≡ true) (sym e) three, subst (λ v. is_behind v TearVerb (Some section) ≡ true) (sym e) three, subst (λ v. is_behind v FailVerb (Some section) ≡ true) (sym e) three)
 
 -- what is read with a line that keeps so many bytes
 abbrev kept_draft : (n op k bytes : ℕ) → Spot → Drafted → Drafted
@@ -189,9 +189,9 @@ lose_step : (n op k : ℕ) (rest : List ℕ) (d : Drafted) (section : Section) �
 unfolding taken
 lose_step n op k rest d section o l p b few =
     from_text n _ _ d (n + 1) rest _ (lose_line op k rest)
-    (line_step n (codes "lose" ∷ lose_words op k) rest d _
+    (line_step n (codes "lose" ∷ block_words op k) rest d _
     (record { clean_is = refl; filled_is = refl }, (within_word 1 1024 op (omega arith) o, (decimal_word k (omega (arith, l)), tt)))
-    (verb_step n (codes "lose") (lose_words op k) d LoseVerb section (KeepLine op k 0)
+    (verb_step n (codes "lose") (block_words op k) d LoseVerb section (KeepLine op k 0)
     (record d { faults = d.faults ++ (record { op = op; k = k; spot = Medium; kind = KeepKind 0 } ∷ []); fault_lines = d.fault_lines ++ (n ∷ []) }) refl refl p b (lose_back op k o l)
     (ap (λ b. if b then Some TooMany else None) (lt-leb 256 (length d.faults) few)) refl))
 
@@ -205,6 +205,22 @@ tear_step n op k bytes rest d section s o l some most p b few =
     (record { clean_is = refl; filled_is = refl }, (within_word 1 1024 op (omega arith) o, (decimal_word k (omega (arith, l)), (decimal_word bytes (omega (arith, most, s)), tt))))
     (verb_step n (codes "tear") (tear_words op k bytes) d TearVerb section (KeepLine op k bytes)
     (record d { faults = d.faults ++ (record { op = op; k = k; spot = Medium; kind = KeepKind bytes } ∷ []); fault_lines = d.fault_lines ++ (n ∷ []) }) refl refl p b (tear_back d.block op k bytes s o l some most)
+    (ap (λ b. if b then Some TooMany else None) (lt-leb 256 (length d.faults) few)) refl))
+
+-- what is read with a line that fails a block
+abbrev failed_draft : (n op k : ℕ) → Spot → Drafted → Drafted
+failed_draft n op k spot d = record d { faults = d.faults ++ (record { op = op; k = k; spot = spot; kind = FailKind } ∷ []); fault_lines = d.fault_lines ++ (n ∷ []); section = Some AtFault }
+
+fail_step : (n op k : ℕ) (rest : List ℕ) (d : Drafted) (section : Section) → IsWithin 1 1024 op → k ≤ 2047
+    → d.section ≡ Some section → is_behind d.version FailVerb d.section ≡ true → length d.faults < 256
+    → Step n ((codes "fail " ++ (pair_text op (codes " ") k ++ codes "\n")) ++ rest) d (n + 1) rest (failed_draft n op k Medium d)
+unfolding taken
+fail_step n op k rest d section o l p b few =
+    from_text n _ _ d (n + 1) rest _ (fail_line op k rest)
+    (line_step n (codes "fail" ∷ block_words op k) rest d _
+    (record { clean_is = refl; filled_is = refl }, (within_word 1 1024 op (omega arith) o, (decimal_word k (omega (arith, l)), tt)))
+    (verb_step n (codes "fail") (block_words op k) d FailVerb section (FailLine op k)
+    (record d { faults = d.faults ++ (record { op = op; k = k; spot = Medium; kind = FailKind } ∷ []); fault_lines = d.fault_lines ++ (n ∷ []) }) refl refl p b (fail_back op k o l)
     (ap (λ b. if b then Some TooMany else None) (lt-leb 256 (length d.faults) few)) refl))
 
 keep_by : (none : Bool) (n op k bytes : ℕ) (rest : List ℕ) (d : Drafted) (section : Section) → eqb bytes 0 ≡ none → d.block ≤ 4096 → IsWithin 1 1024 op → k ≤ 2047 → bytes ≤ d.block + 7
@@ -222,7 +238,7 @@ keep_by false n op k bytes rest d section e s o l most p lose tear few =
     some (suc m) f = omega arith
 
 fault_by_kind : (kind : FaultKind) (n op k : ℕ) (at : Crossing) (rest : List ℕ) (d : Drafted) (section : Section) → d.block ≤ 4096 → IsWithin 1 1024 op → k ≤ 2047 → IsKind d.block (record { op = op; k = k; at = at; kind = kind }) kind
-    → (is_keep kind ≡ true → d.version ≡ Three) → d.section ≡ Some section → is_behind d.version FaultVerb d.section ≡ true → length d.faults < 256
+    → (is_of_medium kind ≡ true → d.version ≡ Three) → d.section ≡ Some section → is_behind d.version FaultVerb d.section ≡ true → length d.faults < 256
     → Step n (fault_text (record { op = op; k = k; at = at; kind = kind }) ++ rest) d (n + 1) rest
     (record d { faults = d.faults ++ (raw_of (record { op = op; k = k; at = at; kind = kind }) ∷ []); fault_lines = d.fault_lines ++ (n ∷ []); section = Some AtFault })
 fault_by_kind (FlipKind off bytes) n op k at rest d section s o l h v p b few = flip_step n op k at off bytes rest d section s o l h p b few
@@ -234,15 +250,18 @@ fault_by_kind (ShiftKind by) n op k at rest d section s o l h v p b few =
 fault_by_kind (KeepKind bytes) n op k at rest d section s o l h v p b few =
     let third = third_behind d.version d.section (v refl) b in
     to_draft n (fault_text (record { op = op; k = k; at = at; kind = KeepKind bytes }) ++ rest) d (n + 1) rest _ _ (ap (λ spot. kept_draft n op k bytes spot d) (sym h.0)) (keep_by (eqb bytes 0) n op k bytes rest d section refl s o l h.1 p third.0 third.1 few)
+fault_by_kind FailKind n op k at rest d section s o l h v p b few =
+    let third = third_behind d.version d.section (v refl) b in
+    to_draft n (fault_text (record { op = op; k = k; at = at; kind = FailKind }) ++ rest) d (n + 1) rest _ _ (ap (λ spot. failed_draft n op k spot d) (sym h)) (fail_step n op k rest d section o l p third.2 few)
 
 fault_step : (n : ℕ) (ops : List Op) (f : FaultLine) (rest : List ℕ) (d : Drafted) (section : Section) → d.block ≤ 4096 → IsFault d.block ops f
-    → (is_keep f.kind ≡ true → d.version ≡ Three) → d.section ≡ Some section → is_behind d.version FaultVerb d.section ≡ true → length d.faults < 256
+    → (is_of_medium f.kind ≡ true → d.version ≡ Three) → d.section ≡ Some section → is_behind d.version FaultVerb d.section ≡ true → length d.faults < 256
     → Step n (fault_text f ++ rest) d (n + 1) rest (record d { faults = d.faults ++ (raw_of f ∷ []); fault_lines = d.fault_lines ++ (n ∷ []); section = Some AtFault })
 fault_step n ops f rest d section s h v p b few = fault_by_kind f.kind n f.op f.k f.at rest d section s h.op_is h.k_is h.kind_is v p b few
 
 -- Lines that only version 3 can say are in a script of that version.
 abbrev pub IsThirdFor : List FaultLine → ScriptVersion → Type 0
-IsThirdFor fs version = list_any is_keep_line fs ≡ true → version ≡ Three
+IsThirdFor fs version = list_any is_of_medium_line fs ≡ true → version ≡ Three
 
 fault_again : (b : ScriptVersion) → is_behind b FaultVerb (Some AtFault) ≡ true
 fault_again b = behind b FaultVerb AtFault refl refl
@@ -261,11 +280,11 @@ more_faults (f ∷ fs) n ops rest d s h p few v =
     to_number n ((fault_text f ++ faults_text fs) ++ rest) d ((n + 1) + length fs) (n + suc (length fs)) rest _ (next_number n (length fs))
     (from_text n ((fault_text f ++ faults_text fs) ++ rest) (fault_text f ++ (faults_text fs ++ rest)) d ((n + 1) + length fs) rest _ (append_assoc (fault_text f) (faults_text fs) rest)
     (joined n (fault_text f ++ (faults_text fs ++ rest)) d (n + 1) (faults_text fs ++ rest) next ((n + 1) + length fs) rest _
-    (fault_step n ops f (faults_text fs ++ rest) d AtFault s h.0 (λ e. v (or_left (is_keep f.kind) (list_any is_keep_line fs) e)) p (ap (is_behind d.version FaultVerb) p ∙ fault_again d.version) (omega (arith, few)))
+    (fault_step n ops f (faults_text fs ++ rest) d AtFault s h.0 (λ e. v (or_left (is_of_medium f.kind) (list_any is_of_medium_line fs) e)) p (ap (is_behind d.version FaultVerb) p ∙ fault_again d.version) (omega (arith, few)))
     (to_draft (n + 1) (faults_text fs ++ rest) next ((n + 1) + length fs) rest _ _
     (ap (λ x. record d { faults = x; fault_lines = (d.fault_lines ++ (n ∷ [])) ++ numbered (n + 1) fs; section = Some AtFault }) (append_assoc d.faults (raw_of f ∷ []) (map raw_of fs))
     ∙ ap (λ x. record d { faults = d.faults ++ (raw_of f ∷ map raw_of fs); fault_lines = x; section = Some AtFault }) (append_assoc d.fault_lines (n ∷ []) (numbered (n + 1) fs)))
-    (more_faults fs (n + 1) ops rest next s h.1 refl (omega (arith, few, one)) (λ e. v (or_right (is_keep f.kind) (list_any is_keep_line fs) e))))))
+    (more_faults fs (n + 1) ops rest next s h.1 refl (omega (arith, few, one)) (λ e. v (or_right (is_of_medium f.kind) (list_any is_of_medium_line fs) e))))))
 
 -- any number of faults behind a volume
 pub faults_stage : (fs : List FaultLine) (n : ℕ) (ops : List Op) (rest : List ℕ) (d : Drafted) → d.block ≤ 4096 → Each (IsFault d.block ops) fs → d.section ≡ Some AtVolume → d.faults ≡ [] → d.fault_lines ≡ [] → length fs ≤ 256 → IsThirdFor fs d.version
@@ -280,8 +299,8 @@ faults_stage (f ∷ fs) n ops rest d s h p z l few v =
     to_number n ((fault_text f ++ faults_text fs) ++ rest) d ((n + 1) + length fs) (n + suc (length fs)) rest _ (next_number n (length fs))
     (from_text n ((fault_text f ++ faults_text fs) ++ rest) (fault_text f ++ (faults_text fs ++ rest)) d ((n + 1) + length fs) rest _ (append_assoc (fault_text f) (faults_text fs) rest)
     (joined n (fault_text f ++ (faults_text fs ++ rest)) d (n + 1) (faults_text fs ++ rest) next ((n + 1) + length fs) rest _
-    (fault_step n ops f (faults_text fs ++ rest) d AtVolume s h.0 (λ e. v (or_left (is_keep f.kind) (list_any is_keep_line fs) e)) p (ap (is_behind d.version FaultVerb) p ∙ behind d.version FaultVerb AtVolume refl refl) (omega (arith, none)))
+    (fault_step n ops f (faults_text fs ++ rest) d AtVolume s h.0 (λ e. v (or_left (is_of_medium f.kind) (list_any is_of_medium_line fs) e)) p (ap (is_behind d.version FaultVerb) p ∙ behind d.version FaultVerb AtVolume refl refl) (omega (arith, none)))
     (to_draft (n + 1) (faults_text fs ++ rest) next ((n + 1) + length fs) rest _ _
     (ap (λ x. record d { faults = (x ++ (raw_of f ∷ [])) ++ map raw_of fs; fault_lines = (d.fault_lines ++ (n ∷ [])) ++ numbered (n + 1) fs; section = Some AtFault }) z
     ∙ ap (λ x. record d { faults = raw_of f ∷ map raw_of fs; fault_lines = (x ++ (n ∷ [])) ++ numbered (n + 1) fs; section = Some AtFault }) l)
-    (more_faults fs (n + 1) ops rest next s h.1 refl (omega (arith, few, one, none)) (λ e. v (or_right (is_keep f.kind) (list_any is_keep_line fs) e))))))
+    (more_faults fs (n + 1) ops rest next s h.1 refl (omega (arith, few, one, none)) (λ e. v (or_right (is_of_medium f.kind) (list_any is_of_medium_line fs) e))))))

@@ -2,7 +2,7 @@ use Rattle.std.specs.Prelude.{ℕ, ℤ, pos, negsuc, suc, ◌≡◌, ◌⊎◌, 
 use Rattle.hex.specs.Hex.{IsBytes}
 use Rattle.script_text.specs.Passed.{Mode, Op, MOST_BLOCKS}
 use Rattle.fault_schedule.specs.declared.fault.FaultKind.{FaultKind}
-use Rattle.fault_schedule.specs.declared.fault.FaultKind.TheVariants.{Flip as FlipKind, Shift as ShiftKind, Keep as KeepKind}
+use Rattle.fault_schedule.specs.declared.fault.FaultKind.TheVariants.{Flip as FlipKind, Shift as ShiftKind, Keep as KeepKind, Fail as FailKind}
 use Rattle.fault_schedule.specs.declared.fault.FaultLine.{FaultLine}
 use Rattle.script_lines.specs.Passed.{Limits}
 use Rattle.stripe_volume.specs.declared.legs.Leg.{Leg}
@@ -83,6 +83,7 @@ abbrev pub IsKind : (size : ℕ) → FaultLine → FaultKind → Type 0
 IsKind size f (FlipKind off bytes) = IsFlip size off bytes
 IsKind size f (ShiftKind by) = (f.k ≡ 0) × IsShiftSpot (spot_of f.at) × IsShift by
 IsKind size f (KeepKind bytes) = (spot_of f.at ≡ Medium) × (bytes ≤ size + 7)
+IsKind size f FailKind = spot_of f.at ≡ Medium
 
 -- A fault's crossing is that of its place for its op.
 pub record IsFault (size : ℕ) (ops : List Op) (f : FaultLine) : Type 0 where

@@ -81,8 +81,9 @@ fault_words op k spot off bytes = decimal op ∷ decimal k ∷ spot_word spot �
 abbrev pub shift_words : (op : ℕ) → Spot → ℤ → List (List ℕ)
 shift_words op spot by = decimal op ∷ spot_word spot ∷ signed_decimal by ∷ []
 
-abbrev pub lose_words : (op k : ℕ) → List (List ℕ)
-lose_words op k = decimal op ∷ decimal k ∷ []
+-- of a line that names a block alone
+abbrev pub block_words : (op k : ℕ) → List (List ℕ)
+block_words op k = decimal op ∷ decimal k ∷ []
 
 abbrev pub tear_words : (op k bytes : ℕ) → List (List ℕ)
 tear_words op k bytes = decimal op ∷ decimal k ∷ decimal bytes ∷ []

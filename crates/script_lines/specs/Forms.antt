@@ -13,10 +13,10 @@ use Rattle.script_lines.specs.declared.line.Spot.TheVariants.{Host, Wire, Medium
 use Rattle.script_lines.specs.declared.line.OpLine.{OpLine}
 use Rattle.script_lines.specs.declared.line.OpLine.TheVariants.{Fill, Put, Show, Seal, Write, Read, WritePi, ReadPi, Flip as FlipOp, Copy, Wait}
 use Rattle.script_lines.specs.declared.line.ScriptLine.{ScriptLine}
-use Rattle.script_lines.specs.declared.line.ScriptLine.TheVariants.{Mode, Limits, Pages, Block, Expect, Inner, Linear as LinearLine, Stripe, Over, Flip, Shift, Keep, Schedule, Begin, Op}
+use Rattle.script_lines.specs.declared.line.ScriptLine.TheVariants.{Mode, Limits, Pages, Block, Expect, Inner, Linear as LinearLine, Stripe, Over, Flip, Shift, Keep, Fail, Schedule, Begin, Op}
 use Rattle.script_lines.specs.declared.volume_lines.Striped.{Striped}
 use Rattle.script_lines.specs.declared.verb.Verb.{Verb}
-use Rattle.script_lines.specs.declared.verb.Verb.TheVariants.{Mode as ModeVerb, Limits as LimitsVerb, Pages as PagesVerb, Block as BlockVerb, Expect as ExpectVerb, Inner as InnerVerb, Linear as LinearVerb, Stripe as StripeVerb, Over as OverVerb, Fault as FaultVerb, Shift as ShiftVerb, Lose as LoseVerb, Tear as TearVerb, Schedule as ScheduleVerb, Begin as BeginVerb, Fill as FillVerb, Put as PutVerb, Show as ShowVerb, Seal as SealVerb, Write as WriteVerb, Read as ReadVerb, WritePi as WritePiVerb, ReadPi as ReadPiVerb, Overwrite as OverwriteVerb}
+use Rattle.script_lines.specs.declared.verb.Verb.TheVariants.{Mode as ModeVerb, Limits as LimitsVerb, Pages as PagesVerb, Block as BlockVerb, Expect as ExpectVerb, Inner as InnerVerb, Linear as LinearVerb, Stripe as StripeVerb, Over as OverVerb, Fault as FaultVerb, Shift as ShiftVerb, Lose as LoseVerb, Tear as TearVerb, Fail as FailVerb, Schedule as ScheduleVerb, Begin as BeginVerb, Fill as FillVerb, Put as PutVerb, Show as ShowVerb, Seal as SealVerb, Write as WriteVerb, Read as ReadVerb, WritePi as WritePiVerb, ReadPi as ReadPiVerb, Overwrite as OverwriteVerb}
 use Rattle.script_lines.specs.Reading.{Got, ◌>>=◌, either, ended, fixed, some_of, value}
 use Rattle.volume_table.specs.declared.TheConstants.{MOST_LENGTH}
 use Rattle.pi_tuple.specs.declared.TheConstants.{LARGEST_BLOCK}
@@ -208,6 +208,13 @@ tear_form size ws = do
   bytes ← value (number_within 1 (size + 7)) k.1
   ended (Keep op.0 k.0 bytes.0) bytes.1
 
+-- fail OP K
+unfoldable pub fail_form : List (List ℕ) → Result ScriptLine ScriptKind
+fail_form ws = do
+  op ← value (number_within 1 1024) ws
+  k ← value (number_within 0 2047) op.1
+  ended (Fail op.0 k.0) k.1
+
 -- schedule E ..
 unfoldable pub schedule_form : List (List ℕ) → Result ScriptLine ScriptKind
 schedule_form ws = do
@@ -337,6 +344,7 @@ line_form FaultVerb size ws = fault_form size ws
 line_form ShiftVerb size ws = shift_form ws
 line_form LoseVerb size ws = lose_form ws
 line_form TearVerb size ws = tear_form size ws
+line_form FailVerb size ws = fail_form ws
 line_form ScheduleVerb size ws = schedule_form ws
 line_form BeginVerb size ws = ended Begin ws
 line_form verb size ws = as_line (op_form verb size ws)

@@ -1,7 +1,7 @@
 use Rattle.std.specs.Prelude.{ℕ, Bool, true, false, ◌||◌, eqb, if◌then◌else◌, List, codes, Option, Some, None}
 use Rattle.std.specs.Str.{bytes_eq}
 use Rattle.script_lines.specs.declared.verb.Verb.{Verb}
-use Rattle.script_lines.specs.declared.verb.Verb.TheVariants.{Dix, Mode, Limits, Pages, Block, Expect, Inner, Linear, Stripe, Over, Fault, Shift, Lose, Tear, Schedule, Begin, Fill, Put, Show, Seal, Write, Read, WritePi, ReadPi, Overwrite, Wait}
+use Rattle.script_lines.specs.declared.verb.Verb.TheVariants.{Dix, Mode, Limits, Pages, Block, Expect, Inner, Linear, Stripe, Over, Fault, Shift, Lose, Tear, Fail, Schedule, Begin, Fill, Put, Show, Seal, Write, Read, WritePi, ReadPi, Overwrite, Wait}
 use Rattle.script_lines.specs.declared.verb.ScriptVersion.{ScriptVersion}
 use Rattle.script_lines.specs.declared.verb.ScriptVersion.TheVariants.{One, Two, Three}
 use Rattle.script_lines.specs.declared.verb.Section.{Section}
@@ -40,7 +40,8 @@ volume_verb_of word =
     else (if bytes_eq word (codes "shift") then Some Shift
     else (if bytes_eq word (codes "lose") then Some Lose
     else (if bytes_eq word (codes "tear") then Some Tear
-    else page_verb_of word)))))))
+    else (if bytes_eq word (codes "fail") then Some Fail
+    else page_verb_of word))))))))
 
 -- what a line with this first word is
 abbrev pub verb_of : List ℕ → Option Verb
@@ -69,6 +70,7 @@ section_of Fault = AtFault
 section_of Shift = AtFault
 section_of Lose = AtFault
 section_of Tear = AtFault
+section_of Fail = AtFault
 section_of Schedule = AtSchedule
 section_of Begin = AtBegin
 section_of Fill = AtOp
@@ -90,6 +92,7 @@ version_of_verb Inner = Two
 version_of_verb Over = Two
 version_of_verb Lose = Three
 version_of_verb Tear = Three
+version_of_verb Fail = Three
 version_of_verb _ = One
 
 -- A script of the first version may have the lines that the second brought: each has those of the versions before it.

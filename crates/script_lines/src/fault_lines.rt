@@ -1,7 +1,7 @@
-//! The lines `fault`, `shift`, `lose`, `tear` and `schedule`.
+//! The lines `fault`, `shift`, `lose`, `tear`, `fail` and `schedule`.
 
 ghost use Rattle.std.specs.Prelude.{◌≡◌, ◌≤◌, IfOk};
-ghost use Rattle.script_lines.specs.Forms.{IsSound, any_spot_in, fault_form, flip_form, flip_spot, lose_form, schedule_form, shift_form, shift_spot, tear_form, wire_or_medium_in};
+ghost use Rattle.script_lines.specs.Forms.{IsSound, any_spot_in, fail_form, fault_form, flip_form, flip_spot, lose_form, schedule_form, shift_form, shift_spot, tear_form, wire_or_medium_in};
 ghost use Rattle.script_lines.specs.Reading.{IsUnless, Reads, value};
 ghost use Rattle.script_words.specs.Numbers.{signed_within};
 ghost use Rattle.pi_tuple.specs.declared.TheConstants.{LARGEST_BLOCK};
@@ -133,6 +133,18 @@ pub(crate) fn tear_line(words: &mut Words, size: u32) -> Result<ScriptLine, Scri
     let bytes = words.small(1, size + 7)?;
     words.end()?;
     Ok(ScriptLine::Keep { op, k, bytes })
+}
+
+/// `fail OP K`
+#[tactic(auto, unfolding(crate::specs::Forms::fail_form))]
+pub(crate) fn fail_line(words: &mut Words) -> Result<ScriptLine, ScriptKind>
+    ensures value { result ≡ fail_form words.old }
+    ensures sound { IfOk result IsSound }
+{
+    let op = words.small(1, 1024)?;
+    let k = words.small(0, 2047)?;
+    words.end()?;
+    Ok(ScriptLine::Fail { op, k })
 }
 
 impl Listed for (u32, u32) {

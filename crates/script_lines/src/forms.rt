@@ -6,7 +6,7 @@ ghost use Rattle.script_lines.specs.Reading.{IsUnless, ended};
 ghost use Rattle.script_lines.specs.declared.line.ScriptLine.{ScriptLine};
 ghost use Rattle.pi_tuple.specs.declared.TheConstants.{LARGEST_BLOCK};
 
-use crate::fault_lines::{fault_line, lose_line, schedule_line, shift_line, tear_line};
+use crate::fault_lines::{fail_line, fault_line, lose_line, schedule_line, shift_line, tear_line};
 use crate::header_lines::{block_line, expect_line, limits_line, mode_line, pages_line};
 use crate::op_lines::{
     fill_line, overwrite_line, put_line, read_line, readpi_line, seal_line, show_line, wait_line,
@@ -50,6 +50,7 @@ pub fn line_of(
         Verb::Shift => shift_line(words),
         Verb::Lose => lose_line(words),
         Verb::Tear => tear_line(words, size),
+        Verb::Fail => fail_line(words),
         Verb::Schedule => schedule_line(alloc, words),
         Verb::Begin => begin_line(words),
         Verb::Fill => Ok(ScriptLine::Op(fill_line(words)?)),

@@ -163,6 +163,11 @@ pub enum ScriptLine {
         k: u32,
         bytes: u32,
     },
+    /// `fail OP K`
+    Fail {
+        op: u32,
+        k: u32,
+    },
     /// `schedule E ..`
     Schedule(WordList),
     /// `begin`

@@ -31,6 +31,7 @@ pub enum Verb {
     Shift,
     Lose,
     Tear,
+    Fail,
     Schedule,
     Begin,
     Fill,
@@ -97,6 +98,9 @@ fn volume_verb_of(word: &[u8]) -> Option<Verb>
     }
     if word == b"tear".as_slice() {
         return Some(Verb::Tear);
+    }
+    if word == b"fail".as_slice() {
+        return Some(Verb::Fail);
     }
     page_verb_of(word)
 }
@@ -182,7 +186,7 @@ impl Verb {
             Verb::Expect => Section::Expect,
             Verb::Inner => Section::Inner,
             Verb::Linear | Verb::Stripe | Verb::Over => Section::Volume,
-            Verb::Fault | Verb::Shift | Verb::Lose | Verb::Tear => Section::Fault,
+            Verb::Fault | Verb::Shift | Verb::Lose | Verb::Tear | Verb::Fail => Section::Fault,
             Verb::Schedule => Section::Schedule,
             Verb::Begin => Section::Begin,
             _ => Section::Op,
@@ -194,7 +198,7 @@ impl Verb {
         ensures { result ≡ version_of_verb self }
     {
         match self {
-            Verb::Lose | Verb::Tear => ScriptVersion::Three,
+            Verb::Lose | Verb::Tear | Verb::Fail => ScriptVersion::Three,
             Verb::Block | Verb::Expect | Verb::Inner | Verb::Over => ScriptVersion::Two,
             _ => ScriptVersion::One,
         }

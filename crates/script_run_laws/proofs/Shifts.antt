@@ -9,7 +9,7 @@ use Rattle.fault_schedule.specs.Altered.{is_same, moved_by, shift_of}
 use Rattle.fault_schedule.specs.declared.fault.Crossing.{Crossing}
 use Rattle.fault_schedule.specs.declared.fault.Crossing.TheVariants.{AdapterToHost, AdapterToTarget, HostToAdapter, MediumToTarget, TargetToAdapter, TargetToMedium}
 use Rattle.fault_schedule.specs.declared.fault.FaultKind.{FaultKind}
-use Rattle.fault_schedule.specs.declared.fault.FaultKind.TheVariants.{Flip as FlipKind, Shift as ShiftKind, Keep as KeepKind}
+use Rattle.fault_schedule.specs.declared.fault.FaultKind.TheVariants.{Flip as FlipKind, Shift as ShiftKind, Keep as KeepKind, Fail as FailKind}
 use Rattle.fault_schedule.specs.declared.fault.FaultLine.{FaultLine}
 use Rattle.stack_walk_laws.specs.Passed.{stored_cell, moved}
 use Rattle.volume_table.specs.declared.device.DeviceInfo.{DeviceInfo}
@@ -161,6 +161,7 @@ first-shift : (mine : Bool) (kind : FaultKind) (rest : ℤ) → (unwrap_or (if m
 first-shift false kind rest = inl refl
 first-shift true (FlipKind off bytes) rest = inl refl
 first-shift true (KeepKind bytes) rest = inl refl
+first-shift true FailKind rest = inl refl
 first-shift true (ShiftKind by) rest = inr (record { by = by; here = refl; kind_is = refl; same = refl })
 
 -- such a line isn't at fault on its request

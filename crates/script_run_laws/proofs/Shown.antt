@@ -6,7 +6,7 @@ use Rattle.fault_schedule.specs.Altered.{is_same, moved_by, shift_of}
 use Rattle.fault_schedule.specs.declared.fault.Crossing.{Crossing}
 use Rattle.fault_schedule.specs.declared.fault.Crossing.TheVariants.{AdapterToTarget}
 use Rattle.fault_schedule.specs.declared.fault.FaultKind.{FaultKind}
-use Rattle.fault_schedule.specs.declared.fault.FaultKind.TheVariants.{Flip as FlipKind, Shift as ShiftKind, Keep as KeepKind}
+use Rattle.fault_schedule.specs.declared.fault.FaultKind.TheVariants.{Flip as FlipKind, Shift as ShiftKind, Keep as KeepKind, Fail as FailKind}
 use Rattle.fault_schedule.specs.declared.fault.FaultLine.{FaultLine}
 use Rattle.pi_tuple.specs.declared.checks.PiType.TheVariants.{One}
 use Rattle.rig_api.specs.Target.{Stored}
@@ -47,6 +47,7 @@ shift-near size ops (f ∷ faults) e at op = by (is_same f.at at && eqb f.op op)
     by true (FlipKind off bytes) k rest h = h
     by true (ShiftKind moves) k rest h = abs-near moves k.2
     by true (KeepKind bytes) k rest h = h
+    by true FailKind k rest h = h
 
 -- what binding op i to the volume has of a request: its blocks are shifted by little, and fetched where the device has blocks
 record IsReached (s : Script) (t : Table) (us : List Stored) (i v n : ℕ) : Type 0 where

@@ -1,6 +1,6 @@
 mod Drawing
 pub mod Filled
-mod Lines
+pub mod Lines
 pub mod Passed
 mod Sharing
 pub mod Staying

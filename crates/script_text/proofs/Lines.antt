@@ -20,14 +20,8 @@ left t devices size ops faults lines i f h l e =
     ap (λ fs. faults_fault t devices size ops (take i faults) fs (drop i lines)) (drop-cons faults i f h ∙ ap (λ x. x ∷ drop (suc i) faults) e)
     ∙ ap (faults_fault t devices size ops (take i faults) (f ∷ drop (suc i) faults)) (drop-cons lines i 0 l)
 
-pub at_fault : (t : Table) (devices : List DeviceInfo) (size : ℕ) (ops : List Op) (faults : List FaultLine) (lines : List ℕ) (i : ℕ) (f : FaultLine) → i < length faults → i < length lines → get_or faults i f ≡ f
-    → is_bad_on t devices size (take i faults) f (request_at ops f.op) ≡ true
-    → faults_fault t devices size ops (take i faults) (drop i faults) (drop i lines) ≡ Some (record { line = get_or lines i 0; kind = BadFault })
-at_fault t devices size ops faults lines i f h l e bad =
-    left t devices size ops faults lines i f h l e
-    ∙ ap (λ b. if b then Some (record { line = get_or lines i 0; kind = BadFault }) else faults_fault t devices size ops (take i faults ++ (f ∷ [])) (drop (suc i) faults) (drop (suc i) lines)) bad
-
-taken_more : (faults : List FaultLine) (i : ℕ) (f : FaultLine) → i < length faults → get_or faults i f ≡ f → take (i + 1) faults ≡ take i faults ++ (f ∷ [])
+-- the lines up to the next one
+pub taken_more : (faults : List FaultLine) (i : ℕ) (f : FaultLine) → i < length faults → get_or faults i f ≡ f → take (i + 1) faults ≡ take i faults ++ (f ∷ [])
 taken_more faults i f h e = ap (λ k. take k faults) (add-one i) ∙ take-suc faults i f h ∙ ap (λ x. take i faults ++ (x ∷ [])) e
 
 pub passes : (t : Table) (devices : List DeviceInfo) (size : ℕ) (ops : List Op) (faults : List FaultLine) (lines : List ℕ) (i : ℕ) (f : FaultLine) → i < length faults → i < length lines → get_or faults i f ≡ f
@@ -38,9 +32,6 @@ passes t devices size ops faults lines i f h l e good =
     ∙ ap (λ b. if b then Some (record { line = get_or lines i 0; kind = BadFault }) else faults_fault t devices size ops (take i faults ++ (f ∷ [])) (drop (suc i) faults) (drop (suc i) lines)) good
     ∙ ap (λ fs. faults_fault t devices size ops fs (drop (suc i) faults) (drop (suc i) lines)) (sym (taken_more faults i f h e))
     ∙ ap (λ k. faults_fault t devices size ops (take (i + 1) faults) (drop k faults) (drop k lines)) (sym (add-one i))
-
-pub no_faults_left : (t : Table) (devices : List DeviceInfo) (size : ℕ) (ops : List Op) (faults : List FaultLine) (lines : List ℕ) (i : ℕ) → length faults ≤ i → faults_fault t devices size ops (take i faults) (drop i faults) (drop i lines) ≡ None
-no_faults_left t devices size ops faults lines i h = ap (λ fs. faults_fault t devices size ops (take i faults) fs (drop i lines)) (drop_of_length-le faults h)
 
 -- The op at i is the first of those that are left.
 ops_left : (t : Table) (devices : List DeviceInfo) (size : ℕ) (ops : List Op) (lines : List ℕ) (k i : ℕ) (op : Op) → i < length ops → k + i < length lines → get_or ops i op ≡ op

@@ -3,7 +3,7 @@ use Rattle.std.specs.List.{list_any}
 use Rattle.fault_schedule.specs.declared.fault.Crossing.{Crossing}
 use Rattle.fault_schedule.specs.declared.fault.Crossing.TheVariants.{TargetToMedium}
 use Rattle.fault_schedule.specs.declared.fault.FaultKind.{FaultKind}
-use Rattle.fault_schedule.specs.declared.fault.FaultKind.TheVariants.{Flip as FlipKind, Shift as ShiftKind, Keep as KeepKind}
+use Rattle.fault_schedule.specs.declared.fault.FaultKind.TheVariants.{Flip as FlipKind, Shift as ShiftKind, Keep as KeepKind, Fail as FailKind}
 use Rattle.fault_schedule.specs.declared.fault.FaultLine.{FaultLine}
 use Rattle.pi_tuple.specs.declared.TheConstants.{TUPLE}
 use Rattle.pi_tuple.specs.declared.checks.PiType.{PiType}
@@ -68,6 +68,7 @@ abbrev pub is_shift : FaultKind → Bool
 is_shift (FlipKind off bytes) = false
 is_shift (ShiftKind by) = true
 is_shift (KeepKind bytes) = false
+is_shift FailKind = false
 
 -- The line shifts the op of this number.
 abbrev pub shifts : ℕ → FaultLine → Bool
@@ -77,26 +78,31 @@ abbrev pub is_at_medium : Crossing → Bool
 is_at_medium TargetToMedium = true
 is_at_medium _ = false
 
--- The medium doesn't keep all of a write, which no version before 3 can say.
-abbrev pub is_keep : FaultKind → Bool
-is_keep (FlipKind off bytes) = false
-is_keep (ShiftKind by) = false
-is_keep (KeepKind bytes) = true
+-- The medium itself fails: it doesn't keep all of a write, or can't store or send a block. No version before 3 can say so.
+abbrev pub is_of_medium : FaultKind → Bool
+is_of_medium (FlipKind off bytes) = false
+is_of_medium (ShiftKind by) = false
+is_of_medium (KeepKind bytes) = true
+is_of_medium FailKind = true
 
-abbrev pub is_keep_line : FaultLine → Bool
-is_keep_line f = is_keep f.kind
+abbrev pub is_of_medium_line : FaultLine → Bool
+is_of_medium_line f = is_of_medium f.kind
 
 -- how many bytes the medium stores of a block
 abbrev pub stored_bytes : PiType → (size : ℕ) → ℕ
 stored_bytes ty size = if has_no_tuples ty then size else size + TUPLE
 
--- The line loses or tears this block.
-abbrev pub keeps_block : (op k : ℕ) → FaultLine → Bool
-keeps_block op k f = eqb op f.op && (eqb k f.k && is_keep f.kind)
+-- The line says that the medium loses, tears or fails this block.
+abbrev pub names_block : (op k : ℕ) → FaultLine → Bool
+names_block op k f = eqb op f.op && (eqb k f.k && is_of_medium f.kind)
 
 -- A lost or torn block is one of a write, of which the medium stores less than all, and that no earlier line names.
 abbrev pub is_bad_keep : (stored : ℕ) → (earlier : List FaultLine) → FaultLine → (bytes : ℕ) → Bool
-is_bad_keep stored earlier f bytes = not (is_at_medium f.at) || (nat_le stored bytes || list_any (keeps_block f.op f.k) earlier)
+is_bad_keep stored earlier f bytes = not (is_at_medium f.at) || (nat_le stored bytes || list_any (names_block f.op f.k) earlier)
+
+-- A block that the medium fails, of a write or a read, is one that no earlier line names so.
+abbrev pub is_bad_fail : (earlier : List FaultLine) → FaultLine → Bool
+is_bad_fail earlier f = list_any (names_block f.op f.k) earlier
 
 -- A shift needs tuples of type 1, isn't on the medium of a write, comes once for an op, and keeps each block on its device.
 abbrev pub is_bad_shift : Table → List DeviceInfo → (earlier : List FaultLine) → FaultLine → ℕ × ℕ → (by : ℤ) → Bool
@@ -108,6 +114,7 @@ abbrev pub is_bad_kind : Table → List DeviceInfo → (size : ℕ) → (earlier
 is_bad_kind t devices size earlier f request (FlipKind off bytes) = false
 is_bad_kind t devices size earlier f request (ShiftKind by) = is_bad_shift t devices earlier f request by
 is_bad_kind t devices size earlier f request (KeepKind bytes) = is_bad_keep (stored_bytes t.ty size) earlier f bytes
+is_bad_kind t devices size earlier f request FailKind = is_bad_fail earlier f
 
 -- A fault line behind these is at fault on this request: there is none, or it hasn't the block, or the line's kind can't be.
 abbrev pub is_bad_on : Table → List DeviceInfo → (size : ℕ) → (earlier : List FaultLine) → FaultLine → Option (ℕ × ℕ) → Bool

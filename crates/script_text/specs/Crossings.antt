@@ -2,7 +2,7 @@ use Rattle.std.specs.Prelude.{ℕ, ◌-◌, Bool, true, false, List, Option, Som
 use Rattle.fault_schedule.specs.declared.fault.Crossing.{Crossing}
 use Rattle.fault_schedule.specs.declared.fault.Crossing.TheVariants.{HostToAdapter, AdapterToTarget, TargetToMedium, MediumToTarget, TargetToAdapter, AdapterToHost}
 use Rattle.fault_schedule.specs.declared.fault.FaultKind.{FaultKind}
-use Rattle.fault_schedule.specs.declared.fault.FaultKind.TheVariants.{Flip, Shift, Keep}
+use Rattle.fault_schedule.specs.declared.fault.FaultKind.TheVariants.{Flip, Shift, Keep, Fail}
 use Rattle.fault_schedule.specs.declared.fault.FaultLine.{FaultLine}
 use Rattle.script_lines.specs.declared.line.Spot.{Spot}
 use Rattle.script_lines.specs.declared.line.Spot.TheVariants.{Host, Wire, Medium}
@@ -16,6 +16,7 @@ read_crossing Host kind = AdapterToHost
 read_crossing Wire (Flip off bytes) = TargetToAdapter
 read_crossing Wire (Shift by) = AdapterToTarget
 read_crossing Wire (Keep bytes) = TargetToAdapter
+read_crossing Wire Fail = TargetToAdapter
 read_crossing Medium kind = MediumToTarget
 
 -- the same for any other op

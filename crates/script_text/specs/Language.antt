@@ -1,7 +1,7 @@
 use Rattle.std.specs.Prelude.{ℕ, ◌≡◌, ◌⊎◌, ◌+◌, Bool, true, false, not, ◌||◌, ◌&&◌, eqb, nat_lt, if◌then◌else◌, List, [], ◌∷◌, ◌++◌, length, map, codes, Option, Some, None, Result, Ok, Err}
 use Rattle.std.specs.Str.{bytes_eq}
 use Rattle.pi_guard.specs.declared.GuardKind.TheVariants.{Crc}
-use Rattle.fault_schedule.specs.declared.fault.FaultKind.TheVariants.{Flip as FlipKind, Shift as ShiftKind, Keep as KeepKind}
+use Rattle.fault_schedule.specs.declared.fault.FaultKind.TheVariants.{Flip as FlipKind, Shift as ShiftKind, Keep as KeepKind, Fail as FailKind}
 use Rattle.script_words.specs.Cuts.{is_plain, lines_of, words_of}
 use Rattle.script_lines.specs.declared.kind.ScriptKind.{ScriptKind}
 use Rattle.script_lines.specs.declared.kind.ScriptKind.TheVariants.{NotAscii, LongLine, UnknownWord, OutOfPlace, TooMany, NoHeader, Memory}
@@ -9,7 +9,7 @@ use Rattle.block_path.specs.declared.mode.Mode.{Mode as FullMode}
 use Rattle.script_lines.specs.declared.line.ModeLine.{ModeLine}
 use Rattle.script_lines.specs.declared.line.OpLine.{OpLine}
 use Rattle.script_lines.specs.declared.line.ScriptLine.{ScriptLine}
-use Rattle.script_lines.specs.declared.line.ScriptLine.TheVariants.{Mode, Limits, Pages, Block, Expect, Inner, Linear, Stripe, Over, Flip, Shift, Keep, Schedule, Begin, Op}
+use Rattle.script_lines.specs.declared.line.ScriptLine.TheVariants.{Mode, Limits, Pages, Block, Expect, Inner, Linear, Stripe, Over, Flip, Shift, Keep, Fail, Schedule, Begin, Op}
 use Rattle.script_lines.specs.declared.line.Spot.TheVariants.{Medium}
 use Rattle.script_lines.specs.declared.verb.Verb.{Verb}
 use Rattle.script_lines.specs.declared.verb.ScriptVersion.{ScriptVersion}
@@ -86,6 +86,7 @@ abbrev pub fault_line_taken : ℕ → ScriptLine → Drafted → Result Drafted 
 fault_line_taken number (Flip op k spot off bytes) d = fault_taken number (record { op = op; k = k; spot = spot; kind = FlipKind off bytes }) d
 fault_line_taken number (Shift op spot by) d = fault_taken number (record { op = op; k = 0; spot = spot; kind = ShiftKind by }) d
 fault_line_taken number (Keep op k bytes) d = fault_taken number (record { op = op; k = k; spot = Medium; kind = KeepKind bytes }) d
+fault_line_taken number (Fail op k) d = fault_taken number (record { op = op; k = k; spot = Medium; kind = FailKind }) d
 fault_line_taken number line d = Ok d
 
 -- what is read with a line of the volume, or of a fault

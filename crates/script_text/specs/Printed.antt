@@ -5,7 +5,7 @@ use Rattle.hex.specs.Hex.{encode_lower}
 use Rattle.block_path.specs.declared.mode.Mode.{Mode}
 use Rattle.fault_schedule.specs.declared.fault.Crossing.{Crossing}
 use Rattle.fault_schedule.specs.declared.fault.Crossing.TheVariants.{HostToAdapter, AdapterToTarget, TargetToMedium, MediumToTarget, TargetToAdapter, AdapterToHost}
-use Rattle.fault_schedule.specs.declared.fault.FaultKind.TheVariants.{Flip, Shift, Keep}
+use Rattle.fault_schedule.specs.declared.fault.FaultKind.TheVariants.{Flip, Shift, Keep, Fail}
 use Rattle.fault_schedule.specs.declared.fault.FaultLine.{FaultLine}
 use Rattle.fault_schedule.specs.declared.fault.FaultKind.{FaultKind}
 use Rattle.merge_queue.specs.declared.Limits.{Limits}
@@ -23,7 +23,7 @@ use Rattle.std.specs.List.{list_any}
 use Rattle.script_lines.specs.Verbs.{is_new}
 use Rattle.script_lines.specs.declared.verb.ScriptVersion.{ScriptVersion}
 use Rattle.script_lines.specs.declared.verb.ScriptVersion.TheVariants.{One, Two, Three}
-use Rattle.script_text.specs.Bindings.{is_keep_line}
+use Rattle.script_text.specs.Bindings.{is_of_medium_line}
 use Rattle.script_text.specs.declared.script.Script.{Script}
 
 -- The text of a script, line by line.
@@ -69,7 +69,7 @@ is_past_one block mask = not (eqb block 512) || not (eqb mask 0)
 
 -- the first version that can say all that a script does
 abbrev pub version_for : List FaultLine → (block mask : ℕ) → ScriptVersion
-version_for faults block mask = if list_any is_keep_line faults then Three else (if is_past_one block mask then Two else One)
+version_for faults block mask = if list_any is_of_medium_line faults then Three else (if is_past_one block mask then Two else One)
 
 abbrev pub version_text : ScriptVersion → List ℕ
 version_text One = codes "dix 1\n"
@@ -124,10 +124,14 @@ change_text (CopyChange dev lba) = codes " from " ++ (decimal dev ++ (codes " " 
 abbrev pub keep_text : (op k bytes : ℕ) → List ℕ
 keep_text op k bytes = if eqb bytes 0 then codes "lose " ++ (pair_text op (codes " ") k ++ codes "\n") else codes "tear " ++ (pair_text op (codes " ") k ++ (codes " " ++ (decimal bytes ++ codes "\n")))
 
+abbrev pub fail_text : (op k : ℕ) → List ℕ
+fail_text op k = codes "fail " ++ (pair_text op (codes " ") k ++ codes "\n")
+
 abbrev pub fault_by : FaultLine → FaultKind → List ℕ
 fault_by f (Flip off bytes) = codes "fault " ++ (pair_text f.op (codes " ") f.k ++ (spot_text f.at ++ (change_text (FlipChange off bytes) ++ codes "\n")))
 fault_by f (Shift by) = codes "shift " ++ (decimal f.op ++ (spot_text f.at ++ (codes " " ++ (signed_decimal by ++ codes "\n"))))
 fault_by f (Keep bytes) = keep_text f.op f.k bytes
+fault_by f Fail = fail_text f.op f.k
 
 abbrev pub fault_text : FaultLine → List ℕ
 fault_text f = fault_by f f.kind

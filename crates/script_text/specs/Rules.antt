@@ -5,7 +5,7 @@ use Rattle.script_lines.specs.declared.kind.ScriptKind.TheVariants.{TooMany, Bad
 use Rattle.script_lines.specs.declared.line.OpLine.{OpLine}
 use Rattle.script_lines.specs.declared.line.OpLine.TheVariants.{Seal, Write, Read, WritePi, ReadPi}
 use Rattle.script_lines.specs.declared.line.ScriptLine.{ScriptLine}
-use Rattle.script_lines.specs.declared.line.ScriptLine.TheVariants.{Expect, Inner, Linear, Stripe, Flip, Shift, Keep, Schedule, Op}
+use Rattle.script_lines.specs.declared.line.ScriptLine.TheVariants.{Expect, Inner, Linear, Stripe, Flip, Shift, Keep, Fail, Schedule, Op}
 use Rattle.script_text.specs.Drafts.{Drafted}
 use Rattle.bio_core.specs.declared.TheConstants.{MOST_BLOCKS}
 use Rattle.pi_tuple.specs.declared.TheConstants.{TUPLE}
@@ -57,6 +57,7 @@ is_too_many d (Stripe start len chunk legs) = nat_le MOST_ENTRIES (length d.entr
 is_too_many d (Flip op k spot off bytes) = nat_le MOST_FAULTS (length d.faults)
 is_too_many d (Shift op spot by) = nat_le MOST_FAULTS (length d.faults)
 is_too_many d (Keep op k bytes) = nat_le MOST_FAULTS (length d.faults)
+is_too_many d (Fail op k) = nat_le MOST_FAULTS (length d.faults)
 is_too_many d (Schedule entries) = nat_lt MOST_SCHEDULE (length d.schedule + length entries)
 is_too_many d (Op op) = is_op_too_many d op
 is_too_many d _ = false

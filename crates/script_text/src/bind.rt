@@ -2,11 +2,11 @@
 
 ghost use Rattle.std.specs.Prelude.{◌≡◌, ◌<◌, ◌≤◌, ◌+◌, [], Some, None, MatchResult, drop, length};
 ghost use Rattle.std.specs.List.{list_any};
-ghost use Rattle.script_text.specs.Bindings.{binding_fault, block_stays, blocks_stay, expect_fault, faults_fault, is_bad_keep, is_bad_on, is_bad_shift, keeps_block, op_fault, ops_fault, request_at, shifts, stored_bytes};
+ghost use Rattle.script_text.specs.Bindings.{binding_fault, block_stays, blocks_stay, expect_fault, faults_fault, is_bad_fail, is_bad_keep, is_bad_on, is_bad_shift, names_block, op_fault, ops_fault, request_at, shifts, stored_bytes};
 ghost use Rattle.volume_table.specs.Places.{volume_len};
 
 use crate::against::{Against, can_alter, is_bad_change, is_on, request, request_at};
-use crate::kinds::{is_keep, is_shift};
+use crate::kinds::{is_of_medium, is_shift};
 use crate::{Script, ScriptFault, ScriptKind};
 use fault_schedule::{Crossing, FaultKind, FaultLine};
 use pi_tuple::{PiType, TUPLE};
@@ -43,7 +43,7 @@ fn stays_on(against: Against, v: u64, n: u32, by: i64) -> bool
 }
 
 /// Whether one of these lines shifts the op of this number.
-fn is_shifted(lines: &[FaultLine], op: u32) -> bool
+pub fn is_shifted(lines: &[FaultLine], op: u32) -> bool
     ensures { result ≡ list_any (shifts op) lines.now }
 {
     lines
@@ -69,13 +69,11 @@ fn is_bad_shift(
         || !stays_on(against, v, n, by)
 }
 
-/// Whether one of these lines loses or tears this block.
-fn is_kept(lines: &[FaultLine], op: u32, k: u32) -> bool
-    ensures { result ≡ list_any (keeps_block op k) lines.now }
+/// Whether one of these lines says that the medium loses, tears or fails this block.
+pub fn is_named(lines: &[FaultLine], op: u32, k: u32) -> bool
+    ensures { result ≡ list_any (names_block op k) lines.now }
 {
-    lines
-        .iter()
-        .any(|line| op == line.op && k == line.k && is_keep(&line.kind))
+    lines.iter().any(|line| op == line.op && k == line.k && is_of_medium(&line.kind))
 }
 
 /// How many bytes the medium of a unit of this type stores of a block.
@@ -89,13 +87,20 @@ pub fn stored_bytes(ty: PiType, size: u32) -> u64
 }
 
 /// Whether a line behind these can't lose or tear its block: of an op that isn't a write, of no
-/// less than the `stored` bytes of a block, or of a block that an earlier line loses or tears.
+/// less than the `stored` bytes of a block, or of a block that an earlier line loses, tears or fails.
 pub fn is_bad_keep(stored: u64, earlier: &[FaultLine], line: &FaultLine, bytes: u32) -> bool
     ensures { result ≡ is_bad_keep stored earlier.now line.now bytes }
 {
     line.at != Crossing::TargetToMedium
         || u64::from(bytes) >= stored
-        || is_kept(earlier, line.op, line.k)
+        || is_named(earlier, line.op, line.k)
+}
+
+/// Whether a line behind these can't fail its block, as an earlier line loses, tears or fails it.
+pub fn is_bad_fail(earlier: &[FaultLine], line: &FaultLine) -> bool
+    ensures { result ≡ is_bad_fail earlier.now line.now }
+{
+    is_named(earlier, line.op, line.k)
 }
 
 /// Whether a fault line behind these can't be.
@@ -115,6 +120,7 @@ fn is_bad_fault(against: Against, earlier: &[FaultLine], line: &FaultLine, ops: 
             let stored = stored_bytes(against.table.ty(), against.size);
             is_bad_keep(stored, earlier, line, bytes)
         }
+        FaultKind::Fail => is_bad_fail(earlier, line),
     }
 }
 

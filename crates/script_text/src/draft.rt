@@ -184,6 +184,12 @@ impl Draft {
                 spot: Spot::Medium,
                 kind: FaultKind::Keep { bytes },
             },
+            ScriptLine::Fail { op, k } => RawFault {
+                op,
+                k,
+                spot: Spot::Medium,
+                kind: FaultKind::Fail,
+            },
             _ => return Ok(()),
         };
         self.add_fault(number, fault)

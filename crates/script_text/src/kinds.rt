@@ -1,7 +1,7 @@
 //! Faults by their kind.
 
 ghost use Rattle.std.specs.Prelude.{◌≡◌};
-ghost use Rattle.script_text.specs.Bindings.{is_keep, is_shift};
+ghost use Rattle.script_text.specs.Bindings.{is_of_medium, is_shift};
 
 use fault_schedule::FaultKind;
 
@@ -14,12 +14,12 @@ pub(crate) fn is_shift(kind: &FaultKind) -> bool
     }
 }
 
-/// Whether the medium doesn't keep all of a write.
-pub(crate) fn is_keep(kind: &FaultKind) -> bool
-    ensures { result ≡ is_keep kind.now }
+/// Whether the medium itself fails: it doesn't keep all of a write, or can't store or send a block.
+pub(crate) fn is_of_medium(kind: &FaultKind) -> bool
+    ensures { result ≡ is_of_medium kind.now }
 {
     match kind {
-        FaultKind::Keep { .. } => true,
+        FaultKind::Keep { .. } | FaultKind::Fail => true,
         _ => false,
     }
 }

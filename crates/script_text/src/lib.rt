@@ -23,7 +23,7 @@ mod trees;
 
 pub use against::{Against, can_alter, is_bad_change, request_at};
 pub use big::big_script;
-pub use bind::{bind_script, is_bad_keep, stored_bytes};
+pub use bind::{bind_script, is_bad_fail, is_bad_keep, is_named, is_shifted, stored_bytes};
 pub use fault::ScriptFault;
 pub use print::print_script;
 pub use read::read_script;

@@ -5,12 +5,12 @@ ghost use Rattle.std.specs.List.{list_any};
 ghost use Rattle.fault_schedule.specs.declared.fault.FaultKind.{FaultKind};
 ghost use Rattle.rig_api.specs.declared.change.Change.{Change};
 ghost use Rattle.stack_ops.specs.declared.op.Op.{Op};
-ghost use Rattle.script_text.specs.Bindings.{is_keep_line};
+ghost use Rattle.script_text.specs.Bindings.{is_of_medium_line};
 ghost use Rattle.volume_table.specs.declared.entry.Entry.{Entry};
-ghost use Rattle.script_text.specs.Printed.{app_text, block_text, change_text, cut_text, entries_text, entry_text, expect_text, expected_text, fault_by, fault_text, faults_text, front_text, guard_text, is_past_one, keep_text, limits_text, mode_text, new_lines, op_text, op_words, ops_text, pages_text, pair_text, request_text, schedule_line, schedule_text, script_printed, seal_front, spot_text, tags_text, tuples_text, version_for, version_text};
+ghost use Rattle.script_text.specs.Printed.{app_text, block_text, change_text, cut_text, entries_text, entry_text, expect_text, expected_text, fail_text, fault_by, fault_text, faults_text, front_text, guard_text, is_past_one, keep_text, limits_text, mode_text, new_lines, op_text, op_words, ops_text, pages_text, pair_text, request_text, schedule_line, schedule_text, script_printed, seal_front, spot_text, tags_text, tuples_text, version_for, version_text};
 
 use crate::Script;
-use crate::kinds::is_keep;
+use crate::kinds::is_of_medium;
 use crate::text::Text;
 use block_path::Mode;
 use dix_base::ByteList;
@@ -229,6 +229,14 @@ impl Text {
         self.add(b"\n")
     }
 
+    fn fail_line(&mut self, op: u32, k: u32) -> Result<(), AllocError>
+        ensures { OnOk result (self.new.bytes.items ≡ self.old.bytes.items ++ fail_text op k) }
+    {
+        self.add(b"fail ")?;
+        self.pair(u64::from(op), b" ", u64::from(k))?;
+        self.add(b"\n")
+    }
+
     fn fault(&mut self, line: &FaultLine) -> Result<(), AllocError>
         ensures { OnOk result (self.new.bytes.items ≡ self.old.bytes.items ++ fault_text line.now) }
     {
@@ -236,6 +244,7 @@ impl Text {
             FaultKind::Flip { off, bytes } => self.flip_line(line, *off, bytes.as_slice()),
             FaultKind::Shift { by } => self.shift_line(line, *by),
             FaultKind::Keep { bytes } => self.keep_line(line.op, line.k, *bytes),
+            FaultKind::Fail => self.fail_line(line.op, line.k),
         }
     }
 
@@ -442,10 +451,10 @@ impl Text {
 }
 
 /// Whether one of these lines says what no version before 3 can.
-fn has_keeps(faults: &[FaultLine]) -> bool
-    ensures { result ≡ list_any is_keep_line faults.now }
+fn has_third(faults: &[FaultLine]) -> bool
+    ensures { result ≡ list_any is_of_medium_line faults.now }
 {
-    faults.iter().any(|line| is_keep(&line.kind))
+    faults.iter().any(|line| is_of_medium(&line.kind))
 }
 
 /// Whether the script says what no version before 2 can.
@@ -459,7 +468,7 @@ fn is_past_one(block: u32, mask: u16) -> bool
 fn version_for(faults: &[FaultLine], block: u32, mask: u16) -> ScriptVersion
     ensures { result ≡ version_for faults.now block mask }
 {
-    if has_keeps(faults) {
+    if has_third(faults) {
         return ScriptVersion::Three;
     }
     if is_past_one(block, mask) {

@@ -68,9 +68,10 @@ pub(crate) fn is_too_many(draft: &Draft, line: &ScriptLine) -> bool
         ScriptLine::Stripe { legs, .. } => {
             draft.entries.len() >= MOST_ENTRIES || legs.as_slice().len() > MOST_LEGS
         }
-        ScriptLine::Flip { .. } | ScriptLine::Shift { .. } | ScriptLine::Keep { .. } => {
-            draft.faults.len() >= MOST_FAULTS
-        }
+        ScriptLine::Flip { .. }
+        | ScriptLine::Shift { .. }
+        | ScriptLine::Keep { .. }
+        | ScriptLine::Fail { .. } => draft.faults.len() >= MOST_FAULTS,
         ScriptLine::Schedule(entries) => {
             draft.schedule.len() + entries.as_slice().len() > MOST_SCHEDULE
         }
