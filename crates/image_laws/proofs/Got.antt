@@ -1,19 +1,19 @@
 -- What a call's records say where no store call failed, one lemma for each. The count of faults of a store in memory stays at 0.
-use Rattle.std.proofs.Common.{◌≡◌, inl, inr, ℕ, List, Some, arith}
+use Rattle.std.proofs.Common.{◌≡◌, ℕ, List, Some, arith}
+use Rattle.dix_base.specs.Told.{Calm}
 use Rattle.rig_api.specs.Target.{Stored}
 use Rattle.volume_table.specs.Tables.{Table}
 use Rattle.volume_table.specs.declared.device.DeviceInfo.{DeviceInfo}
 use Rattle.stack_ops.specs.declared.reply.Reply.{Reply}
-use Rattle.run_command.specs.Passed.{HasWalked, KnownBlocks, RoseBy, medium_lines, Script}
+use Rattle.run_command.specs.Passed.{HasWalked, KnownBlocks, Script}
 use Rattle.run_command.proofs.Passed.{known_from}
 use Rattle.run_command.specs.Premises.{IsDetectableRun, IsFormedRun, IsPlainRun}
 use Rattle.run_command.specs.Followed.{Followed, HasPlain, RunReadsRightly}
 use Rattle.rig_api.specs.State.{RigState}
 
--- so no line names the medium
-unnamed : (n old new : ℕ) → RoseBy n old new → new ≡ 0 → n ≡ 0
-unnamed n old new (inl p) e = omega (arith, p, e)
-unnamed n old new (inr p) e = absurd (omega (arith, p, e))
+-- such a count didn't rise
+pub calm : (old new : ℕ) → new ≡ 0 → Calm old new
+calm old new e = (omega (arith, e), omega (arith, e))
 
 -- a rig that told these blocks tells some afterwards
 abbrev at : (script : Script) (table : Table) (devices : List DeviceInfo) (old new : RigState) (pool : List (List ℕ)) (replies : List Reply) (us : List Stored) → Followed script table devices old new pool replies → old.units ≡ Some us → KnownBlocks old new
@@ -23,20 +23,22 @@ pub got_walked : (script : Script) (table : Table) (devices : List DeviceInfo) (
     → (left : List Stored) × (new.units ≡ Some left) × HasWalked script table us left pool f.any_rig.goes.more replies
 got_walked script table devices old new pool replies us f e none =
     let known = at script table devices old new pool replies us f e in
-    (known.after, known.ended, (f.intact known (unnamed (medium_lines replies) old.faults new.faults f.any_rig.medium none)).walked)
+    (known.after, known.ended, (f.intact known (f.silent known (calm old.faults new.faults none))).walked)
 
 pub got_plain : (script : Script) (table : Table) (devices : List DeviceInfo) (old new : RigState) (pool : List (List ℕ)) (replies : List Reply) (us : List Stored) → Followed script table devices old new pool replies → old.units ≡ Some us → new.faults ≡ 0 → IsPlainRun script table us
     → (left : List Stored) × (new.units ≡ Some left) × HasPlain script table us left pool replies
 got_plain script table devices old new pool replies us f e none p =
     let known = at script table devices old new pool replies us f e in
-    (known.after, known.ended, (f.intact known (unnamed (medium_lines replies) old.faults new.faults f.any_rig.medium none)).plain p)
+    (known.after, known.ended, (f.intact known (f.silent known (calm old.faults new.faults none))).plain p)
 
 pub got_formed : (script : Script) (table : Table) (devices : List DeviceInfo) (old new : RigState) (pool : List (List ℕ)) (replies : List Reply) (us : List Stored) → Followed script table devices old new pool replies → old.units ≡ Some us → new.faults ≡ 0 → IsFormedRun script table devices us
     → RunReadsRightly script table us replies
 got_formed script table devices old new pool replies us f e none p =
-    (f.intact (at script table devices old new pool replies us f e) (unnamed (medium_lines replies) old.faults new.faults f.any_rig.medium none)).formed p
+    let known = at script table devices old new pool replies us f e in
+    (f.intact known (f.silent known (calm old.faults new.faults none))).formed p
 
 pub got_shown : (script : Script) (table : Table) (devices : List DeviceInfo) (old new : RigState) (pool : List (List ℕ)) (replies : List Reply) (us : List Stored) → Followed script table devices old new pool replies → old.units ≡ Some us → new.faults ≡ 0 → IsDetectableRun script table devices us
     → RunReadsRightly script table us replies
 got_shown script table devices old new pool replies us f e none p =
-    (f.intact (at script table devices old new pool replies us f e) (unnamed (medium_lines replies) old.faults new.faults f.any_rig.medium none)).shown p
+    let known = at script table devices old new pool replies us f e in
+    (f.intact known (f.silent known (calm old.faults new.faults none))).shown p

@@ -49,7 +49,7 @@ module _ (m' : Setting) (even : m'.size % 2 ≡ 0) where
       let m : Setting = m1 m' at op k off byte in
       let p = read_passed m' even b owner x none in
       let w = mapped_back (route plain b) (crossed m b AdapterToHost (received (route plain b) x)) in
-      comes_in m' (one_line at op k off byte ∷ []) (one_shifted m' at op k off byte) b owner x
+      comes_in m' (one_line at op k off byte ∷ []) (one_shifted m' at op k off byte) b refl owner x
       ∙ ap (λ (d : List ℕ → List ℕ). in_by m' [] none_shifted b owner d (crossed m b TargetToAdapter) (crossed m b AdapterToHost) x) (λ i v. elsewhere m' at op k off byte b MediumToTarget refl v i)
       ∙ ap (λ (d : List ℕ → List ℕ). in_by m' [] none_shifted b owner (λ x. x) d (crossed m b AdapterToHost) x) (λ i v. elsewhere m' at op k off byte b TargetToAdapter refl v i)
       ∙ ap (λ o. in_of owner o (adapter_finds_in (route plain b) x) (owner_finds (route plain b) w) x w) p.0
@@ -153,7 +153,7 @@ module _ (m' : Setting) (even : m'.size % 2 ≡ 0) where
 
           as_it_was : way_in [] (plain).site.device (route plain b) owner x ≡ in_of owner None None (owner_finds (route plain b) w0) x w0
           as_it_was =
-              quiet_in m' [] none_shifted b (none_altered m' b) owner x
+              quiet_in m' [] none_shifted b refl (none_altered m' b) owner x
               ∙ ap (λ o. in_of owner o (adapter_finds_in (route plain b) x) (owner_finds (route plain b) w0) x w0) passing.0
               ∙ ap (λ o. in_of owner None o (owner_finds (route plain b) w0) x w0) passing.1
 

@@ -6,7 +6,7 @@ use Rattle.std.proofs.lemmas.Bool.{or_parts}
 use Rattle.std.proofs.lemmas.List.{length-map}
 use Rattle.page_pool.specs.Cells.{flat}
 use Rattle.pi_tuple.specs.declared.checks.Check.{Check}
-use Rattle.fault_schedule.specs.Altered.{shift_of}
+use Rattle.fault_schedule.specs.Altered.{fails_of, shift_of}
 use Rattle.fault_schedule.specs.declared.fault.Crossing.{Crossing}
 use Rattle.fault_schedule.specs.declared.fault.Crossing.TheVariants.{AdapterToTarget, MediumToTarget}
 use Rattle.fault_schedule.specs.declared.fault.FaultLine.{FaultLine}
@@ -15,7 +15,7 @@ use Rattle.bio_core.specs.declared.request.Io.{Io}
 use Rattle.rig_api.specs.Frames.{joined}
 use Rattle.rig_api.specs.Passing.{to_medium}
 use Rattle.block_path.specs.declared.route.Route.{Route}
-use Rattle.block_path.specs.Routes.{by_target, passage, target}
+use Rattle.block_path.specs.Routes.{by_target, passage, stores_unless, target}
 use Rattle.block_path.specs.WayOut.{WayOut, at_device, from_adapter, to_wire}
 use Rattle.block_path.proofs.Cells.{gather_length}
 use Rattle.dix_adapter.specs.declared.adapter.Adapter.{Adapter}
@@ -28,10 +28,12 @@ use Rattle.lab_laws.specs.Passing.{CommandPasses}
 use Rattle.lab_laws.proofs.Taken.{block_passes}
 use Rattle.small_laws.proofs.Tests.{never}
 
-one_taken : (faults : List FaultLine) (r : Route) (came : Result (List ℕ) Check) (ws : List WayOut) (fs : List (List ℕ)) → is_bad came ≡ false → IfOk came (λ carried. (stored : List ℕ) × (to_medium faults (passage faults r) carried ≡ Ok stored)) → frames_out ws ≡ fs →
+one_taken : (faults : List FaultLine) (r : Route) (came : Result (List ℕ) Check) (ws : List WayOut) (fs : List (List ℕ)) → fails_of faults r.label ≡ false → is_bad came ≡ false → IfOk came (λ carried. (stored : List ℕ) × (to_medium faults (passage faults r) carried ≡ Ok stored)) → frames_out ws ≡ fs →
     frames_out (from_adapter (target faults) r came ∷ ws) ≡ frame_sent came ∷ fs
-one_taken faults r (Ok carried) ws fs good h rest = ap (λ c. frames_out (at_device carried (by_target c) ∷ ws)) h.1 ∙ ap (λ xs. carried ∷ xs) rest
-one_taken faults r (Err check) ws fs good h rest = never (sym good)
+one_taken faults r (Ok carried) ws fs served good h rest =
+    ap (λ c. frames_out (at_device carried (stores_unless c (by_target (to_medium faults (passage faults r) carried))) ∷ ws)) served
+    ∙ ap (λ c. frames_out (at_device carried (by_target c) ∷ ws)) h.1 ∙ ap (λ xs. carried ∷ xs) rest
+one_taken faults r (Err check) ws fs served good h rest = never (sym good)
 
 module _ (a : Adapter) (ios : List Io) (cells : List ℕ) (faults : a.tamper ≡ []) (free : a.dix ≡ false → a.mask ≡ 0) where
   all_taken : (dev bytes at : ℕ) (bs : List Block) → Run a ios dev bytes (pos 0) (pos 0) at bs → any_bad (map (sends a ios cells) bs) ≡ false → frames_out (ways_out a ios cells bs) ≡ map frame_sent (map (sends a ios cells) bs)
@@ -42,7 +44,7 @@ module _ (a : Adapter) (ios : List Io) (cells : List ℕ) (faults : a.tamper ≡
       let o = or_parts (is_bad (sends a ios cells b)) (any_bad (map (sends a ios cells) bs)) good in
       let l = gather_length 0 (frame_cells ios b) cells ∙ run.0.host in
       let passes = subst (λ ts. IfOk (to_wire ts r f) (λ carried. (stored : List ℕ) × (to_medium ts (passage ts r) carried ≡ Ok stored))) (sym faults) (block_passes r f l free) in
-      one_taken a.tamper r (sends a ios cells b) (ways_out a ios cells bs) (map frame_sent (map (sends a ios cells) bs)) o.0 passes (all_taken dev bytes (suc at) bs run.1 o.1)
+      one_taken a.tamper r (sends a ios cells b) (ways_out a ios cells bs) (map frame_sent (map (sends a ios cells) bs)) (ap (λ ts. fails_of ts r.label) faults) o.0 passes (all_taken dev bytes (suc at) bs run.1 o.1)
 
 unshifted : (faults : List FaultLine) (at : Crossing) (op : ℕ) → faults ≡ [] → shift_of faults at op ≡ pos 0
 unshifted faults at op none = ap (λ ts. shift_of ts at op) none

@@ -163,7 +163,7 @@ module _ (m' : Setting) (even : m'.size % 2 ≡ 0) where
         let y = flipped at b x in
         let e : adapter_finds_out (route plain b) y ≡ Some check = (flip at refl b own).found m'.mode.app m'.mode.mask (ref_tag (route plain b).lba) kind x hx p.0 in
         let z = crossed m b AdapterToTarget (sent (route plain b) y) in
-        ap out_why (goes_out m' (lines at) (one_shifted m' at op k off byte) b f) ∙ ap (λ o. out_why (out_of o (target_finds m' [] none_shifted b z) (sent (route plain b) y) (crossed m b TargetToMedium z))) e
+        ap out_why (goes_out m' (lines at) (one_shifted m' at op k off byte) b refl f) ∙ ap (λ o. out_why (out_of o (target_finds m' [] none_shifted b z) (sent (route plain b) y) (crossed m b TargetToMedium z))) e
 
     -- on the wire
     pub wire_out : (b : Block) → Own AdapterToTarget b → (f : List ℕ) → Whole n f → out_why (out_by m' [] none_shifted b (λ x. x) (λ x. x) (λ x. x) f) ≡ None →
@@ -178,7 +178,7 @@ module _ (m' : Setting) (even : m'.size % 2 ≡ 0) where
         let y = flipped at b s in
         let e : target_finds m' [] none_shifted b y ≡ Some check = (flip at refl b own).found m'.mode.app 0 (ref_tag (route plain b).lba) Crc s hs p.1 in
         let z = crossed m b TargetToMedium y in
-        ap out_why (goes_out m' (lines at) (one_shifted m' at op k off byte) b f)
+        ap out_why (goes_out m' (lines at) (one_shifted m' at op k off byte) b refl f)
         ∙ ap (λ (h : List ℕ → List ℕ). out_why (out_by m' [] none_shifted b h (crossed m b AdapterToTarget) (crossed m b TargetToMedium) f)) (λ i v. elsewhere m' at op k off byte b HostToAdapter refl v i)
         ∙ ap (λ o. out_why (out_of o (target_finds m' [] none_shifted b y) s z)) p.0
         ∙ ap (λ o. out_why (out_of None o s z)) e
@@ -207,7 +207,7 @@ module _ (m' : Setting) (even : m'.size % 2 ≡ 0) where
           carried = s;
           stored = y;
           with_flip =
-              goes_out m' (lines at) (one_shifted m' at op k off byte) b f
+              goes_out m' (lines at) (one_shifted m' at op k off byte) b refl f
               ∙ ap (λ (h : List ℕ → List ℕ). out_by m' [] none_shifted b h (crossed m b AdapterToTarget) (crossed m b TargetToMedium) f) (λ i v. elsewhere m' at op k off byte b HostToAdapter refl v i)
               ∙ ap (λ (w : List ℕ → List ℕ). out_by m' [] none_shifted b (λ x. x) w (crossed m b TargetToMedium) f) (λ i v. elsewhere m' at op k off byte b AdapterToTarget refl v i)
               ∙ ap (λ o. out_of o (target_finds m' [] none_shifted b s) s y) p.0
@@ -231,7 +231,7 @@ module _ (m' : Setting) (even : m'.size % 2 ≡ 0) where
         let e : target_finds m' [] none_shifted b y ≡ Some check = (flip at refl b own).found m'.mode.app 0 (ref_tag (route plain b).lba) Crc x h p.0 in
         let z = crossed m b TargetToAdapter y in
         let w = host_frame b (crossed m b AdapterToHost (received (route plain b) z)) in
-        ap in_why (comes_in m' (lines at) (one_shifted m' at op k off byte) b owner x) ∙ ap (λ o. in_why (in_of owner o (adapter_finds_in (route plain b) z) (owner_finds (route plain b) w) z w)) e
+        ap in_why (comes_in m' (lines at) (one_shifted m' at op k off byte) b refl owner x) ∙ ap (λ o. in_why (in_of owner o (adapter_finds_in (route plain b) z) (owner_finds (route plain b) w) z w)) e
 
     pub wire_in : (b : Block) → Own TargetToAdapter b → (owner : Owner) (x : List ℕ) → Whole n x → quiet_read b owner x →
         in_why (way_in (lines TargetToAdapter) (m1 m' TargetToAdapter op k off byte).site.device (route plain b) owner x) ≡ Some (Adapter check)
@@ -242,7 +242,7 @@ module _ (m' : Setting) (even : m'.size % 2 ≡ 0) where
         let z = flipped at b x in
         let e : adapter_finds_in (route plain b) z ≡ Some check = (flip at refl b own).found m'.mode.app m'.mode.mask (ref_tag (route plain b).lba) Crc x h p.1 in
         let w = host_frame b (crossed m b AdapterToHost (received (route plain b) z)) in
-        ap in_why (comes_in m' (lines at) (one_shifted m' at op k off byte) b owner x)
+        ap in_why (comes_in m' (lines at) (one_shifted m' at op k off byte) b refl owner x)
         ∙ ap (λ (d : List ℕ → List ℕ). in_why (in_by m' [] none_shifted b owner d (crossed m b TargetToAdapter) (crossed m b AdapterToHost) x)) (λ i v. elsewhere m' at op k off byte b MediumToTarget refl v i)
         ∙ ap (λ o. in_why (in_of owner o (adapter_finds_in (route plain b) z) (owner_finds (route plain b) w) z w)) p.0
         ∙ ap (λ o. in_why (in_of owner None o (owner_finds (route plain b) w) z w)) e

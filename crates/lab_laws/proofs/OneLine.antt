@@ -4,7 +4,7 @@ use Rattle.std.specs.Prelude.{ℤ, bit_xor, leb, pos, slice_index, unwrap_or}
 use Rattle.std.specs.Int.Bits.{xor_zero_r}
 use Rattle.std.proofs.lemmas.Bool.{eqb-true, eq-eqb, le-leb}
 use Rattle.page_pool.specs.Cells.{gather}
-use Rattle.fault_schedule.specs.Altered.{byte_at, is_line_of, is_same, keep_of, keep_or, kept_by, named, shift_of}
+use Rattle.fault_schedule.specs.Altered.{byte_at, fails_of, is_line_of, is_same, keep_of, keep_or, kept_by, named, shift_of}
 use Rattle.fault_schedule.specs.declared.fault.Crossing.{Crossing}
 use Rattle.fault_schedule.specs.declared.fault.Crossing.TheVariants.{AdapterToHost, AdapterToTarget, HostToAdapter, MediumToTarget, TargetToAdapter, TargetToMedium}
 use Rattle.fault_schedule.specs.declared.fault.FaultKind.TheVariants.{Flip}
@@ -61,9 +61,9 @@ pub record Alike (m0 m1 : Setting) (step : Step) (s : State) : Type 0 where
   pub does : act (act_of m1 step) s ≡ act (act_of m0 step) s
   pub answers : tell (act_of m1 step) s ≡ tell (act_of m0 step) s
 
--- ---- settings under lines without shifts that alter none of a block
+-- ---- settings under lines without shifts that alter none of a block, which the medium doesn't fail
 
-module _ (m' : Setting) (lines : List FaultLine) (unshifted : (c : Crossing) (op : ℕ) → shift_of lines c op ≡ pos 0) (b : Block) (clear : (c : Crossing) (x : List ℕ) → crossed (under_lines m' lines) b c x ≡ x) where
+module _ (m' : Setting) (lines : List FaultLine) (unshifted : (c : Crossing) (op : ℕ) → shift_of lines c op ≡ pos 0) (b : Block) (served : fails_of lines (route (under_lines m' lines) b).label ≡ false) (clear : (c : Crossing) (x : List ℕ) → crossed (under_lines m' lines) b c x ≡ x) where
   abbrev m : Setting
   m = under_lines m' lines
 
@@ -72,7 +72,7 @@ module _ (m' : Setting) (lines : List FaultLine) (unshifted : (c : Crossing) (op
       let h = crossed m b HostToAdapter in
       let w = crossed m b AdapterToTarget in
       let d = crossed m b TargetToMedium in
-      goes_out m' lines unshifted b f
+      goes_out m' lines unshifted b served f
       ∙ ap (λ h. out_by m' lines unshifted b h w d f) (λ i x. clear HostToAdapter x i)
       ∙ ap (λ w. out_by m' lines unshifted b (λ x. x) w d f) (λ i x. clear AdapterToTarget x i)
       ∙ ap (λ d. out_by m' lines unshifted b (λ x. x) (λ x. x) d f) (λ i x. clear TargetToMedium x i)
@@ -82,7 +82,7 @@ module _ (m' : Setting) (lines : List FaultLine) (unshifted : (c : Crossing) (op
       let d = crossed m b MediumToTarget in
       let w = crossed m b TargetToAdapter in
       let h = crossed m b AdapterToHost in
-      comes_in m' lines unshifted b owner x
+      comes_in m' lines unshifted b served owner x
       ∙ ap (λ d. in_by m' lines unshifted b owner d w h x) (λ i x. clear MediumToTarget x i)
       ∙ ap (λ w. in_by m' lines unshifted b owner (λ x. x) w h x) (λ i x. clear TargetToAdapter x i)
       ∙ ap (λ h. in_by m' lines unshifted b owner (λ x. x) (λ x. x) h x) (λ i x. clear AdapterToHost x i)
@@ -187,10 +187,10 @@ module _ (m' : Setting) (at : Crossing) (op k off byte : ℕ) where
   same_fetched b = fetched_home m' lines one_shifted b ∙ sym (fetched_home m' [] none_shifted b)
 
   same_out : (b : Block) → IsOther b → (f : List ℕ) → way_out lines m1.site.device (route m1 b) f ≡ way_out [] m0.site.device (route m0 b) f
-  same_out b h f = quiet_out m' lines one_shifted b (other_clear b h) f ∙ sym (quiet_out m' [] none_shifted b (none_altered m' b) f)
+  same_out b h f = quiet_out m' lines one_shifted b refl (other_clear b h) f ∙ sym (quiet_out m' [] none_shifted b refl (none_altered m' b) f)
 
   same_in : (b : Block) → IsOther b → (owner : Owner) (x : List ℕ) → way_in lines m1.site.device (route m1 b) owner x ≡ way_in [] m0.site.device (route m0 b) owner x
-  same_in b h owner x = quiet_in m' lines one_shifted b (other_clear b h) owner x ∙ sym (quiet_in m' [] none_shifted b (none_altered m' b) owner x)
+  same_in b h owner x = quiet_in m' lines one_shifted b refl (other_clear b h) owner x ∙ sym (quiet_in m' [] none_shifted b refl (none_altered m' b) owner x)
 
   -- a block of a write that ends alike
   pub writes_alike : (b : Block) (app : ℕ) (body : List ℕ) (s : State) → let f = own_frame (route m0 b) app (gather 0 body s.bytes) in

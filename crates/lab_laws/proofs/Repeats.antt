@@ -1,7 +1,6 @@
 -- Without faults an answer doesn't hang on labels: so vectors that are done again, without labels, are the same text.
-use Rattle.std.proofs.Common.{◌≡◌, ℕ, ◌+◌, ◌-◌, List, [], ◌∷◌, ◌++◌, length, replicate, Option, Some, None, refl, sym, ap, ◌∙◌}
+use Rattle.std.proofs.Common.{◌≡◌, ℕ, ◌+◌, ◌-◌, false, List, [], ◌∷◌, ◌++◌, length, replicate, Option, Some, None, refl, sym, ap, ◌∙◌}
 use Rattle.std.specs.Prelude.{nat_abs, slice_get, Result, Ok, Err}
-use Rattle.pi_tuple.specs.declared.checks.Check.{Check}
 use Rattle.sense_codes.specs.declared.Sense.{Sense}
 use Rattle.fault_schedule.specs.declared.Label.{Label}
 use Rattle.fault_schedule.specs.declared.fault.Crossing.TheVariants.{AdapterToTarget, MediumToTarget, TargetToAdapter, TargetToMedium}
@@ -14,7 +13,7 @@ use Rattle.rig_api.specs.Requests.{request_of}
 use Rattle.rig_api.specs.declared.passage.Passage.{Passage}
 use Rattle.rig_api.specs.declared.request.Request.{Request}
 use Rattle.rig_api.specs.declared.request.Request.TheVariants.{Read, ReadCapacity, Verify, Write}
-use Rattle.rig_api.specs.Target.{Answer, Stored, answer_unless, carried_out, each, medium_address, passage, read_end, refusal, refusals_of, sending, shape_of, stored_from, storing, target_answer, wire_address, write_end, written_by, first_of}
+use Rattle.rig_api.specs.Target.{Answer, Flaw, Stored, answer_unless, carried_out, each, fails_under, medium_address, off_medium, onto_medium, passage, read_end, refusal, refusals_of, sending, sent_unless, shape_of, stored_from, stored_unless, storing, target_answer, wire_address, write_end, written_by, first_of}
 use Rattle.rig_api.proofs.KeptLaws.{no-lines-keep}
 use Rattle.rig_api.specs.Log.{LogEntry, moved_of}
 use Rattle.rig_api.specs.Telling.{Standing, at_front, spec_at, unit_at, with_blocks}
@@ -40,7 +39,19 @@ in_alike p label frame =
     comes_through label TargetToAdapter (released p (crossed [] label MediumToTarget frame)) ∙ ap (released p) (crosses label MediumToTarget frame)
     ∙ sym (comes_through None TargetToAdapter (released p frame))
 
-each_alike : (one other : ℕ → List ℕ → Result (List ℕ) Check) → ((k : ℕ) (frame : List ℕ) → one k frame ≡ other k frame) → (k : ℕ) (frames : List (List ℕ)) → each one k frames ≡ each other k frames
+no_line_fails : (label : Option Label) → fails_under [] label ≡ false
+no_line_fails None = refl
+no_line_fails (Some label) = refl
+
+onto_alike : (p : Passage) (label : Option Label) (frame : List ℕ) → onto_medium [] (record p { label = label }) frame ≡ onto_medium [] (record p { label = None }) frame
+onto_alike p label frame =
+    ap (λ c. stored_unless c (to_medium [] (record p { label = label }) frame)) (no_line_fails label) ∙ ap (stored_unless false) (out_alike p label frame)
+
+off_alike : (p : Passage) (label : Option Label) (frame : List ℕ) → off_medium [] (record p { label = label }) frame ≡ off_medium [] (record p { label = None }) frame
+off_alike p label frame =
+    ap (λ c. sent_unless c (from_medium [] (record p { label = label }) frame)) (no_line_fails label) ∙ ap (sent_unless false) (in_alike p label frame)
+
+each_alike : (one other : ℕ → List ℕ → Result (List ℕ) Flaw) → ((k : ℕ) (frame : List ℕ) → one k frame ≡ other k frame) → (k : ℕ) (frames : List (List ℕ)) → each one k frames ≡ each other k frames
 each_alike one other h k frames = ap (λ judge. each judge k frames) (λ i j frame. h j frame i)
 
 -- ---- a command
@@ -55,15 +66,15 @@ module _ (unit : Stored) (label : Label) (labels : List Label) (out : List ℕ) 
       let olds = stored_from unit lba c.n in
       ap (λ judged. storing (lba - unit.first) unit.blocks (write_end lba judged None))
       (no-lines-keep (label ∷ labels) 0 olds (written_by (shape_of unit) c lba [] (label ∷ labels) out)
-      ∙ each_alike (λ k frame. to_medium [] (passage (shape_of unit) c lba (label ∷ labels) k) frame) (λ k frame. to_medium [] (passage (shape_of unit) c lba [] k) frame)
-      (λ k frame. out_alike (passage (shape_of unit) c lba [] k) (slice_get (label ∷ labels) k) frame ∙ sym (out_alike (passage (shape_of unit) c lba [] k) (slice_get [] k) frame)) 0 frames
+      ∙ each_alike (λ k frame. onto_medium [] (passage (shape_of unit) c lba (label ∷ labels) k) frame) (λ k frame. onto_medium [] (passage (shape_of unit) c lba [] k) frame)
+      (λ k frame. onto_alike (passage (shape_of unit) c lba [] k) (slice_get (label ∷ labels) k) frame ∙ sym (onto_alike (passage (shape_of unit) c lba [] k) (slice_get [] k) frame)) 0 frames
       ∙ sym (no-lines-keep [] 0 olds (written_by (shape_of unit) c lba [] [] out)))
   carries (Read c) =
       let lba = nat_abs (wire_address [] [] c) in
       let fetched = stored_from unit (nat_abs (medium_address [] [] c)) c.n in
       ap (λ judged. sending unit.blocks (read_end lba judged None))
-      (each_alike (λ k frame. from_medium [] (passage (shape_of unit) c lba (label ∷ labels) k) frame) (λ k frame. from_medium [] (passage (shape_of unit) c lba [] k) frame)
-      (λ k frame. in_alike (passage (shape_of unit) c lba [] k) (slice_get (label ∷ labels) k) frame ∙ sym (in_alike (passage (shape_of unit) c lba [] k) (slice_get [] k) frame)) 0 fetched)
+      (each_alike (λ k frame. off_medium [] (passage (shape_of unit) c lba (label ∷ labels) k) frame) (λ k frame. off_medium [] (passage (shape_of unit) c lba [] k) frame)
+      (λ k frame. off_alike (passage (shape_of unit) c lba [] k) (slice_get (label ∷ labels) k) frame ∙ sym (off_alike (passage (shape_of unit) c lba [] k) (slice_get [] k) frame)) 0 fetched)
 
   asks : (cdb : Cdb) (q : Request) (room : ℕ) → refusals_of (shape_of unit) cdb q [] (label ∷ labels) (length out) room ≡ refusals_of (shape_of unit) cdb q [] [] (length out) room
   asks cdb (ReadCapacity len) room = refl

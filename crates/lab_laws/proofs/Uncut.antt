@@ -13,6 +13,7 @@ use Rattle.cdb_codec.specs.Rule.{fits_10, in_10, in_16, in_32, is_two, tagged, u
 use Rattle.cdb_codec.specs.declared.choice.Dir2.{Dir2}
 use Rattle.cdb_codec.specs.declared.choice.Dir2.TheVariants.{In, Out}
 use Rattle.cdb_codec.proofs.Inverse.{decoded_form}
+use Rattle.fault_schedule.specs.Altered.{has_fail}
 use Rattle.rig_api.specs.Frames.{sent_size}
 use Rattle.rig_api.specs.Image.{units_in}
 use Rattle.rig_api.specs.Passing.{to_medium}
@@ -221,11 +222,11 @@ module _ (run : Finished) (script : Script) (name text image : List ℕ) (old ne
         stored = told-stored at (Some image) us refl stands;
       }
 
-  none_listed : Calm old.faults new.faults → medium_lines run.stack.replies.items ≡ 0
-  none_listed c =
+  none_listed : script.faults ≡ [] → Calm old.faults new.faults → medium_lines run.stack.replies.items ≡ 0
+  none_listed none c =
       let a = h.asked.told.since.kept.count in
       let b = h.asked.told.since.count in
-      ⊎_elim (λ (x : h.told.faults + medium_lines run.stack.replies.items ≤ new.faults). omega (arith, a, b, c.0, x)) (λ (y : 2 ^ 64 ≤ new.faults + 1). absurd (omega (arith, c.1, y))) h.followed.any_rig.medium
+      ⊎_elim (λ (x : h.told.faults + medium_lines run.stack.replies.items ≤ new.faults). omega (arith, a, b, c.0, x)) (λ (y : 2 ^ 64 ≤ new.faults + 1). absurd (omega (arith, c.1, y))) (h.followed.any_rig.medium (ap has_fail none))
 
   cut_none : unplayed script ≡ None → Calm old.faults new.faults → Each (IsNotCut script.block) h.followed.any_rig.goes.more
   cut_none plays c =
@@ -237,7 +238,7 @@ module _ (run : Finished) (script : Script) (name text image : List ℕ) (old ne
       let known = known_from h.told new h.followed.any_rig.tells_blocks us units_are in
       let units : map unit_of h.devices ≡ shapes_of us = ap (map unit_of) devices_are ∙ units_back us in
       let backed = subst (λ (xs : List UnitSpec). let m = setting_of script h.table xs (failed_in replies) in IsBacked m script.ops (opening_of script xs []) (recorded m log) replies) units (h.followed.any_rig.backed []) in
-      uncut script h.table us known.after run.stack.pool log replies bound faults overwrites (h.followed.failing known).fell backed (none_listed c) h.followed.any_rig.sends.formed
+      uncut script h.table us known.after run.stack.pool log replies bound faults overwrites (h.followed.failing known).fell backed (none_listed faults c) h.followed.any_rig.sends.formed
 
 pub run_passes : RunPasses
 run_passes run script name text image old new reads plays told_is c h = cut_none run script name text image old new reads told_is h plays c

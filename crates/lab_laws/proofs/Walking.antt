@@ -91,10 +91,10 @@ module _ (m' : Setting) (even : m'.size % 2 ≡ 0) (image : List (List ℕ)) (li
 
   -- how a block ends without a flip
   pub goes : (b : Block) (f : List ℕ) → way_out [] m.site.device (route m b) f ≡ out_by m' [] none_shifted b (λ x. x) (λ x. x) (λ x. x) f
-  goes b f = quiet_out m' [] none_shifted b (none_altered m' b) f
+  goes b f = quiet_out m' [] none_shifted b refl (none_altered m' b) f
 
   pub comes : (b : Block) (owner : Owner) (x : List ℕ) → way_in [] m.site.device (route m b) owner x ≡ in_by m' [] none_shifted b owner (λ x. x) (λ x. x) (λ x. x) x
-  comes b owner x = quiet_in m' [] none_shifted b (none_altered m' b) owner x
+  comes b owner x = quiet_in m' [] none_shifted b refl (none_altered m' b) owner x
 
   pub home_is : (b : Block) → stored_cell m.site (route m b) ≡ home m b.virt
   home_is b = stored_home m' [] none_shifted b

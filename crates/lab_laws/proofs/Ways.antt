@@ -1,12 +1,12 @@
 -- One block on its way while bytes are flipped and nothing is shifted: its end by what each layer finds.
-use Rattle.std.proofs.Common.{◌≡◌, ℕ, List, refl, ap, ◌∙◌}
+use Rattle.std.proofs.Common.{◌≡◌, ℕ, false, List, refl, ap, ◌∙◌}
 use Rattle.std.specs.Prelude.{Option, Some, None, pos}
 use Rattle.pi_guard.specs.Guards.{crc}
 use Rattle.pi_tuple.specs.Finds.{finding}
 use Rattle.pi_tuple.specs.Tuples.{ref_tag}
 use Rattle.pi_tuple.specs.declared.checks.Check.{Check}
 use Rattle.pi_tuple.specs.declared.checks.PiType.TheVariants.{One}
-use Rattle.fault_schedule.specs.Altered.{shift_of}
+use Rattle.fault_schedule.specs.Altered.{fails_of, shift_of}
 use Rattle.fault_schedule.specs.declared.fault.Crossing.{Crossing}
 use Rattle.fault_schedule.specs.declared.fault.Crossing.TheVariants.{AdapterToHost, AdapterToTarget, HostToAdapter, MediumToTarget, TargetToAdapter, TargetToMedium}
 use Rattle.fault_schedule.specs.declared.fault.FaultLine.{FaultLine}
@@ -16,7 +16,7 @@ use Rattle.bio_core.specs.declared.fate.Why.TheVariants.{Adapter, Target}
 use Rattle.rig_api.specs.Frames.{data_of, tuple_of}
 use Rattle.rig_api.specs.Passing.{found_in, from_medium, then_crossed, to_medium, unless}
 use Rattle.block_path.specs.Blocks.{fetched_cell, stored_cell}
-use Rattle.block_path.specs.Routes.{by_target, medium_lba, moved, passage, wire_lba}
+use Rattle.block_path.specs.Routes.{by_target, medium_lba, moved, passage, sends_unless, stores_unless, wire_lba}
 use Rattle.block_path.specs.WayIn.{Delivers, Spoils, Stops, WayIn, adapter_finds_in, at_host, delivered_unless, from_device, from_wire, mapped_back, owner_finds, owner_says, received, verified, way_in}
 use Rattle.block_path.specs.WayOut.{Fails, Refuses, Stores, WayOut, adapter_finds_out, at_device, from_adapter, mapped_out, sent, to_wire, way_out}
 use Rattle.walk_laws.specs.Detectable.{crossed}
@@ -79,17 +79,18 @@ module _ (m' : Setting) (lines : List FaultLine) (unshifted : (at : Crossing) (o
   out_ends b carried y None = refl
   out_ends b carried y (Some c) = refl
 
-  at_target : (b : Block) (carried : List ℕ) → let y = crossed m b AdapterToTarget carried in
+  at_target : (b : Block) → fails_of lines (route m b).label ≡ false → (carried : List ℕ) → let y = crossed m b AdapterToTarget carried in
       at_device carried (m.site.device.stores (route m b) carried) ≡ out_of None (target_finds b y) carried (crossed m b TargetToMedium y)
   unfolding to_medium
-  at_target b carried =
+  at_target b served carried =
       let y = crossed m b AdapterToTarget carried in
-      out_ends b carried y (found_in (passage lines (route m b)) y) ∙ ap (λ o. out_of None o carried (crossed m b TargetToMedium y)) (found_here b y)
+      ap (λ c. at_device carried (stores_unless c (by_target (to_medium lines (passage lines (route m b)) carried)))) served
+      ∙ out_ends b carried y (found_in (passage lines (route m b)) y) ∙ ap (λ o. out_of None o carried (crossed m b TargetToMedium y)) (found_here b y)
 
-  at_adapter : (b : Block) (x : List ℕ) (o : Option Check) → let y = crossed m b AdapterToTarget (sent (route m b) x) in
+  at_adapter : (b : Block) → fails_of lines (route m b).label ≡ false → (x : List ℕ) (o : Option Check) → let y = crossed m b AdapterToTarget (sent (route m b) x) in
       from_adapter m.site.device (route m b) (unless o (sent (route m b) x)) ≡ out_of o (target_finds b y) (sent (route m b) x) (crossed m b TargetToMedium y)
-  at_adapter b x None = at_target b (sent (route m b) x)
-  at_adapter b x (Some c) = refl
+  at_adapter b served x None = at_target b served (sent (route m b) x)
+  at_adapter b served x (Some c) = refl
 
   -- by what is done with a frame at each crossing
   abbrev pub out_by : Block → (host wire medium : List ℕ → List ℕ) → List ℕ → WayOut
@@ -98,9 +99,10 @@ module _ (m' : Setting) (lines : List FaultLine) (unshifted : (at : Crossing) (o
       let y = wire (sent (route m b) x) in
       out_of (adapter_finds_out (route m b) x) (target_finds b y) (sent (route m b) x) (medium y)
 
-  pub goes_out : (b : Block) (frame : List ℕ) → way_out lines m.site.device (route m b) frame ≡ out_by b (crossed m b HostToAdapter) (crossed m b AdapterToTarget) (crossed m b TargetToMedium) frame
+  -- of a block that no line says the medium fails
+  pub goes_out : (b : Block) → fails_of lines (route m b).label ≡ false → (frame : List ℕ) → way_out lines m.site.device (route m b) frame ≡ out_by b (crossed m b HostToAdapter) (crossed m b AdapterToTarget) (crossed m b TargetToMedium) frame
   unfolding to_wire
-  goes_out b frame = let x = crossed m b HostToAdapter (mapped_out (route m b) frame) in at_adapter b x (adapter_finds_out (route m b) x)
+  goes_out b served frame = let x = crossed m b HostToAdapter (mapped_out (route m b) frame) in at_adapter b served x (adapter_finds_out (route m b) x)
 
   -- ---- the way in
 
@@ -131,11 +133,12 @@ module _ (m' : Setting) (lines : List FaultLine) (unshifted : (at : Crossing) (o
       let w = mapped_back (route m b) (host (received (route m b) z)) in
       in_of owner (target_finds b y) (adapter_finds_in (route m b) z) (owner_finds (route m b) w) z w
 
-  pub comes_in : (b : Block) (owner : Owner) (stored : List ℕ) →
+  pub comes_in : (b : Block) → fails_of lines (route m b).label ≡ false → (owner : Owner) (stored : List ℕ) →
       way_in lines m.site.device (route m b) owner stored ≡ in_by b owner (crossed m b MediumToTarget) (crossed m b TargetToAdapter) (crossed m b AdapterToHost) stored
   unfolding from_medium
-  comes_in b owner stored =
+  comes_in b served owner stored =
       let y = crossed m b MediumToTarget stored in
       let z = crossed m b TargetToAdapter y in
       let w = mapped_back (route m b) (crossed m b AdapterToHost (received (route m b) z)) in
-      target_ends b owner y (found_in (passage lines (route m b)) y) ∙ ap (λ o. in_of owner o (adapter_finds_in (route m b) z) (owner_finds (route m b) w) z w) (found_here b y)
+      ap (λ c. verified (route m b) owner (from_device lines (route m b) (sends_unless c (by_target (from_medium lines (passage lines (route m b)) stored))))) served
+      ∙ target_ends b owner y (found_in (passage lines (route m b)) y) ∙ ap (λ o. in_of owner o (adapter_finds_in (route m b) z) (owner_finds (route m b) w) z w) (found_here b y)

@@ -1,8 +1,9 @@
 -- A script that was run on a mirror over an image.
 use Rattle.std.proofs.Common.{◌≡◌, ℕ, List, [], ◌++◌, length, map, Some, sym, ap, ◌∙◌, subst}
-use Rattle.std.specs.Prelude.{is_some}
+use Rattle.std.specs.Prelude.{false, is_some}
 use Rattle.dix_base.specs.Told.{AreOctets, Calm}
 use Rattle.rig_api.specs.Telling.{IsStanding, Standing, units_told}
+use Rattle.fault_schedule.specs.Altered.{has_fail}
 use Rattle.rig_api.specs.State.{RigState}
 use Rattle.rig_discovery.specs.Discovery.{info_of}
 use Rattle.rig_api.specs.Target.{Stored}
@@ -141,11 +142,11 @@ module _ (law : EnoughLaw) (by_form : FormedLaw) (unfaulted : StillLaw) (s : Scr
     holds = holds (broke.under_way.standing ∙ broke.served.stretches.standing);
   }
 
--- While the count of faults doesn't rise, no line names the medium: neither of the report nor of a request on a leg.
-pub calm-names-none : (run : Mirrored) (s : Script) (name : List ℕ) (old new : RigState) (m : HasMirrored run s name old new) → Calm m.told.faults new.faults
+-- Without `fail` lines, and while the count of faults doesn't rise, no line names the medium: neither of the report nor of a request on a leg.
+pub calm-names-none : (run : Mirrored) (s : Script) (name : List ℕ) (old new : RigState) (m : HasMirrored run s name old new) → has_fail s.faults ≡ false → Calm m.told.faults new.faults
     → NamesNoMedium (m.ended.stage.runs ++ m.ended.runs) run.mirror.replies.items
-calm-names-none run s name old new m calm =
-    calm-unnamed (m.ended.stage.runs ++ m.ended.runs) run.mirror.replies.items m.told.faults new.faults m.ended.stretches.medium m.ended.lines calm
+calm-names-none run s name old new m none calm =
+    calm-unnamed (m.ended.stage.runs ++ m.ended.runs) run.mirror.replies.items m.told.faults new.faults (m.ended.stretches.medium none) (m.ended.lines none) calm
 
 -- A rig that told these blocks tells some afterwards.
 abbrev pub known-told : (run : Mirrored) (s : Script) (name : List ℕ) (old new : RigState) (m : HasMirrored run s name old new) (us : List Stored) → m.told.units ≡ Some us → KnownBlocks m.told new

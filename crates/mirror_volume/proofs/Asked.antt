@@ -3,7 +3,7 @@ use Rattle.std.proofs.Common.{◌≡◌, ◌≤◌, ℕ, ◌+◌, Bool, true, fa
 use Rattle.std.specs.Prelude.{◌/◌, ◌%◌}
 use Rattle.std.proofs.lemmas.Bool.{and_parts, eqb-true, or_parts}
 use Rattle.fault_schedule.specs.declared.fault.FaultKind.{FaultKind}
-use Rattle.fault_schedule.specs.declared.fault.FaultKind.TheVariants.{Flip, Shift, Keep}
+use Rattle.fault_schedule.specs.declared.fault.FaultKind.TheVariants.{Flip, Shift, Keep, Fail}
 use Rattle.fault_schedule.specs.declared.fault.FaultLine.{FaultLine}
 use Rattle.stack_ops.specs.declared.op.Op.{Op}
 use Rattle.volume_table.specs.Places.{volume_len}
@@ -25,6 +25,7 @@ fit_kind : (stored : ℕ) (earlier : List FaultLine) (f : FaultLine) (kind : Fau
 fit_kind stored earlier f (Flip off bytes) h = (refl, refl)
 fit_kind stored earlier f (Shift by) h = absurd (cc)
 fit_kind stored earlier f (Keep bytes) h = (refl, h)
+fit_kind stored earlier f Fail h = (refl, h)
 
 all_fit : (protect stored : ℕ) (ops : List Op) (earlier faults : List FaultLine) (lines : List ℕ) → length faults ≤ length lines → faults_fault protect stored ops earlier faults lines ≡ None →
     Each (λ f. is_shift f.kind ≡ false) faults × AllFit stored earlier faults

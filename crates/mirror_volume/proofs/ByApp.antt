@@ -1,5 +1,5 @@
 -- Blocks of a read that the application verifies, one after another: they answer and leave what the block layer's would, and their tuples land too.
-use Rattle.std.proofs.Common.{◌≡◌, ◌<◌, ◌≤◌, ℕ, zero, suc, ◌+◌, ◌*◌, List, [], ◌∷◌, ◌++◌, length, map, get_or, replicate, take, drop, Option, Some, None, refl, sym, ap, subst, ◌∙◌, arith, append_assoc, length-append}
+use Rattle.std.proofs.Common.{◌≡◌, ◌<◌, ◌≤◌, ℕ, zero, suc, Bool, true, false, ◌+◌, ◌*◌, List, [], ◌∷◌, ◌++◌, length, map, get_or, replicate, take, drop, Option, Some, None, refl, sym, ap, subst, ◌∙◌, arith, append_assoc, length-append}
 use Rattle.std.specs.Prelude.{IfOk, Result, Ok, Err}
 use Rattle.std.proofs.lemmas.List.{drop-append-le, drop-drop, drop_at, length-drop, length-replicate, length-take-le, replicate-append-replicate, take_all, take_at}
 use Rattle.page_pool.specs.Cells.{gather, scatter}
@@ -11,7 +11,8 @@ use Rattle.bio_core.specs.declared.fate.Why.{Why}
 use Rattle.rig_api.specs.Passing.{from_medium}
 use Rattle.block_path.specs.Acts.{State, act, tell}
 use Rattle.block_path.specs.Blocks.{fetched_cell, read_by}
-use Rattle.block_path.specs.Routes.{Device, by_target, passage, target}
+use Rattle.fault_schedule.specs.Altered.{fails_of}
+use Rattle.block_path.specs.Routes.{Device, by_target, passage, sends_unless, target}
 use Rattle.block_path.specs.Serial.{plain, plain_tells}
 use Rattle.block_path.specs.WayIn.{Delivers, Spoils, Stops, WayIn, at_host, comes_in, delivered_of, delivered_unless, from_device, from_wire, mapped_back, owner_finds, verified}
 use Rattle.block_path.specs.declared.route.Route.{Route}
@@ -56,12 +57,13 @@ host_finds : (carried : List ℕ) (came : Result (List ℕ) Check) → NotByOwne
 host_finds carried (Ok frame) = tt
 host_finds carried (Err check) = refl
 
-target_finds : (faults : List FaultLine) (r : Route) (came : Result (List ℕ) Check) → NotByOwner (from_device faults r (by_target came))
-target_finds faults r (Ok carried) = host_finds carried (from_wire faults r carried)
-target_finds faults r (Err check) = refl
+target_finds : (faults : List FaultLine) (r : Route) (broken : Bool) (came : Result (List ℕ) Check) → NotByOwner (from_device faults r (sends_unless broken (by_target came)))
+target_finds faults r true came = refl
+target_finds faults r false (Ok carried) = host_finds carried (from_wire faults r carried)
+target_finds faults r false (Err check) = refl
 
 none_by_owner : (faults : List FaultLine) (r : Route) (x : List ℕ) → NotByOwner (comes_in faults (target faults) r x)
-none_by_owner faults r x = target_finds faults r (from_medium faults (passage faults r) x)
+none_by_owner faults r x = target_finds faults r (fails_of faults r.label) (from_medium faults (passage faults r) x)
 
 -- ---- what lands: data and tuple
 

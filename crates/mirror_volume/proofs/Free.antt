@@ -1,4 +1,4 @@
--- A block on a leg that no fault line names: its write is stored, where its tag is the expected one, and a read of what is stored right delivers it.
+-- A block on a leg that no fault line alters and no medium fails: its write is stored, where its tag is the expected one, and a read of what is stored right delivers it.
 use Rattle.std.proofs.Common.{◌≡◌, ◌<◌, ◌^◌, ℕ, ◌+◌, Bool, true, false, eqb, ◌||◌, Option, List, [], length, get_or, sym, ap, subst, ◌∙◌, arith, length-append}
 use Rattle.std.specs.Prelude.{pos, Ok}
 use Rattle.std.proofs.lemmas.Bool.{false≢true}
@@ -18,7 +18,7 @@ use Rattle.block_path.specs.Blocks.{own_frame, own_tuple}
 use Rattle.block_path.specs.WayIn.{delivered_of, way_in}
 use Rattle.block_path.specs.WayOut.{Stores, stored_of, way_out}
 use Rattle.walk_laws.specs.Detectable.{arrives}
-use Rattle.walk_laws.specs.FirstLayer.{AtOwner, Layer}
+use Rattle.walk_laws.specs.FirstLayer.{AtOwner, Layer, is_served}
 use Rattle.walk_laws.specs.Past.{Brought, brought_by}
 use Rattle.walk_laws.specs.PlainMap.{as_expected}
 use Rattle.walk_laws.specs.Settings.{Block, Setting, route}
@@ -60,7 +60,7 @@ module _ (m' : Setting) (opening : State) (half : ℕ) (still : (at : Crossing) 
       let t = own_tuple (route m b) e.app e.body in
       same_brought (data_is n e.body t h.size) (ap (λ (t : Tuple). t.app) (tuple_is n e.body t h.size (own_small b e h)))
 
-  module _ (b : Block) (free : IsUnnamed m b) where
+  module _ (b : Block) (free : IsUnnamed m b) (served : is_served m b ≡ true) where
     module _ (e : Brought) (h : IsWhole n e) where
       abbrev t : Tuple
       t = own_tuple (route m b) e.app e.body
@@ -90,7 +90,7 @@ module _ (m' : Setting) (opening : State) (half : ℕ) (still : (at : Crossing) 
       stores expected =
           let body_there = data_is n e.body t h.size in
           let s = unnamed_stores m' b f bare_frame (record { guard = ap (λ (t : Tuple). t.guard) there ∙ ap (guard_of m'.mode.kind) (sym body_there); rtag = ap (λ (t : Tuple). t.rtag) there })
-          (subst (λ a. as_expected m a ≡ true) (sym app_there) expected) free (on_wire m' opening half none still b) in
+          (subst (λ a. as_expected m a ≡ true) (sym app_there) expected) free served (on_wire m' opening half none still b) in
           let o : Outcome m' b (own_frame (route m b) e.app e.body) (Stores s.carried s.stored) = subst (Outcome m' b f) s.is goes in
           let after : Sound m' (route m b).lba s.stored × (brought_by n s.stored ≡ brought_by n f) = subst (λ (c : Bool). After m' b f c s.stored) (free TargetToMedium) o.1 in
           record { stored = s.stored; is = ap stored_of s.is; holds = record { sound = after.0; brought = after.1 ∙ own_brought b e h } }
@@ -113,6 +113,7 @@ module _ (m' : Setting) (opening : State) (half : ℕ) (still : (at : Crossing) 
           reach = near m' opening half none still b;
           sound = λ _. subst (λ a. Sound m' a x) (sym (on_medium m' opening half none still b)) s.sound;
           spoilt = λ e. absurd (false≢true e);
+          served = served;
           shown = free_in m' b x free (shift MediumToTarget);
         })) in
         record {

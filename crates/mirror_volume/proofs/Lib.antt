@@ -73,5 +73,6 @@ pub mod Dones
 pub mod Ends
 pub mod Starts
 pub mod Lines
+pub mod Unfailing
 pub mod Unnamed
 pub mod Listed

@@ -16,7 +16,9 @@ use Rattle.volume_table.specs.declared.device.DeviceInfo.{DeviceInfo}
 use Rattle.volume_table.specs.Tables.{Table}
 use Rattle.walk_laws.specs.ScriptWalk.{bad_from, whole_or_bad}
 use Rattle.block_path.specs.Senses.{is_medium_why}
+use Rattle.fault_schedule.specs.Altered.{has_fail}
 use Rattle.script_text.specs.declared.script.Script.{Script}
+use Rattle.mirror_volume.proofs.Unfailing.{op-unfailing}
 use Rattle.mirror_laws.specs.Mirror.{neither}
 use Rattle.mirror_laws.specs.OnLegs.{listed_written}
 use Rattle.mirror_laws.specs.declared.marks.Marks.{Marks}
@@ -255,19 +257,19 @@ overwritten reply before after l (inl e) h = subst (λ n. RoseBy n before.faults
 overwritten reply before after l (inr e) h = subst (λ n. RoseBy n before.faults after.faults) (sym (ap (λ (r : Reply). medium_lines (r ∷ [])) e)) (rose-by-one before.faults after.faults l (h e))
 
 pub op-lines : (s : Script) (t : Table) (devices : List DeviceInfo) (half number : ℕ) (op : Op) (old new : Sides) (runs : List LegRun) (reply : Reply) (before after : RigState)
-    → OpBy s half number op old new runs reply → OpRan op t devices runs before after → OpTells op reply before after → RoseBy (medium_lines (reply ∷ [])) before.faults after.faults
-op-lines s t devices half number (Fill seg byte) old new runs reply before after by ran told = silent t devices runs reply before after ran (as-silent reply by.1)
-op-lines s t devices half number (Put page off bytes) old new runs reply before after by ran told = silent t devices runs reply before after ran (as-silent reply by.1)
-op-lines s t devices half number (Show seg) old new runs reply before after by ran told = silent t devices runs reply before after ran (ap (λ (r : Reply). medium_lines (r ∷ [])) by.1)
-op-lines s t devices half number (Seal n body tuples app rtag) old new runs reply before after by ran told = silent t devices runs reply before after ran (as-silent reply by.1)
-op-lines s t devices half number (Write v n body app) old new runs reply before after by ran told =
-    rose-less (medium_lines (reply ∷ [])) (all_mediums runs) before.faults after.faults (lines-of-write s half number v n app (bytes_in old.pool body 0 (total body)) old.marks new.marks runs reply by.1) ran.medium
-op-lines s t devices half number (Fetch v n body) old new runs reply before after by ran told =
-    rose-less (medium_lines (reply ∷ [])) (all_mediums runs) before.faults after.faults (lines-of-read s half number v n body old new runs reply by) ran.medium
-op-lines s t devices half number (WritePi v n body tuples) old new runs reply before after by ran told = silent t devices runs reply before after ran (as-silent reply by.1)
-op-lines s t devices half number (FetchPi v n body tuples) old new runs reply before after by ran told = silent t devices runs reply before after ran (as-silent reply by.1)
-op-lines s t devices half number (Overwrite dev lba change) old new runs reply before after by ran told = overwritten reply before after ran.faults by.1 told.medium
-op-lines s t devices half number Wait old new runs reply before after by ran told = silent t devices runs reply before after ran (as-silent reply by.1)
+    → has_fail s.faults ≡ false → OpBy s half number op old new runs reply → OpRan op t devices runs before after → OpTells op reply before after → RoseBy (medium_lines (reply ∷ [])) before.faults after.faults
+op-lines s t devices half number (Fill seg byte) old new runs reply before after none by ran told = silent t devices runs reply before after ran (as-silent reply by.1)
+op-lines s t devices half number (Put page off bytes) old new runs reply before after none by ran told = silent t devices runs reply before after ran (as-silent reply by.1)
+op-lines s t devices half number (Show seg) old new runs reply before after none by ran told = silent t devices runs reply before after ran (ap (λ (r : Reply). medium_lines (r ∷ [])) by.1)
+op-lines s t devices half number (Seal n body tuples app rtag) old new runs reply before after none by ran told = silent t devices runs reply before after ran (as-silent reply by.1)
+op-lines s t devices half number (Write v n body app) old new runs reply before after none by ran told =
+    rose-less (medium_lines (reply ∷ [])) (all_mediums runs) before.faults after.faults (lines-of-write s half number v n app (bytes_in old.pool body 0 (total body)) old.marks new.marks runs reply by.1) (ran.medium (op-unfailing s half none number (Write v n body app) old new runs reply by))
+op-lines s t devices half number (Fetch v n body) old new runs reply before after none by ran told =
+    rose-less (medium_lines (reply ∷ [])) (all_mediums runs) before.faults after.faults (lines-of-read s half number v n body old new runs reply by) (ran.medium (op-unfailing s half none number (Fetch v n body) old new runs reply by))
+op-lines s t devices half number (WritePi v n body tuples) old new runs reply before after none by ran told = silent t devices runs reply before after ran (as-silent reply by.1)
+op-lines s t devices half number (FetchPi v n body tuples) old new runs reply before after none by ran told = silent t devices runs reply before after ran (as-silent reply by.1)
+op-lines s t devices half number (Overwrite dev lba change) old new runs reply before after none by ran told = overwritten reply before after ran.faults by.1 told.medium
+op-lines s t devices half number Wait old new runs reply before after none by ran told = silent t devices runs reply before after ran (as-silent reply by.1)
 
 -- ---- replies one after another
 

@@ -49,7 +49,7 @@ use Rattle.mirror_volume.specs.Legs.{ReadOnLeg, WroteOnLeg, blocks_of, mirror_se
 use Rattle.mirror_volume.specs.MirrorScript.{IsMirrorScript, IsPiece}
 use Rattle.mirror_volume.proofs.Blocks.{Alike, AreRead, AreWritten, all_read, all_written}
 use Rattle.mirror_volume.proofs.Puts.{puts_walk, replies_puts, walk_puts}
-use Rattle.mirror_volume.proofs.Renumbered.{altered_same, in_same, kept_same, medium_same, out_same, own_flips, still, wire_same}
+use Rattle.mirror_volume.proofs.Renumbered.{altered_same, fails_same, in_same, kept_same, medium_same, out_same, own_flips, still, wire_same}
 use Rattle.mirror_volume.proofs.Turns.{body_cells, gathered}
 
 -- ---- pages for so many bytes
@@ -127,18 +127,19 @@ module _ (s : Script) (t : Table) (half : ℕ) (p : Piece) (is : IsMirrorScript 
     pub alike : (k : ℕ) → k < n → Alike own m (block_of request v k) (there k)
     alike k l =
         let a = altered_same p request s.faults k l in
+        let fails = fails_same p request s.faults k l in
         let q : Label = record { op = request; k = k } in
         let r : Label = record { op = p.op; k = first_label p + k } in
         let dev = (place_in t.entries (v + k)).0 in
         let lba = (place_in t.entries (v + k)).1 in
-        let wire = wire_same faults s.faults q r (v + k) dev lba t.ty s.block s.mode a unshifted in
-        let medium = medium_same faults s.faults q r (v + k) dev lba t.ty s.block s.mode a unshifted in
+        let wire = wire_same faults s.faults q r (v + k) dev lba t.ty s.block s.mode a unshifted fails in
+        let medium = medium_same faults s.faults q r (v + k) dev lba t.ty s.block s.mode a unshifted fails in
         let cell = cell_in (shapes_of us) in
         record {
-          writes = λ e. ap stored_of (out_same faults s.faults q r (v + k) dev lba t.ty s.block s.mode a unshifted (own_frame (route m (there k)) e.app e.body));
+          writes = λ e. ap stored_of (out_same faults s.faults q r (v + k) dev lba t.ty s.block s.mode a unshifted fails (own_frame (route m (there k)) e.app e.body));
           reads = λ blocks.
               ap (λ at. delivered_of (way_in faults (target faults) (route own (block_of request v k)) OfBlock (get_or blocks (cell dev at) []))) medium
-              ∙ ap delivered_of (in_same faults s.faults q r (v + k) dev lba t.ty s.block s.mode a unshifted OfBlock (get_or blocks (fetched_cell m.site (route m (there k))) []));
+              ∙ ap delivered_of (in_same faults s.faults q r (v + k) dev lba t.ty s.block s.mode a unshifted fails OfBlock (get_or blocks (fetched_cell m.site (route m (there k))) []));
           stored = ap (cell dev) wire;
           leaves = λ old frame. kept_same p request s.faults k l old frame;
         }

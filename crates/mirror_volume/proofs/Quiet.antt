@@ -103,8 +103,8 @@ module _ (m : Setting) (op k op' k' virt : ℕ) where
 
   pub reads-under : (blocks : List (List ℕ)) → reading q a blocks ≡ reading q b blocks
   reads-under blocks =
-      ap (λ at. delivered_of (way_in [] (target []) (route q a) OfBlock (get_or blocks (m.site.cell dev at) []))) (medium_same [] [] la lb virt dev lba m.ty m.size m.mode same unshifted)
-      ∙ ap delivered_of (in_same [] [] la lb virt dev lba m.ty m.size m.mode same unshifted OfBlock (get_or blocks (fetched_cell q.site (route q b)) []))
+      ap (λ at. delivered_of (way_in [] (target []) (route q a) OfBlock (get_or blocks (m.site.cell dev at) []))) (medium_same [] [] la lb virt dev lba m.ty m.size m.mode same unshifted refl)
+      ∙ ap delivered_of (in_same [] [] la lb virt dev lba m.ty m.size m.mode same unshifted refl OfBlock (get_or blocks (fetched_cell q.site (route q b)) []))
 
   pub writes-under : (e : Brought) → writing q a e ≡ writing q b e
-  writes-under e = ap stored_of (out_same [] [] la lb virt dev lba m.ty m.size m.mode same unshifted (own_frame (route q b) e.app e.body))
+  writes-under e = ap stored_of (out_same [] [] la lb virt dev lba m.ty m.size m.mode same unshifted refl (own_frame (route q b) e.app e.body))

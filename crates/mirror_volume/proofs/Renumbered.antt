@@ -1,17 +1,17 @@
 -- A block's ways are those of another label, under other fault lines, that name for it what its own lines name.
-use Rattle.std.proofs.Common.{◌≡◌, ℕ, ◌+◌, ◌-◌, ◌<◌, Bool, true, false, eqb, ◌&&◌, if◌then◌else◌, List, [], ◌∷◌, Some, None, refl, sym, ap, ◌∙◌, arith, inl, inr}
+use Rattle.std.proofs.Common.{◌≡◌, ℕ, ◌+◌, ◌-◌, ◌<◌, Bool, true, false, eqb, ◌&&◌, ◌||◌, if◌then◌else◌, List, [], ◌∷◌, Some, None, refl, sym, ap, ◌∙◌, arith, inl, inr}
 use Rattle.std.specs.Prelude.{pos, bit_xor, nat_le, nat_lt, unwrap_or, Result, Ok, Err}
 use Rattle.std.proofs.lemmas.Bool.{and_parts, and_from, eq-eqb, eqb-true, leb-true, le-leb, lt-ltb}
 use Rattle.std.proofs.lemmas.Bool.Decides.{eqb_tells}
 use Rattle.std.proofs.Math.Bool.{and-false}
 use Rattle.pi_tuple.specs.declared.checks.Check.{Check}
 use Rattle.pi_tuple.specs.declared.checks.PiType.{PiType}
-use Rattle.fault_schedule.specs.Altered.{altered, flip_at, is_line_of, is_same, keep_by, keep_of, keep_or, kept, kept_by, kept_bytes, moved_by, named, named_by, shift_of, xored_from}
+use Rattle.fault_schedule.specs.Altered.{altered, fails_by, fails_of, flip_at, is_fail, is_line_of, is_same, keep_by, keep_of, keep_or, kept, kept_by, kept_bytes, moved_by, named, named_by, shift_of, xored_from}
 use Rattle.fault_schedule.specs.declared.Label.{Label}
 use Rattle.fault_schedule.specs.declared.fault.Crossing.{Crossing}
 use Rattle.fault_schedule.specs.declared.fault.Crossing.TheVariants.{AdapterToHost, AdapterToTarget, HostToAdapter, MediumToTarget, TargetToAdapter, TargetToMedium}
 use Rattle.fault_schedule.specs.declared.fault.FaultKind.{FaultKind}
-use Rattle.fault_schedule.specs.declared.fault.FaultKind.TheVariants.{Flip, Shift, Keep}
+use Rattle.fault_schedule.specs.declared.fault.FaultKind.TheVariants.{Flip, Shift, Keep, Fail}
 use Rattle.fault_schedule.specs.declared.fault.FaultLine.{FaultLine}
 use Rattle.integrity_payload.specs.declared.payload.Owner.{Owner}
 use Rattle.bio_core.specs.declared.fate.Why.{Why}
@@ -22,7 +22,7 @@ use Rattle.block_path.specs.declared.operation.Operation.{Operation}
 use Rattle.block_path.specs.declared.operation.Operation.TheVariants.{Normal, ReadInsert, ReadPass, ReadStrip, WriteInsert, WritePass, WriteStrip}
 use Rattle.block_path.specs.declared.route.Route.{Route}
 use Rattle.block_path.specs.Operations.{handed_on, operation_of}
-use Rattle.block_path.specs.Routes.{by_target, medium_lba, moved, passage, target, wire_lba}
+use Rattle.block_path.specs.Routes.{by_target, medium_lba, moved, passage, sends_unless, stores_unless, target, wire_lba}
 use Rattle.block_path.specs.WayIn.{Delivers, Spoils, Stops, WayIn, adapter_finds_in, at_host, from_device, from_wire, received, verified, way_in}
 use Rattle.block_path.specs.WayOut.{adapter_finds_out, at_device, checked_out, from_adapter, mapped_out, to_wire, way_out}
 use Rattle.script_text.specs.Bindings.{is_shift}
@@ -60,22 +60,27 @@ module _ (p : Piece) (request : ℕ) where
   abbrev mirror_label : ℕ → Label
   mirror_label k = record { op = p.op; k = first_label p + k }
 
-  line_same : (f : FaultLine) (at : Crossing) (k : ℕ) → is_own f ≡ true → is_line_of (own_line f) at (own_label k) ≡ is_line_of f at (mirror_label k)
-  line_same f at k h =
+  block_same : (f : FaultLine) (k : ℕ) → is_own f ≡ true → eqb request request && eqb (f.k - first_label p) k ≡ eqb f.op p.op && eqb f.k (first_label p + k)
+  block_same f k h =
       let a = and_parts (eqb f.op p.op) (nat_le (first_label p) f.k && nat_lt f.k (first_label p + p.n)) h in
       let b = leb-true (first_label p) f.k (and_parts (nat_le (first_label p) f.k) (nat_lt f.k (first_label p + p.n)) a.1).0 in
       let e : eqb (f.k - first_label p) k ≡ eqb f.k (first_label p + k) = eqb_same (f.k - first_label p) k f.k (first_label p + k) (λ x. omega arith) (λ x. omega arith) in
       let own : eqb request request ≡ true = eq-eqb request request refl in
-      λ i. is_same f.at at && ((own ∙ sym a.0) i && e i)
+      λ i. (own ∙ sym a.0) i && e i
 
-  other_line : (f : FaultLine) (at : Crossing) (k : ℕ) → k < p.n → is_own f ≡ false → is_line_of f at (mirror_label k) ≡ false
-  other_line f at k l h =
-      let n : eqb f.op p.op && eqb f.k (first_label p + k) ≡ false = not_both (eqb f.op p.op) (eqb f.k (first_label p + k)) (λ a b.
+  line_same : (f : FaultLine) (at : Crossing) (k : ℕ) → is_own f ≡ true → is_line_of (own_line f) at (own_label k) ≡ is_line_of f at (mirror_label k)
+  line_same f at k h = ap (λ c. is_same f.at at && c) (block_same f k h)
+
+  other_block : (f : FaultLine) (k : ℕ) → k < p.n → is_own f ≡ false → eqb f.op p.op && eqb f.k (first_label p + k) ≡ false
+  other_block f k l h =
+      not_both (eqb f.op p.op) (eqb f.k (first_label p + k)) (λ a b.
       let e = eqb-true f.k (first_label p + k) b in
       let low = le-leb (first_label p) f.k (omega arith) in
       let high = lt-ltb f.k (first_label p + p.n) (omega arith) in
-      let t = and_from (eqb f.op p.op) (nat_le (first_label p) f.k && nat_lt f.k (first_label p + p.n)) a (and_from (nat_le (first_label p) f.k) (nat_lt f.k (first_label p + p.n)) low high) in cc) in
-      ap (λ c. is_same f.at at && c) n ∙ and-false (is_same f.at at)
+      let t = and_from (eqb f.op p.op) (nat_le (first_label p) f.k && nat_lt f.k (first_label p + p.n)) a (and_from (nat_le (first_label p) f.k) (nat_lt f.k (first_label p + p.n)) low high) in cc)
+
+  other_line : (f : FaultLine) (at : Crossing) (k : ℕ) → k < p.n → is_own f ≡ false → is_line_of f at (mirror_label k) ≡ false
+  other_line f at k l h = ap (λ c. is_same f.at at && c) (other_block f k l h) ∙ and-false (is_same f.at at)
 
   named_same : (faults : List FaultLine) (at : Crossing) (k i : ℕ) → k < p.n → named (own_faults p request faults) at (own_label k) i ≡ named faults at (mirror_label k) i
   named_same [] at k i l = refl
@@ -103,6 +108,18 @@ module _ (p : Piece) (request : ℕ) where
   pub kept_same : (faults : List FaultLine) (k : ℕ) → k < p.n → (old frame : List ℕ) → kept (own_faults p request faults) (own_label k) old frame ≡ kept faults (mirror_label k) old frame
   kept_same faults k l old frame = ap (λ n. kept_by n old frame) (keep_same faults k l)
 
+  -- the medium fails the same blocks
+  pub fails_same : (faults : List FaultLine) (k : ℕ) → k < p.n → fails_of (own_faults p request faults) (own_label k) ≡ fails_of faults (mirror_label k)
+  fails_same [] k l = refl
+  fails_same (f ∷ faults) k l = by (is_own f) (fails_same faults k l) refl where
+    by : (c : Bool) → fails_of (own_faults p request faults) (own_label k) ≡ fails_of faults (mirror_label k) → is_own f ≡ c → fails_of (if c then own_line f ∷ own_faults p request faults else own_faults p request faults) (own_label k) ≡ fails_of (f ∷ faults) (mirror_label k)
+    by true rest h =
+        ap (λ c. (is_fail f.kind && c) || fails_of (own_faults p request faults) (own_label k)) (block_same f k h)
+        ∙ ap (λ c. fails_by f (mirror_label k) || c) rest
+    by false rest h =
+        rest
+        ∙ sym (ap (λ c. (is_fail f.kind && c) || fails_of faults (mirror_label k)) (other_block f k l h) ∙ ap (λ c. c || fails_of faults (mirror_label k)) (and-false (is_fail f.kind)))
+
   pub own_flips : (faults : List FaultLine) → Each (λ f. is_shift f.kind ≡ false) faults → Each (λ f. is_shift f.kind ≡ false) (own_faults p request faults)
   own_flips [] h = tt
   own_flips (f ∷ faults) h = by (is_own f) (own_flips faults h.1) where
@@ -116,6 +133,7 @@ none_moved : (c : Bool) (kind : FaultKind) → is_shift kind ≡ false → (if c
 none_moved true (Flip off bytes) h = refl
 none_moved true (Shift by) h = absurd (cc)
 none_moved true (Keep bytes) h = refl
+none_moved true Fail h = refl
 none_moved false kind h = refl
 
 pub still : (faults : List FaultLine) → Each (λ f. is_shift f.kind ≡ false) faults → (at : Crossing) (op : ℕ) → shift_of faults at op ≡ pos 0
@@ -125,7 +143,7 @@ still (f ∷ faults) h at op = ap (λ o. unwrap_or o (shift_of faults at op)) (n
 -- ---- the ways
 
 module _ (F G : List FaultLine) (l q : Label) (virt dev lba : ℕ) (ty : PiType) (size : ℕ) (mode : Mode) (same : (at : Crossing) (x : List ℕ) → altered F at l x ≡ altered G at q x)
-    (shift : (at : Crossing) → shift_of F at l.op ≡ shift_of G at q.op) where
+    (shift : (at : Crossing) → shift_of F at l.op ≡ shift_of G at q.op) (fails : fails_of F l ≡ fails_of G q) where
   abbrev r : Route
   r = record { label = l; virt = virt; dev = dev; lba = lba; ty = ty; size = size; mode = mode }
 
@@ -153,14 +171,16 @@ module _ (F G : List FaultLine) (l q : Label) (virt dev lba : ℕ) (ty : PiType)
   stores_same : (x : List ℕ) → (target F).stores r x ≡ (target G).stores w x
   unfolding to_medium
   stores_same x =
-      ap by_target
+      ap (λ c. stores_unless c (by_target (to_medium F (passage F r) x))) fails
+      ∙ ap (λ came. stores_unless (fails_of G q) (by_target came))
       (then_same TargetToMedium (accepted (passage F r) (altered F AdapterToTarget l x))
       ∙ ap (then_crossed G (Some q) TargetToMedium) (ap (accepted (passage F r)) (same AdapterToTarget x) ∙ accepted_same (altered G AdapterToTarget q x)))
 
   sends_same : (x : List ℕ) → (target F).sends r x ≡ (target G).sends w x
   unfolding from_medium
   sends_same x =
-      ap by_target
+      ap (λ c. sends_unless c (by_target (from_medium F (passage F r) x))) fails
+      ∙ ap (λ came. sends_unless (fails_of G q) (by_target came))
       (then_same TargetToAdapter (released (passage F r) (altered F MediumToTarget l x))
       ∙ ap (then_crossed G (Some q) TargetToAdapter) (ap (released (passage F r)) (same MediumToTarget x) ∙ released_same (altered G MediumToTarget q x)))
 

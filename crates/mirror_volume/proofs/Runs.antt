@@ -4,10 +4,10 @@ use Rattle.fault_schedule.specs.declared.fault.FaultLine.{FaultLine}
 use Rattle.rig_api.specs.Target.{Stored}
 use Rattle.script_text.specs.declared.script.Script.{Script}
 use Rattle.mirror_volume.specs.LegsPassed.{Ran, RoseBy, medium_lines, Stack}
-use Rattle.mirror_volume.proofs.LegsPassed.{known_from}
+use Rattle.mirror_volume.proofs.LegsPassed.{known_from, none_unscheduled}
 use Rattle.volume_table.specs.declared.device.DeviceInfo.{DeviceInfo}
 use Rattle.volume_table.specs.Tables.{Table}
-use Rattle.mirror_volume.specs.LegRuns.{AllBacked, AllFallen, AllWalked, GoOn, LegRun, RanLegs, all_mediums, all_records, armed_after}
+use Rattle.mirror_volume.specs.LegRuns.{AllBacked, AllFallen, AllWalked, GoOn, LegRun, NoneFails, RanLegs, all_mediums, all_records, armed_after}
 use Rattle.rig_api.specs.State.{RigState}
 
 pub all_records-append : (xs ys : List LegRun) → all_records (xs ++ ys) ≡ all_records xs ++ all_records ys
@@ -41,6 +41,19 @@ all_mediums-append (x ∷ xs) ys = let e = all_mediums-append xs ys in omega (ar
 pub rose-add : (a b o m n : ℕ) → o ≤ m → m ≤ n → RoseBy a o m → RoseBy b m n → RoseBy (a + b) o n
 rose-add a b o m n p q x y = grind arith
 
+-- of the first of them, and of the last
+none_fails-first : (xs ys : List LegRun) → NoneFails (xs ++ ys) → NoneFails xs
+none_fails-first [] ys h = tt
+none_fails-first (x ∷ xs) ys h = (h.0, none_fails-first xs ys h.1)
+
+none_fails-last : (xs ys : List LegRun) → NoneFails (xs ++ ys) → NoneFails ys
+none_fails-last [] ys h = h
+none_fails-last (x ∷ xs) ys h = none_fails-last xs ys h.1
+
+pub none_fails-append : (xs ys : List LegRun) → NoneFails xs → NoneFails ys → NoneFails (xs ++ ys)
+none_fails-append [] ys h k = k
+none_fails-append (x ∷ xs) ys h k = (h.0, none_fails-append xs ys h.1 k)
+
 rose-one : (a o n : ℕ) → RoseBy a o n → RoseBy (a + 0) o n
 rose-one a o n x = grind arith
 
@@ -53,7 +66,8 @@ ran-append t devices xs ys before between after h k = record {
   faults = (let a = h.faults in let b = k.faults in omega (arith, a, b));
   records = k.records ∙ ap (λ es. es ++ all_records ys) h.records ∙ append_assoc before.log (all_records xs) (all_records ys) ∙ ap (λ es. before.log ++ es) (sym (all_records-append xs ys));
   backed = all_backed-append t devices xs ys h.backed k.backed;
-  medium = subst (λ n. RoseBy n before.faults after.faults) (sym (all_mediums-append xs ys)) (rose-add (all_mediums xs) (all_mediums ys) before.faults between.faults after.faults h.faults k.faults h.medium k.medium);
+  medium = λ none. subst (λ n. RoseBy n before.faults after.faults) (sym (all_mediums-append xs ys))
+      (rose-add (all_mediums xs) (all_mediums ys) before.faults between.faults after.faults h.faults k.faults (h.medium (none_fails-first xs ys none)) (k.medium (none_fails-last xs ys none)));
   armed = k.armed ∙ ap (armed_after ys) h.armed ∙ sym (armed-append xs ys before.armed);
   told = λ us e none.
       (let many = all_mediums-append xs ys in
@@ -80,7 +94,7 @@ ran-none t devices before after h = record {
   faults = (let e = h.faults in omega (arith, e));
   records = h.log ∙ sym (append-nil before.log);
   backed = tt;
-  medium = (let e = h.faults in inl (omega (arith, e)));
+  medium = λ none. (let e = h.faults in inl (omega (arith, e)));
   armed = h.armed;
   told = λ us e none. (us, (h.units ∙ e, refl));
   fallen = λ us e. (us, (h.units ∙ e, refl));
@@ -93,9 +107,9 @@ ran-one s t devices words before after r h = record {
   faults = h.faults;
   records = h.records ∙ ap (λ es. before.log ++ es) (sym (append-nil h.more));
   backed = (h.backed, (h.sends, tt));
-  medium = rose-one (medium_lines r.replies.items) before.faults after.faults h.medium;
+  medium = λ none. rose-one (medium_lines r.replies.items) before.faults after.faults (h.medium none.0);
   armed = h.armed_there;
-  told = λ us e none. (let known = known_from before after h.tells_blocks us e in (known.after, (known.ended, (known.after, (h.walked known (none-one (medium_lines r.replies.items) none), refl)))));
+  told = λ us e none. (let known = known_from before after h.tells_blocks us e in (known.after, (known.ended, (known.after, (h.walked known (none_unscheduled s.faults r.replies.items (none-one (medium_lines r.replies.items) none)), refl)))));
   fallen = λ us e. (let known = known_from before after h.tells_blocks us e in (known.after, (known.ended, (known.after, (h.fell known, refl)))));
 }
 

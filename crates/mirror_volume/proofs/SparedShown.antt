@@ -1,11 +1,11 @@
 -- A block on a leg on which fault lines may alter it, where they are shown: what its write stores is right or spoilt, and of what is stored so a read delivers what is right alone.
 use Rattle.std.proofs.Common.{◌≡◌, ◌⊎◌, inl, inr, ℕ, ◌+◌, ◌%◌, Bool, true, false, List, [], length, get_or, Option, Some, None, refl, sym, ap, subst, ◌∙◌, length-append}
 use Rattle.std.specs.Prelude.{All, Ok, is_some, pos}
-use Rattle.std.proofs.lemmas.Bool.{false≢true}
+use Rattle.std.proofs.lemmas.Bool.{false≢true, not-true}
 use Rattle.pi_guard.specs.Guards.{crc}
 use Rattle.pi_guard.specs.declared.GuardKind.TheVariants.{Crc}
 use Rattle.pi_guard.proofs.GuardSizes.{guard_below}
-use Rattle.fault_schedule.specs.Altered.{shift_of}
+use Rattle.fault_schedule.specs.Altered.{fails_of, shift_of}
 use Rattle.fault_schedule.specs.declared.fault.Crossing.{Crossing}
 use Rattle.fault_schedule.specs.declared.fault.Crossing.TheVariants.{MediumToTarget, TargetToAdapter, TargetToMedium}
 use Rattle.fault_schedule.specs.declared.fault.FaultLine.{FaultLine}
@@ -22,12 +22,12 @@ use Rattle.bio_core.specs.declared.fate.Why.TheVariants.{Target}
 use Rattle.rig_api.specs.Passing.{from_medium, then_crossed, unless}
 use Rattle.block_path.specs.Acts.{State}
 use Rattle.block_path.specs.Blocks.{fetched_cell, own_frame}
-use Rattle.block_path.specs.Routes.{by_target}
+use Rattle.block_path.specs.Routes.{by_target, sends_unless}
 use Rattle.block_path.specs.WayIn.{Delivers, Spoils, Stops, WayIn, delivered_of, from_device, verified, way_in}
 use Rattle.block_path.specs.WayOut.{Fails, Refuses, Stores, WayOut, stored_of, way_out}
 use Rattle.block_path.proofs.Cells.{AllBelow}
 use Rattle.walk_laws.specs.Detectable.{arrives, found}
-use Rattle.walk_laws.specs.FirstLayer.{AtAdapter, AtOwner, AtTarget, Layer, has_flip}
+use Rattle.walk_laws.specs.FirstLayer.{AtAdapter, AtOwner, AtTarget, Layer, has_flip, is_served}
 use Rattle.walk_laws.specs.Past.{Brought, brought_by}
 use Rattle.walk_laws.specs.PlainMap.{as_expected}
 use Rattle.walk_laws.specs.Settings.{Block, Setting, route}
@@ -54,11 +54,14 @@ not-ended (Delivers carried x) why frame e q = absurd cc
 
 -- ---- what the target's check finds isn't delivered
 
-module _ (m' : Setting) (opening : State) (half : ℕ) (still : (at : Crossing) (op : ℕ) → shift_of m'.site.faults at op ≡ pos 0) (b : Block) where
+module _ (m' : Setting) (opening : State) (half : ℕ) (still : (at : Crossing) (op : ℕ) → shift_of m'.site.faults at op ≡ pos 0) (b : Block) (served : is_served (checked m') b ≡ true) where
   ended-there : (x : List ℕ) (check : Check) → found (checked m') b x AtTarget ≡ Some check → way_in m'.site.faults (checked m').site.device (route (checked m') b) OfBlock x ≡ Stops (Target check)
   unfolding from_medium
   ended-there x check h =
-      ap (λ o. verified (route (checked m') b) OfBlock
+      ap (λ c. verified (route (checked m') b) OfBlock
+      (from_device m'.site.faults (route (checked m') b) (sends_unless c (by_target (then_crossed m'.site.faults (Some (route (checked m') b).label) TargetToAdapter (unless (found (checked m') b x AtTarget) (arrives (checked m') b x AtTarget)))))))
+      (not-true (fails_of m'.site.faults (route (checked m') b).label) served)
+      ∙ ap (λ o. verified (route (checked m') b) OfBlock
       (from_device m'.site.faults (route (checked m') b) (by_target (then_crossed m'.site.faults (Some (route (checked m') b).label) TargetToAdapter (unless o (arrives (checked m') b x AtTarget)))))) h
 
   pub stops-so : (blocks : List (List ℕ)) → is_some (found (checked m') b (get_or blocks (home (checked m') b.virt) []) AtTarget) ≡ true → (frame : List ℕ) → reading (checked m') b blocks ≡ Ok frame → ⊥
@@ -77,7 +80,7 @@ module _ (m' : Setting) (opening : State) (half : ℕ) (still : (at : Crossing) 
 module _ (m' : Setting) (opening : State) (half : ℕ) (still : (at : Crossing) (op : ℕ) → shift_of m'.site.faults at op ≡ pos 0)
     (even : m'.size % 2 ≡ 0) (flips : All (λ (line : FaultLine). IsOfBytes line.kind) m'.site.faults) (altered : Type 0) (b : Block)
     (shown : (at : Crossing) → has_flip (checked m') b at ≡ true → is_shown m'.size (kind_at m'.mode.kind at) (mask_of m'.size m'.site.faults at (route (checked m') b).label) ≡ true)
-    (marks : has_flip (checked m') b TargetToMedium ≡ true → altered) (apart : altered → has_flip (checked m') b MediumToTarget ≡ false) where
+    (marks : has_flip (checked m') b TargetToMedium ≡ true → altered) (apart : altered → has_flip (checked m') b MediumToTarget ≡ false) (served : is_served (checked m') b ≡ true) where
   abbrev m : Setting
   m = checked m'
 
@@ -140,6 +143,7 @@ module _ (m' : Setting) (opening : State) (half : ℕ) (still : (at : Crossing) 
             reach = near m' opening half none still b;
             sound = λ _. subst (λ a. Sound m' a x) (sym (on_medium m' opening half none still b)) right.sound;
             spoilt = λ e. absurd (false≢true e);
+            served = served;
             shown = comes_shown m' even flips b shown x s.fine (no_shift m' opening half none still b MediumToTarget) (λ q. right.sound.bears.guard);
           } in
           let h = hands false _ (reads m' b OfBlock false x fetched) in
@@ -150,6 +154,7 @@ module _ (m' : Setting) (opening : State) (half : ℕ) (still : (at : Crossing) 
             reach = near m' opening half none still b;
             sound = λ e. absurd (false≢true (sym e));
             spoilt = λ _. subst (λ a. Spoilt m' a x) (sym (on_medium m' opening half none still b)) spoilt.0;
+            served = served;
             shown = comes_shown m' even flips b shown x s.fine (no_shift m' opening half none still b MediumToTarget) (λ q. absurd (false≢true (sym (apart spoilt.1) ∙ q)));
           } in
           absurd (false≢true (sym (hands true _ (reads m' b OfBlock true x fetched)).whole))

@@ -12,7 +12,7 @@ use Rattle.page_pool.specs.Cuts.{behind, cut, front, past, upto}
 use Rattle.page_pool.specs.Places.{shares, total}
 use Rattle.page_pool.proofs.Cutting.{upto-0}
 use Rattle.fault_schedule.specs.declared.fault.FaultKind.{FaultKind}
-use Rattle.fault_schedule.specs.declared.fault.FaultKind.TheVariants.{Flip, Shift, Keep}
+use Rattle.fault_schedule.specs.declared.fault.FaultKind.TheVariants.{Flip, Shift, Keep, Fail}
 use Rattle.fault_schedule.specs.declared.fault.FaultLine.{FaultLine}
 use Rattle.stack_ops.specs.declared.op.Op.{Op}
 use Rattle.stack_ops.specs.declared.op.Op.TheVariants.{Fetch, FetchPi, Put, Write}
@@ -20,7 +20,7 @@ use Rattle.volume_table.specs.Places.{volume_len}
 use Rattle.volume_table.specs.Tables.{Table}
 use Rattle.volume_table.specs.declared.device.DeviceInfo.{DeviceInfo}
 use Rattle.script_lines.specs.declared.kind.ScriptKind.TheVariants.{BadFault, BadRange, BadSegments, SegOverlap, TooMany, NoIntegrity}
-use Rattle.script_text.specs.Bindings.{at_line, expect_fault, faults_fault, has_no_tuples, is_at_medium, is_bad_kind, is_bad_on, is_keep, is_shift, keeps_block, ops_fault, or_else, range_fault, request_at, request_by, stored_bytes}
+use Rattle.script_text.specs.Bindings.{at_line, expect_fault, faults_fault, has_no_tuples, is_at_medium, is_bad_kind, is_bad_on, is_of_medium, is_shift, names_block, ops_fault, or_else, range_fault, request_at, request_by, stored_bytes}
 use Rattle.script_text.specs.Ops.{are_tuples, both_fault, data_fault, is_body, unless, where_inside}
 use Rattle.script_text.specs.Rules.{is_count}
 use Rattle.script_text.specs.Segments.{any_share, are_few_each, are_inside, are_whole_tuples, do_overlap, few_from, is_inside, is_whole}
@@ -281,6 +281,7 @@ good_kind : (t : Table) (devices : List DeviceInfo) (size : ℕ) (earlier : List
 good_kind t devices size earlier f request (Flip off bytes) h k = refl
 good_kind t devices size earlier f request (Shift moves) h k = absurd (cc)
 good_kind t devices size earlier f request (Keep bytes) h k = k
+good_kind t devices size earlier f request Fail h k = k
 
 good_line : (t : Table) (devices : List DeviceInfo) (size : ℕ) (earlier : List FaultLine) (f : FaultLine) (v n : ℕ) → f.k < n → is_shift f.kind ≡ false → is_unfit (stored_bytes t.ty size) earlier f f.kind ≡ false →
     is_bad_on t devices size earlier f (Some (v, n)) ≡ false
@@ -299,34 +300,35 @@ module _ (p : Piece) (request : ℕ) where
       record { op = eqb-true f.op p.op a.0; low = leb-true (first_label p) f.k b.0; high = ltb-true f.k (first_label p + p.n) b.1 }
 
   -- of two lines of the piece, the one keeps the other's block in its own script as in the mirror's
-  keeps_same : (f x : FaultLine) → IsIn f → IsIn x → keeps_block request (f.k - first_label p) (own_line p request x) ≡ keeps_block f.op f.k x
+  keeps_same : (f x : FaultLine) → IsIn f → IsIn x → names_block request (f.k - first_label p) (own_line p request x) ≡ names_block f.op f.k x
   keeps_same f x a b =
       let op : eqb request request ≡ eqb f.op x.op = eq-eqb request request refl ∙ sym (eq-eqb f.op x.op (a.op ∙ sym b.op)) in
       let la = a.low in
       let lb = b.low in
       let k : eqb (f.k - first_label p) (x.k - first_label p) ≡ eqb f.k x.k = eqb_same (f.k - first_label p) (x.k - first_label p) f.k x.k (λ e. omega (arith, e, la, lb)) (λ e. omega (arith, e)) in
-      λ i. op i && (k i && is_keep x.kind)
+      λ i. op i && (k i && is_of_medium x.kind)
 
-  none_keeps : (f : FaultLine) → IsIn f → (earlier : List FaultLine) → list_any (keeps_block f.op f.k) earlier ≡ false → list_any (keeps_block request (f.k - first_label p)) (own_faults p request earlier) ≡ false
+  none_keeps : (f : FaultLine) → IsIn f → (earlier : List FaultLine) → list_any (names_block f.op f.k) earlier ≡ false → list_any (names_block request (f.k - first_label p)) (own_faults p request earlier) ≡ false
   none_keeps f a [] h = refl
   none_keeps f a (x ∷ earlier) h = by (is_own p request x) refl (none_keeps f a earlier q.1) where
-    q : (keeps_block f.op f.k x ≡ false) × (list_any (keeps_block f.op f.k) earlier ≡ false)
-    q = or_parts (keeps_block f.op f.k x) (list_any (keeps_block f.op f.k) earlier) h
+    q : (names_block f.op f.k x ≡ false) × (list_any (names_block f.op f.k) earlier ≡ false)
+    q = or_parts (names_block f.op f.k x) (list_any (names_block f.op f.k) earlier) h
 
-    by : (c : Bool) → is_own p request x ≡ c → list_any (keeps_block request (f.k - first_label p)) (own_faults p request earlier) ≡ false →
-        list_any (keeps_block request (f.k - first_label p)) (if c then own_line p request x ∷ own_faults p request earlier else own_faults p request earlier) ≡ false
+    by : (c : Bool) → is_own p request x ≡ c → list_any (names_block request (f.k - first_label p)) (own_faults p request earlier) ≡ false →
+        list_any (names_block request (f.k - first_label p)) (if c then own_line p request x ∷ own_faults p request earlier else own_faults p request earlier) ≡ false
     by true e rest =
-        or_from (keeps_block request (f.k - first_label p) (own_line p request x)) (list_any (keeps_block request (f.k - first_label p)) (own_faults p request earlier)) (keeps_same f x a (in_piece x e) ∙ q.0) rest
+        or_from (names_block request (f.k - first_label p) (own_line p request x)) (list_any (names_block request (f.k - first_label p)) (own_faults p request earlier)) (keeps_same f x a (in_piece x e) ∙ q.0) rest
     by false e rest = rest
 
   own_fit : (stored : ℕ) (f : FaultLine) → IsIn f → (earlier : List FaultLine) (kind : FaultKind) → is_unfit stored earlier f kind ≡ false → is_unfit stored (own_faults p request earlier) (own_line p request f) kind ≡ false
   own_fit stored f a earlier (Flip off bytes) h = refl
   own_fit stored f a earlier (Shift moves) h = refl
   own_fit stored f a earlier (Keep bytes) h =
-      let q = or_parts (not (is_at_medium f.at)) (nat_le stored bytes || list_any (keeps_block f.op f.k) earlier) h in
-      let r = or_parts (nat_le stored bytes) (list_any (keeps_block f.op f.k) earlier) q.1 in
-      or_from (not (is_at_medium f.at)) (nat_le stored bytes || list_any (keeps_block request (f.k - first_label p)) (own_faults p request earlier)) q.0
-      (or_from (nat_le stored bytes) (list_any (keeps_block request (f.k - first_label p)) (own_faults p request earlier)) r.0 (none_keeps f a earlier r.1))
+      let q = or_parts (not (is_at_medium f.at)) (nat_le stored bytes || list_any (names_block f.op f.k) earlier) h in
+      let r = or_parts (nat_le stored bytes) (list_any (names_block f.op f.k) earlier) q.1 in
+      or_from (not (is_at_medium f.at)) (nat_le stored bytes || list_any (names_block request (f.k - first_label p)) (own_faults p request earlier)) q.0
+      (or_from (nat_le stored bytes) (list_any (names_block request (f.k - first_label p)) (own_faults p request earlier)) r.0 (none_keeps f a earlier r.1))
+  own_fit stored f a earlier Fail h = none_keeps f a earlier h
 
   own_behind : (earlier : List FaultLine) (f : FaultLine) → own_faults p request (earlier ++ (f ∷ [])) ≡ own_faults p request earlier ++ (if is_own p request f then own_line p request f ∷ [] else [])
   own_behind [] f = by (is_own p request f) where

@@ -1,5 +1,6 @@
-use Rattle.std.specs.Prelude.{ℕ, ◌≡◌, ◌+◌, ◌<◌, ◌≤◌, min, List, [], ◌∷◌, ◌++◌, drop, length, replicate, set, Option, Some, None}
+use Rattle.std.specs.Prelude.{ℕ, false, ◌≡◌, ◌+◌, ◌<◌, ◌≤◌, min, List, [], ◌∷◌, ◌++◌, drop, length, replicate, set, Option, Some, None}
 use Rattle.bio_core.specs.declared.fate.Why.{Why}
+use Rattle.fault_schedule.specs.Altered.{has_fail}
 use Rattle.fault_schedule.specs.declared.fault.FaultLine.{FaultLine}
 use Rattle.rig_api.specs.Log.{LogEntry}
 use Rattle.rig_api.specs.State.{RigState}
@@ -44,6 +45,10 @@ abbrev pub all_records : List LegRun → List LogEntry
 all_records [] = []
 all_records (r ∷ runs) = r.records ++ all_records runs
 
+-- No fault line of theirs says that the medium fails a block.
+abbrev pub NoneFails : List LegRun → Type 0
+NoneFails runs = AllOwn (λ own. has_fail own.faults ≡ false) runs
+
 -- how many lines of their replies name the medium
 abbrev pub all_mediums : List LegRun → ℕ
 all_mediums [] = 0
@@ -79,14 +84,14 @@ pub record NamesNoMedium (runs : List LegRun) (replies : List Reply) : Type 0 wh
   pub legs : all_mediums runs ≡ 0
   pub report : medium_lines replies ≡ 0
 
--- These were run over a rig, one after another: their records stand there in order, and back their replies, whose lines that name the medium are at most as many as the count of faults rose. The last one's faults are armed.
+-- These were run over a rig, one after another: their records stand there in order, and back their replies. Where no fault line says that the medium fails a block, lines of these that name it are at most as many as the count of faults rose. The last one's faults are armed.
 -- Where the rig tells its blocks, and no line of theirs names the medium, each was done at the target; and whatever lines name it, so it was but for what the store calls that failed left.
 pub record RanLegs (t : Table) (devices : List DeviceInfo) (runs : List LegRun) (before after : RigState) : Type 0 where
   pub standing : after.standing ≡ before.standing
   pub faults : before.faults ≤ after.faults
   pub records : after.log ≡ before.log ++ all_records runs
   pub backed : AllBacked t devices runs
-  pub medium : RoseBy (all_mediums runs) before.faults after.faults
+  pub medium : NoneFails runs → RoseBy (all_mediums runs) before.faults after.faults
   pub armed : after.armed ≡ armed_after runs before.armed
   pub told : (us : List Stored) → before.units ≡ Some us → all_mediums runs ≡ 0 → (left : List Stored) × ((after.units ≡ Some left) × AllWalked t us runs left)
   pub fallen : (us : List Stored) → before.units ≡ Some us → (left : List Stored) × ((after.units ≡ Some left) × AllFallen t us runs left)

@@ -26,6 +26,7 @@ fn copy_of(kind: &FaultKind) -> FaultKind
         },
         FaultKind::Shift { by } => FaultKind::Shift { by: *by },
         FaultKind::Keep { bytes } => FaultKind::Keep { bytes: *bytes },
+        FaultKind::Fail => FaultKind::Fail,
     }
 }
 

@@ -3,7 +3,7 @@ use Rattle.std.proofs.Common.{ℕ, zero, suc, ◌≡◌, ◌<◌, ◌*◌, Bool,
 use Rattle.std.specs.Prelude.{All}
 use Rattle.std.specs.List.{list_any}
 use Rattle.page_pool.specs.Cells.{flat}
-use Rattle.dix_base.specs.Told.{AreOctets}
+use Rattle.dix_base.specs.Told.{AreOctets, Calm}
 use Rattle.rig_api.specs.Target.{Stored}
 use Rattle.rig_api.specs.Log.{LogEntry, Room}
 use Rattle.rig_api.specs.State.{RigState}
@@ -22,7 +22,7 @@ use Rattle.script_stack.specs.Followed.{HasFallen, HasWalked, IsBackedBy, KnownB
 use Rattle.stack_ops.specs.Ops.{is_overwrite}
 use Rattle.stack_walk_laws.specs.Falls.{of_blocks}
 use Rattle.stack_core.specs.Going.{Went}
-use Rattle.script_stack.proofs.Ended.{BackedLaw, FallenLaw, IsOver, MediumLaw, ToldLaw, answered_by, backed_by, fallen_at, few_lines, sent_by, still_told, told_at, walked_at}
+use Rattle.script_stack.proofs.Ended.{BackedLaw, CalmLaw, FallenLaw, IsOver, MediumLaw, ToldLaw, answered_by, backed_by, calm_at, fallen_at, few_lines, sent_by, still_told, told_at, walked_at}
 use Rattle.script_stack.proofs.SendsBy.{AllLaw, FewLaw}
 use Rattle.script_stack.proofs.Words.{sends_own}
 use Rattle.script_laws.specs.Keeping.{Keeps}
@@ -32,10 +32,10 @@ use Rattle.script_stack.proofs.Octets.{blocks_octets}
 use Rattle.stack_walk_laws.specs.Passed.{blocks_told, shapes_of}
 use Rattle.run_command.specs.Fallen.{HasServed}
 use Rattle.run_command.specs.Premises.{IsDetectableRun, IsFormedRun, IsPlainRun, IsQuietRun, opening_told, setting_told}
-use Rattle.run_command.specs.Layers.{NamesFaults, NamesLayers}
+use Rattle.run_command.specs.Layers.{AllNamed, NamesFaults}
 use Rattle.run_command.proofs.Devices.{image_holds}
 use Rattle.run_command.proofs.Fallen.{BroughtFallLaw, Ends, OwnFallLaw, ReadsFallLaw, served}
-use Rattle.run_command.proofs.Layers.{names-faults, names-layers, none-medium}
+use Rattle.run_command.proofs.Layers.{names-faults, names-no-medium, names-those, none-medium}
 use Rattle.run_command.proofs.Premises.{detectable_run, plain_run}
 use Rattle.page_pool.specs.declared.segs.Seg.{Seg}
 use Rattle.integrity_payload.specs.declared.payload.Owner.{Owner}
@@ -72,7 +72,7 @@ goes_from s told ready end spare same goes =
 pub went_from : (s : Script) (begun r : Stack) (told ready end : RigState) (spare : Room) → ready ≡ record told { room = spare; armed = s.faults } → Went begun ready r end → Went begun (armed_for s told) r end
 went_from s begun r told ready end spare same went =
     let w : Went begun (record told { room = spare; armed = s.faults }) r end = subst (λ (v : RigState). Went begun v r end) same went in
-    record { walks = w.walks; falling = w.falling; faults = w.faults; counts = w.counts; sheet = w.sheet; answered = λ m n opening first k none us units armed calm. answers_armed us (w.answered m n opening first k none us units armed calm) }
+    record { walks = w.walks; falling = w.falling; told = w.told; silent = w.silent; faults = w.faults; counts = w.counts; sheet = w.sheet; answered = λ m n opening first k none us units armed calm. answers_armed us (w.answered m n opening first k none us units armed calm) }
   where
     answers_armed : (us : List Stored) → Answers us (record told { room = spare; armed = s.faults }) end × (end.standing ≡ told.standing) × (end.armed ≡ s.faults) → Answers us (armed_for s told) end × (end.standing ≡ told.standing) × (end.armed ≡ s.faults)
     answers_armed us x = let a = x.0 in (record { records = a.records; log = a.log; left = a.left; answered = a.answered; units = a.units }, x.1, x.2)
@@ -101,16 +101,23 @@ devices_at s t devices begun r old new o known = (told_at s t devices s.schedule
 bytes_at : (s : Script) (t : Table) (devices : List DeviceInfo) (begun r : Stack) (old new : RigState) (o : IsDone s t devices begun r old new) → (known : KnownBlocks old new) → All (All (λ x. x < 256)) (blocks_told known.before)
 bytes_at s t devices begun r old new o known = blocks_octets old.standing old.image known.before o.octets (sym o.over.laid ∙ known.began)
 
-walked : (s : Script) (t : Table) (devices : List DeviceInfo) (begun r : Stack) (old new : RigState) → ToldLaw → (o : IsDone s t devices begun r old new) → (known : KnownBlocks old new) → NoMediumLine r.replies.items →
+walked : (s : Script) (t : Table) (devices : List DeviceInfo) (begun r : Stack) (old new : RigState) → ToldLaw → (o : IsDone s t devices begun r old new) → (known : KnownBlocks old new) → NoMediumLine s.faults r.replies.items →
     HasWalked s t known.before known.after r.pool o.over.goes.more r.replies.items
 walked s t devices begun r old new law o known unnamed = walked_at s t devices s.schedule begun r old.image new.image (armed_for s old) new law o.over (as_armed s old new known) unnamed
 
 -- behind the adapter of a script's setting is a target, and none of its overwrites fails
-named : (s : Script) (t : Table) (devices : List DeviceInfo) (begun r : Stack) (old new : RigState) → ToldLaw → (o : IsDone s t devices begun r old new) → (known : KnownBlocks old new) → NoMediumLine r.replies.items →
-    All NamesLayers r.replies.items
+named : (s : Script) (t : Table) (devices : List DeviceInfo) (begun r : Stack) (old new : RigState) → ToldLaw → (o : IsDone s t devices begun r old new) → (known : KnownBlocks old new) → NoMediumLine s.faults r.replies.items →
+    AllNamed s.faults 1 r.replies.items
 named s t devices begun r old new law o known unnamed =
     let w = walked s t devices begun r old new law o known unnamed in
-    subst (λ (replies : List Reply). All NamesLayers replies) (sym w.replies_are) (names-layers (setting_told s t known.before) s.faults refl (λ i. refl) s.ops (opening_told s known.before))
+    subst (λ (replies : List Reply). AllNamed s.faults 1 replies) (sym w.replies_are) (names-those (setting_told s t known.before) s.faults refl (λ i. refl) s.ops (opening_told s known.before))
+
+-- so where the count of faults didn't rise, and no line names the medium but as `fail` lines say
+silent_at : (s : Script) (t : Table) (devices : List DeviceInfo) (begun r : Stack) (old new : RigState) → CalmLaw → (o : IsDone s t devices begun r old new) → (known : KnownBlocks old new) → Calm old.faults new.faults → NoMediumLine s.faults r.replies.items
+silent_at s t devices begun r old new law o known calm =
+    let w = calm_at s t devices s.schedule begun r old.image new.image (armed_for s old) new law o.over (as_armed s old new known) calm in
+    subst (λ (replies : List Reply). NoMediumLine s.faults replies) (sym w.replies_are)
+    (names-no-medium s.faults 1 _ (names-those (setting_told s t known.before) s.faults refl (λ i. refl) s.ops (opening_told s known.before)))
 
 -- the laws of a calm walk
 abbrev pub RepliesLaw : Type 0
@@ -129,7 +136,7 @@ plain_of s t us left pool log replies same under calm w =
       blocks = w.blocks ∙ u.blocks;
     }
 
-plain_at : (s : Script) (t : Table) (devices : List DeviceInfo) (begun r : Stack) (old new : RigState) → ToldLaw → RepliesLaw → UnderLaw → (o : IsDone s t devices begun r old new) → (known : KnownBlocks old new) → NoMediumLine r.replies.items →
+plain_at : (s : Script) (t : Table) (devices : List DeviceInfo) (begun r : Stack) (old new : RigState) → ToldLaw → RepliesLaw → UnderLaw → (o : IsDone s t devices begun r old new) → (known : KnownBlocks old new) → NoMediumLine s.faults r.replies.items →
     IsPlainRun s t known.before → HasPlain s t known.before known.after r.pool r.replies.items
 plain_at s t devices begun r old new law same under o known unnamed run =
     plain_of s t known.before known.after r.pool o.over.goes.more r.replies.items same under (plain_run s t known.before (bound_at s t devices begun r old new o known) (bytes_at s t devices begun r old new o known) run)
@@ -145,7 +152,7 @@ reads_rightly m devices ops opening replies law run same before after owner v n 
     subst (λ (r : List Reply). HasReadRightly m before owner v n body tuples opening r k) (sym (same ∙ ap (λ (all : List Op). script_replies m all opening) is))
     (law m devices before after owner v n k body tuples opening (subst (λ (all : List Op). IsShownRun m devices all opening) is run) l)
 
-shown_at : (s : Script) (t : Table) (devices : List DeviceInfo) (begun r : Stack) (old new : RigState) → ToldLaw → DetectionLaw → (o : IsDone s t devices begun r old new) → (known : KnownBlocks old new) → NoMediumLine r.replies.items →
+shown_at : (s : Script) (t : Table) (devices : List DeviceInfo) (begun r : Stack) (old new : RigState) → ToldLaw → DetectionLaw → (o : IsDone s t devices begun r old new) → (known : KnownBlocks old new) → NoMediumLine s.faults r.replies.items →
     IsDetectableRun s t devices known.before → RunReadsRightly s t known.before r.replies.items
 shown_at s t devices begun r old new law detects o known unnamed run =
     reads_rightly (setting_told s t known.before) devices s.ops (opening_told s known.before) r.replies.items detects
@@ -213,7 +220,7 @@ by_form s t devices us form escape same b bytes p =
     }
 
 formed_at : (s : Script) (t : Table) (devices : List DeviceInfo) (begun r : Stack) (old new : RigState) → ToldLaw → DetectionLaw → FormLaw → EscapeLaw → (o : IsDone s t devices begun r old new) → (known : KnownBlocks old new) →
-    NoMediumLine r.replies.items → IsFormedRun s t devices known.before → RunReadsRightly s t known.before r.replies.items
+    NoMediumLine s.faults r.replies.items → IsFormedRun s t devices known.before → RunReadsRightly s t known.before r.replies.items
 formed_at s t devices begun r old new law detects form escape o known unnamed run =
     shown_at s t devices begun r old new law detects o known unnamed
     (by_form s t devices known.before form escape (devices_at s t devices begun r old new o known) (bound_at s t devices begun r old new o known) (bytes_at s t devices begun r old new o known) run)
@@ -238,9 +245,10 @@ any_rig s t devices begun r old new backed few all medium o = record {
   medium = few_lines s t devices s.schedule begun r old.image new.image (armed_for s old) new medium o.over;
 }
 
-pub followed : (s : Script) (t : Table) (devices : List DeviceInfo) (begun r : Stack) (old new : RigState) → BackedLaw → FewLaw → AllLaw → MediumLaw → ToldLaw → RepliesLaw → UnderLaw → DetectionLaw → FormLaw → EscapeLaw → FallenLaw → ReadsFallLaw → OwnFallLaw → BroughtFallLaw → IsDone s t devices begun r old new → Followed s t devices old new r.pool r.replies.items
-followed s t devices begun r old new backed few all medium told same under detects form escape fallen reads own brought o = record {
+pub followed : (s : Script) (t : Table) (devices : List DeviceInfo) (begun r : Stack) (old new : RigState) → BackedLaw → FewLaw → AllLaw → MediumLaw → ToldLaw → CalmLaw → RepliesLaw → UnderLaw → DetectionLaw → FormLaw → EscapeLaw → FallenLaw → ReadsFallLaw → OwnFallLaw → BroughtFallLaw → IsDone s t devices begun r old new → Followed s t devices old new r.pool r.replies.items
+followed s t devices begun r old new backed few all medium told calm same under detects form escape fallen reads own brought o = record {
   any_rig = any_rig s t devices begun r old new backed few all medium o;
+  silent = λ known still. silent_at s t devices begun r old new calm o known still;
   intact = λ known none. record {
     walked = walked s t devices begun r old new told o known none;
     named = named s t devices begun r old new told o known none;

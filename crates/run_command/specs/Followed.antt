@@ -22,6 +22,7 @@ use Rattle.walk_laws.specs.ScriptWalk.{script_walk}
 use Rattle.walk_laws.specs.PlainMap.{plain_map, plain_replies}
 use Rattle.walk_laws.specs.Settings.{Setting, block_of}
 use Rattle.walk_laws.specs.UnderMap.{opened, under}
+use Rattle.fault_schedule.specs.Altered.{has_fail}
 use Rattle.stack_core.specs.Mediums.{RoseBy, medium_lines}
 use Rattle.stack_core.specs.Stacks.{GoesOn}
 use Rattle.stack_ops.specs.declared.reply.Reply.{Reply}
@@ -31,7 +32,7 @@ use Rattle.volume_table.specs.Tables.{Table}
 use Rattle.volume_table.specs.declared.device.DeviceInfo.{DeviceInfo}
 use Rattle.run_command.specs.Premises.{opening_told, setting_told}
 use Rattle.run_command.specs.Fallen.{HasServed}
-use Rattle.run_command.specs.Layers.{NamesFaults, NamesLayers}
+use Rattle.run_command.specs.Layers.{AllNamed, NamesFaults}
 use Rattle.run_command.specs.Premises.{IsDetectableRun, IsFormedRun, IsPlainRun, IsQuietRun}
 use Rattle.page_pool.specs.declared.TheConstants.{PAGE}
 use Rattle.rig_api.specs.Log.{LogEntry}
@@ -84,15 +85,15 @@ pub record OnAnyRig (script : Script) (table : Table) (devices : List DeviceInfo
   pub backed : IsBackedBy script table devices goes.more replies
   -- They are of the commands that the script's requests, its volume and its schedule come to, in the form that is called for.
   pub sends : SendsFor script table goes.more replies
-  -- Lines that name the medium are at most as many as the count of faults rose.
-  pub medium : RoseBy (medium_lines replies) old.faults new.faults
+  -- Without `fail` lines, those of the report that name the medium are at most as many as the count of faults rose.
+  pub medium : has_fail script.faults ≡ false → RoseBy (medium_lines replies) old.faults new.faults
 
--- What holds over known blocks where no line of the report names the medium.
+-- What holds over known blocks where no line of the report names the medium but as `fail` lines say.
 pub record OnIntactMedium (script : Script) (table : Table) (devices : List DeviceInfo) (old new : RigState) (known : KnownBlocks old new) (pool : List (List ℕ)) (log : List LogEntry) (replies : List Reply) : Type 0 where
   -- Replies, pages and stored blocks are those of the ops done one after another at the target, and the log holds what these carry.
   pub walked : HasWalked script table known.before known.after pool log replies
-  -- Each block that is listed was found bad by the check of a layer.
-  pub named : All NamesLayers replies
+  -- Each block that is listed was found bad by the check of a layer, or a `fail` line names it.
+  pub named : AllNamed script.faults 1 replies
   -- Without `fault`, `shift` and `overwrite` lines, over clean blocks, and where no write supplies an escape:
   -- replies and pages are those of the plain map, and the stored blocks are the image under it.
   pub plain : IsPlainRun script table known.before → HasPlain script table known.before known.after pool replies
@@ -119,7 +120,9 @@ pub record OnFailingMedium (script : Script) (table : Table) (old new : RigState
 pub record Followed (script : Script) (table : Table) (devices : List DeviceInfo) (old new : RigState) (pool : List (List ℕ)) (replies : List Reply) : Type 0 where
   -- over any rig, honest or not
   pub any_rig : OnAnyRig script table devices old new replies
-  -- over known blocks, where no line of the report names the medium
-  pub intact : (known : KnownBlocks old new) → NoMediumLine replies → OnIntactMedium script table devices old new known pool any_rig.goes.more replies
+  -- over known blocks, where the count of faults didn't rise, no line of the report names the medium but as `fail` lines say
+  pub silent : (known : KnownBlocks old new) → Calm old.faults new.faults → NoMediumLine script.faults replies
+  -- over known blocks, where no line of the report names the medium but as `fail` lines say
+  pub intact : (known : KnownBlocks old new) → NoMediumLine script.faults replies → OnIntactMedium script table devices old new known pool any_rig.goes.more replies
   -- over known blocks, whatever store calls failed
   pub failing : (known : KnownBlocks old new) → OnFailingMedium script table old new known pool any_rig.goes.more replies

@@ -1,7 +1,10 @@
 -- Why blocks are listed over a rig that tells its blocks: a layer that checks found them bad, or where the count of faults rises, the medium failed.
-use Rattle.std.specs.Prelude.{◌≡◌, Bool, true, false, All}
+use Rattle.std.specs.Prelude.{◌≡◌, ℕ, suc, Bool, true, false, ◌&&◌, ◌||◌, List, [], ◌∷◌, All}
 use Rattle.bio_core.specs.declared.fate.Why.{Why}
 use Rattle.bio_core.specs.declared.fate.Why.TheVariants.{Adapter, App, Block, Medium, Refused, Short, Target}
+use Rattle.fault_schedule.specs.Altered.{fails_of}
+use Rattle.fault_schedule.specs.declared.fault.FaultLine.{FaultLine}
+use Rattle.block_path.specs.Senses.{is_medium_why}
 use Rattle.stack_ops.specs.declared.reply.BadBlock.{BadBlock}
 use Rattle.stack_ops.specs.declared.reply.Reply.{Reply}
 use Rattle.stack_ops.specs.declared.reply.Reply.TheVariants as reply
@@ -16,13 +19,22 @@ is_finding Medium = false
 is_finding (Refused key asc ascq) = false
 is_finding Short = false
 
--- Each block that the reply lists has such a finding, and it isn't the reply of an overwrite that failed.
-abbrev pub NamesLayers : Reply → Type 0
-NamesLayers reply.Silent = Unit {0}
-NamesLayers reply.Whole = Unit {0}
-NamesLayers (reply.Bad blocks) = All (λ (b : BadBlock). is_finding b.why ≡ true) blocks
-NamesLayers (reply.Shown bytes) = Unit {0}
-NamesLayers reply.Medium = ⊥
+-- The block, which the reply of this op lists, has such a finding, or a fault line says that the medium fails it.
+abbrev pub is_named : List FaultLine → (op : ℕ) → BadBlock → Bool
+is_named faults op b = is_finding b.why || (is_medium_why b.why && fails_of faults (record { op = op; k = b.k }))
+
+-- Each block that the reply lists is so, and it isn't the reply of an overwrite that failed.
+abbrev pub NamesThose : List FaultLine → (op : ℕ) → Reply → Type 0
+NamesThose faults op reply.Silent = Unit {0}
+NamesThose faults op reply.Whole = Unit {0}
+NamesThose faults op (reply.Bad blocks) = All (λ (b : BadBlock). is_named faults op b ≡ true) blocks
+NamesThose faults op (reply.Shown bytes) = Unit {0}
+NamesThose faults op reply.Medium = ⊥
+
+-- So each of these replies, from that of this op on.
+abbrev pub AllNamed : List FaultLine → (op : ℕ) → List Reply → Type 0
+AllNamed faults op [] = Unit {0}
+AllNamed faults op (reply ∷ replies) = NamesThose faults op reply × AllNamed faults (suc op) replies
 
 -- or the medium failed
 abbrev pub is_fault : Why → Bool

@@ -3,7 +3,7 @@ pub use Rattle.rig_discovery.specs.Openings.{device_of}
 pub use Rattle.stack_walk_laws.specs.Falls.{of_blocks}
 pub use Rattle.stack_walk_laws.specs.Flips.{with_flips}
 pub use Rattle.script_stack.specs.Causes.{table_of}
-pub use Rattle.script_stack.specs.Followed.{HasFallen, HasWalked, IsBackedBy, KnownBlocks, SizesAre, failed_in, none_fails, opening_of, setting_of, unit_of}
+pub use Rattle.script_stack.specs.Followed.{HasFallen, HasWalked, IsBackedBy, KnownBlocks, NoMediumLine, SizesAre, failed_in, none_fails, opening_of, setting_of, unit_of}
 pub use Rattle.script_stack.specs.Passed.{IsAddress}
 pub use Rattle.script_stack.specs.Sends.{IsPlanFor, entries_of}
 pub use Rattle.script_text.specs.Bindings.{binding_fault}

@@ -1,15 +1,17 @@
 use Rattle.std.proofs.Common.{inr, refl, sym, ap, subst, ◌∙◌}
 use Rattle.std.specs.Prelude.{is_some}
 use Rattle.std.proofs.lemmas.Result.{err_from_is_err_and}
+use Rattle.fault_schedule.specs.Altered.{has_fail}
 use Rattle.rig_api.specs.State.{RigState}
 use Rattle.run_command.proofs.Completing.{stops_from_outside}
 use Rattle.run_command.proofs.Devices.{has_device, known_infos}
+use Rattle.script_stack.proofs.Counted.{silent_replies}
 use Rattle.script_stack.proofs.Passed.{suits}
 use Rattle.script_stack.specs.Sends.{SendsBy, entries_of}
 use Rattle.script_stack.proofs.Following.{sizes-found}
 use Rattle.run_command.proofs.Refusing.{asked_still}
 use Rattle.run_command.proofs.Walked.{followed, goes_from, went_from}
-use Rattle.stack_core.specs.Mediums.{HasCounted}
+use Rattle.stack_core.specs.Mediums.{HasCounted, medium_replies}
 use Rattle.stack_core.specs.declared.sheet.Sheet.{Sheet}
 use Rattle.run_command.proofs.verdict.run_script.Goals as goal
 
@@ -69,7 +71,7 @@ returns-clause-verdict g c =
       };
       ends = record { stack = c.run_all.ensures.stands.stack; stays = c.run_all.ensures.stays; ended = c.run_all.ensures.ended };
       followed = followed c.args.script c.in_ok-bound.bound.table devices begun r told end c.a_script_run_is_backed.ensures c.a_finished_stack_has_sent.ensures.few c.a_finished_stack_has_sent.ensures.all
-          c.a_finished_stack_names_the_medium_seldom.ensures c.a_told_script_run_has_walked.ensures c.a_calm_walk_is_a_plain_map.ensures.replies c.a_calm_walk_is_a_plain_map.ensures.under
+          c.a_finished_stack_names_the_medium_seldom.ensures c.a_told_script_run_has_walked.ensures.unnamed c.a_told_script_run_has_walked.ensures.calm c.a_calm_walk_is_a_plain_map.ensures.replies c.a_calm_walk_is_a_plain_map.ensures.under
           c.a_read_is_the_last_write_or_names_the_first_layer.ensures
           c.a_script_is_shown_by_its_form.ensures c.a_script_supplies_no_escape_by_its_form.ensures
           c.a_told_script_run_has_fallen.ensures c.a_stack_reads_the_last_write_or_fails_at_the_medium.ensures c.a_stack_writes_or_fails_at_the_medium.ensures.own c.a_stack_writes_or_fails_at_the_medium.ensures.brought
@@ -95,13 +97,15 @@ returns-clause-verdict g c =
               ended = c.run_all.ensures.ended;
               walks = rw c.deref.ensures.0 at begins.walks;
               falling = rw c.deref.ensures.0 at begins.falling;
+              told = rw c.deref.ensures.0 at begins.told;
+              silent = ap medium_replies begins.new.replies ∙ silent_replies _;
               goes = goes_from c.args.script told _ end _ ready.armed c.run_all.ensures.goes;
               tells = c.run_all.ensures.rig.tells ∙ ap (λ (s : RigState). is_some s.image) ready.armed;
               went = went_from c.args.script begun r told _ end _ ready.armed c.run_all.ensures.went;
               plan = begins.plan;
               first = begins.new.first;
               stays = c.run_all.ensures.stays;
-              counted = c.run_all.ensures.went.counts told.faults (subst (HasCounted told.faults begun) (sym (ap (λ (s : RigState). s.faults) ready.armed)) (begins.counted told.faults));
+              counted = λ none. c.run_all.ensures.went.counts (ap (λ (s : RigState). has_fail s.armed) ready.armed ∙ none) told.faults (subst (HasCounted told.faults begun) (sym (ap (λ (s : RigState). s.faults) ready.armed)) (begins.counted told.faults));
               sent = λ z. subst (λ (s : RigState). SendsBy (entries_of c.args.script.schedule) begun r s.log end.log) ready.armed
                   (subst (λ ws. SendsBy (entries_of ws) begun r (g.R.Rig.state c.ready_script.new.rig).log end.log) (c.as_slice.ensures ∙ begins.schedule) (c.run_all.ensures.sends z));
             };
