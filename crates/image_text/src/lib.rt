@@ -29,6 +29,7 @@ pub use fault::DiffFault;
 pub use import::import_blocks;
 pub use laws::{nothing_differs, show_lists_what_a_scrub_lists};
 pub use layout::{Layout, fits, piece_len};
+pub use pieces::fill;
 pub use show::Tally;
 pub use sight::{Verdict, add_block};
 pub use unit::write_units;

@@ -13,7 +13,7 @@ use pi_tuple::{PiType, make, own_tag};
 use rig_api::{UnitSpec, put_tuple};
 
 /// Takes bytes until `into` is full or the source at its end, and says how many came.
-pub(crate) fn fill<S: Source>(source: &mut S, into: &mut [u8]) -> Result<usize, Failed>
+pub fn fill<S: Source>(source: &mut S, into: &mut [u8]) -> Result<usize, Failed>
     ensures bound { IfOk result (λ n. n ≤ length into.old) }
     ensures taken { IfOk result (λ n. Took (take n into.new) (S.left source.old) (S.left source.new)) }
     ensures end { IfOk result (λ n. n < length into.old → IsAtEnd (S.left source.new)) }

@@ -1,0 +1,5 @@
+pub mod Finding
+pub mod Forms
+pub mod Lines
+pub mod Tallies
+pub mod Walks
