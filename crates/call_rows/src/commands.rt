@@ -1,9 +1,9 @@
 //! The words that the program is called with.
 
+use call_verdict::{UnitList, image_of};
 use dix_run::{Command, command_of};
 use pi_tuple::PiType;
 use std::alloc::{AllocError, Global};
-use unit_words::{UnitList, image_of};
 
 /// The words between bars; no words at all of `none`.
 fn words_of(alloc: Global, line: &str) -> Result<Vec<String>, AllocError> {

@@ -1,2 +1,4 @@
 pub mod Statuses
 pub mod Verdicts
+pub mod Units
+pub mod Words

@@ -8,7 +8,7 @@ use Rattle.image_commands.specs.Causes.{CauseUnformatted, CauseUnmigrated, Cause
 use Rattle.rig_discovery.proofs.Opened.{right_head, told_is_good}
 use Rattle.nvme_command.specs.Causes.{CauseNotDone}
 use Rattle.nvme_command.proofs.Completes.{spared_alone}
-use Rattle.unit_words.specs.Words.{image_in}
+use Rattle.call_verdict.specs.Words.{image_in}
 use Rattle.rig_api.specs.declared.units.UnitSpec.{UnitSpec}
 use Rattle.dix_run.specs.Grammar.{command_in}
 use Rattle.dix_run.specs.declared.command.Command.{Command}

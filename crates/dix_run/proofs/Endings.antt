@@ -12,7 +12,7 @@ use Rattle.image_commands.specs.Causes.{CauseUnscrubbed, WasFormatted, WasScrubb
 use Rattle.call_refusal.specs.declared.refusal.Refusal.TheVariants as stop
 use Rattle.report_text.specs.Report.{report}
 use Rattle.report_text.specs.Trace.{trace}
-use Rattle.unit_words.specs.Words.{image_in}
+use Rattle.call_verdict.specs.Words.{image_in}
 use Rattle.script_text.specs.declared.script.Script.{Script}
 use Rattle.run_command.specs.Texts.{has_bad}
 use Rattle.run_command.specs.Verdict.{HasRun, HasRunSource}

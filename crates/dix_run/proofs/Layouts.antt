@@ -6,10 +6,10 @@ use Rattle.std.proofs.lemmas.Bool.{leb-true}
 use Rattle.pi_tuple.specs.declared.checks.PiType.{PiType}
 use Rattle.rig_api.specs.Headers.{is_layout}
 use Rattle.rig_api.specs.declared.units.UnitSpec.{UnitSpec}
-use Rattle.unit_words.specs.Words.{is_name, units_in}
+use Rattle.call_verdict.specs.Words.{is_name, units_in}
 use Rattle.dix_run.specs.Grammar.{big_of, big_with, command_in, format_of, format_with, is_one_name, modes_of, modes_with, on_image}
 use Rattle.script_words.specs.Decimals.{number_in}
-use Rattle.unit_words.specs.Units.{type_in}
+use Rattle.call_verdict.specs.Units.{type_in}
 use Rattle.dix_run.specs.declared.command.Command.{Command}
 use Rattle.dix_run.specs.declared.command.Command.TheVariants.{Run, Trace, Format, Migrate, Mirror, Scrub, Nvme, Big}
 use Rattle.rig_discovery.proofs.Devices.{second_true}

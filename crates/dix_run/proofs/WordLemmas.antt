@@ -1,7 +1,7 @@
 -- Words that are too many or too few for a command.
 use Rattle.std.proofs.Common.{◌≡◌, false, List, [], ◌∷◌, length, None, refl}
 use Rattle.std.specs.Prelude.{String}
-use Rattle.unit_words.specs.Words.{word_bytes}
+use Rattle.call_verdict.specs.Words.{word_bytes}
 use Rattle.dix_run.specs.Grammar.{big_of, is_one_name, modes_of}
 
 -- other than one word, and other than two

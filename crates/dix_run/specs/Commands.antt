@@ -31,7 +31,7 @@ use Rattle.mirror_command.specs.declared.mirrored.Mirrored.{Mirrored}
 use Rattle.big_run.specs.Ran.{RanBig}
 use Rattle.big_run.specs.Text.{big_text}
 use Rattle.big_run.specs.declared.running.BigRun.{BigRun}
-use Rattle.unit_words.specs.Words.{image_in}
+use Rattle.call_verdict.specs.Words.{image_in}
 use Rattle.dix_run.specs.Grammar.{command_in}
 use Rattle.dix_run.specs.declared.command.Command.{Command}
 use Rattle.dix_run.specs.declared.command.Command.TheVariants.{Run, Trace, Format, Migrate, Mirror, Scrub, Nvme, Modes, Big}

@@ -1,6 +1,6 @@
 use Rattle.std.specs.Prelude.{ℕ, List, Option}
 use Rattle.rig_discovery.specs.Openings.{OpenedOnce}
-use Rattle.unit_words.specs.Words.{image_in}
+use Rattle.call_verdict.specs.Words.{image_in}
 use Rattle.dix_run.specs.Grammar.{command_in}
 use Rattle.dix_run.specs.Commands.{Ended, work_of}
 use Rattle.call_verdict.specs.Verdicts.{IsComplete}

@@ -1,6 +1,6 @@
 use Rattle.std.specs.Prelude.{ℕ, ◌≡◌, List, Option}
 use Rattle.nvme_command.specs.Causes.{CauseNotDone}
-use Rattle.unit_words.specs.Words.{image_in}
+use Rattle.call_verdict.specs.Words.{image_in}
 use Rattle.call_refusal.specs.Texts.{refusal_text as stop_text}
 use Rattle.run_command.specs.Verdict.{CauseRefused, Facts as Call}
 use Rattle.call_refusal.specs.declared.refusal.Refusal.{Refusal as Stop}

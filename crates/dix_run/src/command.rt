@@ -2,12 +2,12 @@
 
 ghost use Rattle.std.specs.Prelude.{◌≡◌, string_bytes};
 ghost use Rattle.std.specs.Str.{bytes_eq};
-ghost use Rattle.unit_words.specs.Words.{units_in, word_bytes};
+ghost use Rattle.call_verdict.specs.Words.{units_in, word_bytes};
 ghost use Rattle.dix_run.specs.Grammar.{big_of, big_with, command_in, format_of, format_with, is_one_name, modes_of, on_image};
 
+use call_verdict::{UnitList, is_name, laid_out, type_of};
 use pi_tuple::PiType;
 use script_words::number;
-use unit_words::{UnitList, is_name, laid_out, type_of};
 
 /// A command of the program. Those that work on an image name it by their second word.
 #[derive(Drop)]

@@ -2,20 +2,19 @@
 
 ghost use Rattle.std.specs.Prelude.{◌≡◌, ◌≤◌, ◌++◌, ℕ, List, Option, codes, decimal, length, true};
 ghost use Rattle.rig_api.specs.Headers.{is_layout};
-ghost use Rattle.unit_words.specs.Words.{word_bytes};
+ghost use Rattle.call_verdict.specs.Words.{word_bytes};
 ghost use Rattle.dix_run.specs.Commands.{format_work, migrate_work, scrub_work};
 ghost use Rattle.call_verdict.specs.Verdicts.{EndedAs, IsPassedOn};
 ghost use Rattle.dix_run.specs.Verdict.{dix};
 
 use crate::refusal::Refusal;
 use crate::scrub_text::{has_some, scrub_text};
-use call_verdict::{Status, finish, refuse, status_for};
+use call_verdict::{Status, UnitList, finish, image_of, refuse, status_for};
 use dix_base::Sink;
 use image_commands::{format_image, migrate_image, scrub_image};
 use report_text::{Line, add, add_number};
 use rig_api::Rig;
 use std::alloc::Global;
-use unit_words::{UnitList, image_of};
 
 /// The line that says how many units were formatted or migrated.
 fn count_line(what: &[u8], count: u32) -> Line

@@ -1,18 +1,17 @@
 //! Running a script on a mirror.
 
-ghost use Rattle.unit_words.specs.Words.{word_bytes};
+ghost use Rattle.call_verdict.specs.Words.{word_bytes};
 ghost use Rattle.mirror_command.specs.Texts.{is_any_lost, mirror_text};
 ghost use Rattle.dix_run.specs.Commands.{mirror_work};
 ghost use Rattle.call_verdict.specs.Verdicts.{EndedAs, IsPassedOn, Written, done_status};
 ghost use Rattle.dix_run.specs.Verdict.{Facts, dix};
 
 use crate::refusal::Refusal;
-use call_verdict::{Status, refuse, status_for};
+use call_verdict::{Status, image_of, refuse, status_for};
 use dix_base::{Failed, Sink, Source};
 use mirror_command::{Mirrored, mirror_source, print_mirrored};
 use rig_api::Rig;
 use std::alloc::Global;
-use unit_words::image_of;
 
 /// Writes the report of a script on a mirror, and what its repair did.
 fn report_mirrored<O: Sink>(out: &mut O, run: &Mirrored) -> Status

@@ -1,17 +1,16 @@
 //! NVM commands on an image.
 
-ghost use Rattle.unit_words.specs.Words.{word_bytes};
+ghost use Rattle.call_verdict.specs.Words.{word_bytes};
 ghost use Rattle.dix_run.specs.Commands.{nvme_work};
 ghost use Rattle.call_verdict.specs.Verdicts.{EndedAs, IsPassedOn};
 ghost use Rattle.dix_run.specs.Verdict.{Facts, dix};
 
 use crate::refusal::Refusal;
-use call_verdict::{Status, finish, refuse, status_for};
+use call_verdict::{Status, finish, image_of, refuse, status_for};
 use dix_base::{Sink, Source};
 use nvme_command::do_commands;
 use rig_api::Rig;
 use std::alloc::Global;
-use unit_words::image_of;
 
 /// `nvme IMAGE`: does the NVM commands of the source's lines, and writes their completions.
 pub(crate) fn nvme<S: Source, R: Rig, O: Sink>(

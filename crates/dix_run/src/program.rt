@@ -1,7 +1,7 @@
 //! The top call.
 
 ghost use Rattle.call_verdict.specs.Verdicts.{IsPassedOn};
-ghost use Rattle.unit_words.specs.Words.{word_bytes};
+ghost use Rattle.call_verdict.specs.Words.{word_bytes};
 ghost use Rattle.dix_run.specs.Headline.{Carries};
 ghost use Rattle.dix_run.specs.Verdict.{Facts};
 

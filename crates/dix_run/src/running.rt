@@ -1,7 +1,7 @@
 //! Running a script on an image.
 
 ghost use Rattle.std.specs.Prelude.{◌≤◌, ◌++◌, drop, length};
-ghost use Rattle.unit_words.specs.Words.{word_bytes};
+ghost use Rattle.call_verdict.specs.Words.{word_bytes};
 ghost use Rattle.report_text.specs.Report.{report};
 ghost use Rattle.report_text.specs.Trace.{trace};
 ghost use Rattle.run_command.specs.Texts.{has_bad};
@@ -10,13 +10,12 @@ ghost use Rattle.call_verdict.specs.Verdicts.{EndedAs, IsPassedOn, Written, done
 ghost use Rattle.dix_run.specs.Verdict.{Facts, dix};
 
 use crate::refusal::Refusal;
-use call_verdict::{Status, refuse, status_for};
+use call_verdict::{Status, image_of, refuse, status_for};
 use dix_base::{Failed, Sink, Source};
 use report_text::print_report;
 use rig_api::Rig;
 use run_command::{Finished, print_traced_run, run_source};
 use std::alloc::Global;
-use unit_words::image_of;
 
 /// Writes the report of a run.
 fn report_run<O: Sink>(out: &mut O, run: &Finished) -> Status

@@ -5,7 +5,7 @@ use Rattle.dix_base.specs.Told.{Calm, Rose}
 use Rattle.dix_base.proofs.Counts.{never_rose}
 use Rattle.rig_api.specs.Head.{head_fault, head_of}
 use Rattle.rig_api.specs.Telling.{IsStanding, units_told}
-use Rattle.unit_words.specs.Words.{image_in}
+use Rattle.call_verdict.specs.Words.{image_in}
 use Rattle.dix_run.specs.Grammar.{command_in}
 use Rattle.dix_run.specs.declared.command.Command.{Command}
 use Rattle.dix_run.specs.declared.command.Command.TheVariants as command

@@ -1,5 +1,6 @@
 mod FreshLegs
 mod GotMirrored
+mod Unfailing
 mod Coming
 mod Refused
 mod Headlined

@@ -10,7 +10,7 @@ use Rattle.script_text.specs.Language.{script_in}
 use Rattle.script_text.specs.declared.fault.ScriptFault.{ScriptFault}
 use Rattle.script_text.specs.declared.script.Script.{Script}
 use Rattle.mirror_script.specs.MirrorFaults.{mirror_fault}
-use Rattle.unit_words.specs.Words.{image_in}
+use Rattle.call_verdict.specs.Words.{image_in}
 use Rattle.call_refusal.specs.declared.refusal.Refusal.{Refusal as Stop}
 use Rattle.call_refusal.specs.declared.refusal.Refusal.TheVariants as stop
 use Rattle.call_refusal.specs.Texts.{refusal_text as stop_text}

@@ -1,7 +1,7 @@
 //! What is done with a script.
 
 ghost use Rattle.std.specs.Prelude.{◌≡◌, IfOk};
-ghost use Rattle.unit_words.specs.Words.{word_bytes};
+ghost use Rattle.call_verdict.specs.Words.{word_bytes};
 ghost use Rattle.headline.specs.Words.{verb_of, words_for};
 
 use std::alloc::{AllocError, Global};

@@ -7,7 +7,7 @@ use Rattle.dix_base.specs.Told.{Calm}
 use Rattle.dix_base.specs.Stores.{StoreState}
 use Rattle.lab_run.specs.Grammar.{command_in}
 use Rattle.lab_run.specs.declared.command.Command.{Command}
-use Rattle.lab_run.specs.declared.command.Command.TheVariants.{Help, Version, ShowUnits, ShowBlocks, Diff, Export, Import, Vectors, Judge, Explain, Sweep}
+use Rattle.lab_run.specs.declared.command.Command.TheVariants.{Help, Version, ShowUnits, ShowBlocks, Diff, Export, Import, Vectors, Judge, Explain, Sweep, Check}
 use Rattle.rig_api.specs.State.{RigState}
 use Rattle.lab_run.specs.Calls.{Facts}
 use Rattle.lab_run.specs.Commands.{Came, Keeps, work_of}
@@ -15,6 +15,7 @@ use Rattle.lab_run.specs.Headline.{Carries}
 use Rattle.lab_run.specs.Sinks.{EndedOver, Said, Sunk, sunk}
 use Rattle.lab_run.specs.Texts.{lab}
 use Rattle.lab_run.specs.declared.refusal.Refusal.{Refusal}
+use Rattle.lab_run.proofs.Checks.{checks}
 use Rattle.lab_run.proofs.Differing.{compares}
 use Rattle.lab_run.proofs.Dumping.{exports, takes}
 use Rattle.lab_run.proofs.Explains.{explains}
@@ -39,6 +40,7 @@ answers (Some Vectors) f v c = plays f v c
 answers (Some Judge) f v c = judges f v c
 answers (Some Explain) f v c = explains f v c
 answers (Some (Sweep byte units)) f v c = sweeps byte units f v c
+answers (Some (Check words)) f v c = checks words f v c
 
 -- where no sink had a fault the status is the verdict's
 as_said : (w : Work lab) (v : Verdict Refusal w.Yield) (out says : Sunk) (result : Status) → Said w v out says result → Calm out.faults out.faults_after → Calm says.faults says.faults_after → result ≡ verdict_status lab w v

@@ -24,7 +24,7 @@ use Rattle.rig_api.specs.Head.{head_of, units_of}
 use Rattle.rig_api.specs.State.{RigState}
 use Rattle.rig_api.specs.declared.units.UnitSpec.{UnitSpec}
 use Rattle.target_model.proofs.Bytes.{rise as rose_since}
-use Rattle.unit_words.specs.Words.{image_in}
+use Rattle.call_verdict.specs.Words.{image_in}
 use Rattle.lab_run.specs.Breaking.{EndsBy}
 use Rattle.lab_run.specs.Calls.{Facts, on_both, second_in, stretch_in}
 use Rattle.lab_run.specs.Commands.{Came}

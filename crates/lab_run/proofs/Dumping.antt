@@ -33,7 +33,7 @@ use Rattle.rig_api.specs.Image.{units_in}
 use Rattle.rig_api.specs.declared.units.UnitSpec.{UnitSpec}
 use Rattle.target_model.specs.Served.{AllLong}
 use Rattle.target_model.proofs.Bytes.{rise as rose_since}
-use Rattle.unit_words.specs.Words.{image_in}
+use Rattle.call_verdict.specs.Words.{image_in}
 use Rattle.lab_run.specs.Calls.{Facts, on_first, on_input, stretch_in}
 use Rattle.lab_run.specs.Commands.{Came}
 use Rattle.lab_run.specs.Dumping.{AreOthersKept, CauseNotExported, CauseNotImported, DumpTaken, HasBrokenOff, HasFound, HasNoTuples, Imported, IsFitPlace, IsNoDump, IsNoTuples, IsOtherLength, IsOtherSize, IsReady, IsRightDump, IsUntouched, IsWrongDump, KeepsAround, KeepsHead, WritesPlace, dump_len, dumped_status, export_work, import_work}

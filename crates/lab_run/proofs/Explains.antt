@@ -27,7 +27,7 @@ use Rattle.script_text.specs.declared.script.Script.{Script}
 use Rattle.run_command.specs.Texts.{has_bad}
 use Rattle.run_command.specs.Verdict.{CauseRefused, CauseStopped, Facts as Call, HasRun, StoppedShort, devices_of, table_over}
 use Rattle.run_command.specs.declared.verdict.Finished.{Finished}
-use Rattle.unit_words.specs.Words.{image_in}
+use Rattle.call_verdict.specs.Words.{image_in}
 use Rattle.volume_table.specs.Faults.{table_fault}
 use Rattle.lab_run.specs.Calls.{Facts, on_rig}
 use Rattle.lab_run.specs.Commands.{Came}

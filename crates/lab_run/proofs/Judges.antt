@@ -98,7 +98,7 @@ for_memory (refusal.Stopped stop.Memory) f c k = refl
 for_memory _ f c k = absurd c
 
 -- what was taken of a told source that is at its end is all that it told
-all_taken : (text all : List ℕ) (old new : Option (List ℕ)) → old ≡ Some all → Took text old new → IsAtEnd new → text ≡ all
+pub all_taken : (text all : List ℕ) (old new : Option (List ℕ)) → old ≡ Some all → Took text old new → IsAtEnd new → text ≡ all
 all_taken text all None new e t k = cc
 all_taken text all (Some held) None e t k = absurd t
 all_taken text all (Some held) (Some left) e t k =

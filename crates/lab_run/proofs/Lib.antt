@@ -1,4 +1,6 @@
 mod Carrying
+mod CheckFlags
+mod Checks
 mod Differing
 mod Dumping
 mod Explains

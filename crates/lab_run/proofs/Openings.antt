@@ -24,7 +24,7 @@ use Rattle.rig_api.specs.declared.rig.RigFault.{RigFault}
 use Rattle.rig_api.specs.declared.rig.RigFault.TheVariants as head
 use Rattle.rig_api.proofs.HeadLaws.{headed}
 use Rattle.rig_api.specs.declared.units.UnitSpec.{UnitSpec}
-use Rattle.unit_words.specs.Words.{image_in}
+use Rattle.call_verdict.specs.Words.{image_in}
 use Rattle.lab_run.specs.Breaking.{EndsBy, cut_status}
 use Rattle.lab_run.specs.Calls.{on_first, stretch_in}
 use Rattle.lab_run.specs.Images.{BadHeadOf, CauseUnfound, CauseUnopened, Finds, HasNoPlace, HasPlace, IsBadHead, IsFound, IsNoPlace, OpenedAs}

@@ -15,7 +15,7 @@ use Rattle.rig_api.specs.State.{RigState}
 use Rattle.rig_api.specs.declared.rig.RigFault.{RigFault}
 use Rattle.script_text.specs.declared.fault.ScriptFault.{ScriptFault}
 use Rattle.run_command.specs.Verdict.{Facts as PlayFacts, IsFromOutside}
-use Rattle.unit_words.specs.Words.{image_in}
+use Rattle.call_verdict.specs.Words.{image_in}
 use Rattle.vector_runs.specs.ListText.{has_sense}
 use Rattle.vector_runs.specs.Played.{CauseNotPlayed, HasCome, HasPlayed, first_of, played_text}
 use Rattle.vector_runs.specs.Taken.{text_fault}

@@ -19,7 +19,7 @@ use Rattle.rig_api.specs.Head.{head_fault, head_of, units_of}
 use Rattle.rig_api.specs.Headers.{image_size}
 use Rattle.rig_api.specs.Image.{units_in}
 use Rattle.rig_api.specs.declared.units.UnitSpec.{UnitSpec}
-use Rattle.unit_words.specs.Words.{image_in}
+use Rattle.call_verdict.specs.Words.{image_in}
 use Rattle.lab_run.specs.Breaking.{EndsBy, cut_status, cut_text}
 use Rattle.lab_run.specs.Calls.{Facts, stretch_in}
 use Rattle.lab_run.specs.Images.{CauseNotOpened, HasFirst, HasNoFirst, IsBadHead, IsNoPlace, IsRightHead}

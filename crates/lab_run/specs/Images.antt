@@ -14,7 +14,7 @@ use Rattle.rig_api.specs.Telling.{Opened}
 use Rattle.rig_api.specs.declared.rig.RigFault.{RigFault}
 use Rattle.rig_api.specs.Headers.{image_size}
 use Rattle.rig_api.specs.declared.units.UnitSpec.{UnitSpec}
-use Rattle.unit_words.specs.Words.{image_in}
+use Rattle.call_verdict.specs.Words.{image_in}
 use Rattle.lab_run.specs.Calls.{Facts, stretch_in}
 use Rattle.lab_run.specs.Keeping.{ReadsOnce}
 use Rattle.lab_run.specs.declared.finding.Found.{Found}

@@ -3,7 +3,7 @@ use Rattle.dix_base.specs.Stores.{StoreState}
 use Rattle.rig_discovery.specs.Openings.{OpenedOnce as RigOpenedOnce}
 use Rattle.image_rig.specs.Heads.{called}
 use Rattle.rig_api.specs.Telling.{Opened, Stayed}
-use Rattle.unit_words.specs.Words.{image_in}
+use Rattle.call_verdict.specs.Words.{image_in}
 use Rattle.lab_run.specs.Calls.{Facts, second_in}
 
 -- What a call leaves as it was, however it ends.

@@ -1,3 +1,5 @@
+pub mod CheckWords
+pub mod Checking
 pub mod Calls
 pub mod Texts
 pub mod Keeping

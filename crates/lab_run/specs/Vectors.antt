@@ -1,6 +1,6 @@
 use Rattle.std.specs.Prelude.{ℕ, ◌≡◌, true, false, List, ◌++◌, length, Some, None, Ok}
 use Rattle.dix_base.specs.Told.{Calm}
-use Rattle.unit_words.specs.Words.{image_in}
+use Rattle.call_verdict.specs.Words.{image_in}
 use Rattle.rig_api.specs.Head.{head_fault, head_of, units_of}
 use Rattle.rig_api.specs.Log.{LogEntry}
 use Rattle.rig_api.specs.declared.rig.RigFault.{RigFault}

@@ -2,14 +2,15 @@
 
 ghost use Rattle.std.specs.Prelude.{◌≡◌, IfNone, IfSome, None, Some, string_bytes};
 ghost use Rattle.std.specs.Str.{bytes_eq};
-ghost use Rattle.unit_words.specs.Words.{word_bytes};
-ghost use Rattle.lab_run.specs.Grammar.{alone, behind_image, command_by, command_in, diff_of, explain_of, export_of, flip_in, image_and_place, import_of, laid_in, layout_alone, show_of, shown, shown_place, sweep_of, vectors_of};
+ghost use Rattle.call_verdict.specs.Words.{word_bytes};
+ghost use Rattle.lab_run.specs.Grammar.{alone, behind_image, check_of, command_by, command_in, diff_of, explain_of, export_of, flip_in, image_and_place, import_of, laid_in, layout_alone, show_of, shown, shown_place, sweep_of, vectors_of};
 
+use crate::check_words::{CheckWords, check_words};
 use crate::layout::layout_of;
 use crate::place::{PlaceWord, place_of};
+use call_verdict::{UnitList, is_name, laid_out};
 use image_text::Layout;
 use script_words::byte;
-use unit_words::{UnitList, is_name, laid_out};
 
 /// A command of the program. Those that work on an image name it by the word behind their own, and
 /// `diff` its second one by the word behind the first place.
@@ -38,6 +39,8 @@ pub enum Command {
     Explain,
     /// `sweep BYTE T:BLOCKS ..`: runs a script in memory, once for each byte that may be altered.
     Sweep { byte: u8, units: UnitList },
+    /// `check FLAG VALUE ..`: writes the bad blocks of the dump on standard input.
+    Check { words: CheckWords },
 }
 
 fn is_word(word: &String, text: &[u8]) -> bool
@@ -197,6 +200,14 @@ fn sweep_of(words: &[String]) -> Option<Command>
     Some(Command::Sweep { byte, units })
 }
 
+/// `FLAG VALUE ..` behind `check`.
+fn check_of(words: &[String]) -> Option<Command>
+    ensures { result ≡ check_of (word_bytes words.now) }
+{
+    let words = check_words(words)?;
+    Some(Command::Check { words })
+}
+
 /// The command of the words, or `None` where they are not in the grammar.
 pub(crate) fn command_of(words: &[String]) -> Option<Command>
     ensures { result ≡ command_in (word_bytes words.now) }
@@ -235,6 +246,9 @@ fn command_by(verb: &String, words: &[String]) -> Option<Command>
     }
     if is_word(verb, b"sweep") {
         return sweep_of(words);
+    }
+    if is_word(verb, b"check") {
+        return check_of(words);
     }
     None
 }

@@ -6,7 +6,7 @@ ghost use Rattle.image_blocks.specs.Images.{units_open};
 ghost use Rattle.image_blocks.specs.Places.{IsStretch, spec_of};
 ghost use Rattle.lab_run.specs.declared.command.Command.{Command};
 ghost use Rattle.rig_api.specs.State.{RigState};
-ghost use Rattle.unit_words.specs.Words.{word_bytes};
+ghost use Rattle.call_verdict.specs.Words.{word_bytes};
 ghost use Rattle.lab_run.specs.Calls.{on_both, second_in};
 ghost use Rattle.lab_run.specs.Commands.{Came};
 ghost use Rattle.lab_run.specs.Comparing.{compared_status};
@@ -14,11 +14,10 @@ ghost use Rattle.lab_run.specs.Comparing.{compared_status};
 use crate::finding::{Found, find};
 use crate::place::PlaceWord;
 use crate::refusal::Refusal;
-use call_verdict::{Status, status_for};
+use call_verdict::{Status, image_of, status_for};
 use dix_base::{Sink, Store};
 use image_text::{DiffFault, TwoPlaces, diff_blocks};
 use std::alloc::Global;
-use unit_words::image_of;
 
 /// The second image that the words of a command name: the fourth of them, or nothing where they are fewer.
 fn second_of(words: &[String]) -> &str

@@ -1,7 +1,7 @@
 //! Explaining the run of a script.
 
 ghost use Rattle.std.specs.Prelude.{◌≡◌, ◌≤◌, Some, drop, length, IfOk};
-ghost use Rattle.unit_words.specs.Words.{word_bytes};
+ghost use Rattle.call_verdict.specs.Words.{word_bytes};
 ghost use Rattle.call_verdict.specs.Verdicts.{IsPassedOn, Written, done_status};
 ghost use Rattle.dix_base.specs.Stores.{StoreState};
 ghost use Rattle.lab_run.specs.declared.command.Command.{Command};
@@ -12,12 +12,11 @@ ghost use Rattle.lab_run.specs.Calls.{on_rig};
 ghost use Rattle.lab_run.specs.Commands.{Came};
 
 use crate::refusal::Refusal;
-use call_verdict::{Status, finish, status_for};
+use call_verdict::{Status, finish, image_of, status_for};
 use dix_base::{Failed, Sink, Source};
 use rig_api::Rig;
 use run_words::{Explained, Unexplained, explain_source, print_explained};
 use std::alloc::Global;
-use unit_words::image_of;
 
 /// Writes the report of a run and what it means.
 fn tell_run<R: Rig, O: Sink>(out: &mut O, told: &Explained, rig: &R) -> Status

@@ -5,7 +5,7 @@ ghost use Rattle.std.specs.Prelude.{◌≡◌, ℕ, List, Option, Some, IfOk};
 ghost use Rattle.dix_base.specs.Stores.{StoreState};
 ghost use Rattle.lab_run.specs.declared.command.Command.{Command};
 ghost use Rattle.rig_api.specs.State.{RigState};
-ghost use Rattle.unit_words.specs.Words.{word_bytes};
+ghost use Rattle.call_verdict.specs.Words.{word_bytes};
 ghost use Rattle.lab_run.specs.Calls.{on_first};
 ghost use Rattle.lab_run.specs.Commands.{Came};
 
@@ -14,11 +14,10 @@ use crate::finding::find;
 use crate::place::PlaceWord;
 use crate::refusal::Refusal;
 use crate::showing::ROOM;
-use call_verdict::Status;
+use call_verdict::{Status, image_of};
 use dix_base::{Sink, Store};
 use image_text::{Layout, export_blocks};
 use std::alloc::Global;
-use unit_words::image_of;
 
 /// `export IMAGE PLACE LAYOUT`: writes the blocks of the place in the layout.
 pub(crate) fn export<A: Store, O: Sink>(

@@ -5,7 +5,7 @@ ghost use Rattle.std.specs.Prelude.{◌≡◌, Some, IfOk};
 ghost use Rattle.dix_base.specs.Stores.{StoreState};
 ghost use Rattle.lab_run.specs.declared.command.Command.{Command};
 ghost use Rattle.rig_api.specs.State.{RigState};
-ghost use Rattle.unit_words.specs.Words.{word_bytes};
+ghost use Rattle.call_verdict.specs.Words.{word_bytes};
 ghost use Rattle.lab_run.specs.Calls.{on_input};
 ghost use Rattle.lab_run.specs.Commands.{Came};
 
@@ -13,11 +13,10 @@ use crate::dumps::{fits_there, imported_line, sized};
 use crate::finding::find;
 use crate::place::PlaceWord;
 use crate::refusal::Refusal;
-use call_verdict::{Status, finish};
+use call_verdict::{Status, finish, image_of};
 use dix_base::{Sink, Source, Store};
 use image_text::{Layout, import_blocks};
 use std::alloc::Global;
-use unit_words::image_of;
 
 /// `import IMAGE PLACE LAYOUT`: puts what the source gives in the place.
 pub(crate) fn import<S: Source, A: Store, O: Sink>(

@@ -7,7 +7,7 @@ ghost use Rattle.lab_run.specs.declared.command.Command.{Command};
 ghost use Rattle.rig_api.specs.State.{RigState};
 ghost use Rattle.script_lines.specs.declared.kind.ScriptKind.{ScriptKind};
 ghost use Rattle.script_text.specs.Language.{script_in};
-ghost use Rattle.unit_words.specs.Words.{word_bytes};
+ghost use Rattle.call_verdict.specs.Words.{word_bytes};
 ghost use Rattle.lab_run.specs.Calls.{on_input};
 ghost use Rattle.lab_run.specs.Commands.{Came};
 ghost use Rattle.lab_run.specs.Judging.{AsList, AsScript, Judges, Says, is_short_list, reads_of};

@@ -3,6 +3,8 @@
 //! their runs, and sweeps flips.
 #![tactic(auto)]
 
+mod check_words;
+mod checking;
 mod command;
 mod comparing;
 mod dumps;
@@ -22,6 +24,7 @@ mod sweeping;
 mod usage;
 
 pub use call_verdict::{Status, refuse};
+pub use check_words::CheckWords;
 pub use command::Command;
 pub use layout::layout_of;
 pub use place::PlaceWord;

@@ -1,7 +1,7 @@
 //! The vectors of a text.
 
 ghost use Rattle.std.specs.Prelude.{◌≡◌, Some, drop, IfOk};
-ghost use Rattle.unit_words.specs.Words.{word_bytes};
+ghost use Rattle.call_verdict.specs.Words.{word_bytes};
 ghost use Rattle.call_verdict.specs.Verdicts.{IsPassedOn, Written, done_status};
 ghost use Rattle.dix_base.specs.Stores.{StoreState};
 ghost use Rattle.lab_run.specs.declared.command.Command.{Command};
@@ -11,11 +11,10 @@ ghost use Rattle.lab_run.specs.Calls.{on_rig};
 ghost use Rattle.lab_run.specs.Commands.{Came};
 
 use crate::refusal::Refusal;
-use call_verdict::{Status, status_for};
+use call_verdict::{Status, image_of, status_for};
 use dix_base::{Failed, Sink, Source};
 use rig_api::Rig;
 use std::alloc::Global;
-use unit_words::image_of;
 use vector_runs::{Played, play_source, print_played};
 
 /// Writes the vectors of a text whose commands were done.

@@ -3,12 +3,13 @@
 ghost use Rattle.std.specs.Prelude.{IfOk};
 ghost use Rattle.call_verdict.specs.Verdicts.{IsPassedOn};
 ghost use Rattle.lab_run.specs.Grammar.{command_in};
-ghost use Rattle.unit_words.specs.Words.{word_bytes};
+ghost use Rattle.call_verdict.specs.Words.{word_bytes};
 ghost use Rattle.lab_run.specs.Calls.{Facts};
 ghost use Rattle.lab_run.specs.Commands.{Came};
 ghost use Rattle.lab_run.specs.Headline.{Carries};
 ghost use Rattle.lab_run.specs.Sinks.{sunk};
 
+use crate::checking::check;
 use crate::command::{Command, command_of};
 use crate::comparing::diff;
 use crate::explaining::explain;
@@ -70,13 +71,14 @@ fn answer<S: Source, R: Rig, A: Store, B: Store, O: Sink>(
         Command::Judge => judge(alloc, words, input, out),
         Command::Explain => explain(alloc, words, input, rig, out),
         Command::Sweep { byte, units } => sweep(alloc, words, byte, &units, input, out),
+        Command::Check { words: said } => check(alloc, words, said, input, out),
     }
 }
 
 /// Runs the program on its words, without its own name: does the command that they are, and writes its
 /// text to `out`, or the line of its refusal to `says`. `show` and `export` work on the first store, `diff` on both,
 /// `import` on the source and the first store, `vectors` on the source and the rig, `explain` on the source and, where
-/// it has an image, on the rig, `sweep` on the source.
+/// it has an image, on the rig, `sweep` and `check` on the source.
 pub fn run<S: Source, R: Rig, A: Store, B: Store, O: Sink, E: Sink>(
     alloc: Global,
     words: &[String],

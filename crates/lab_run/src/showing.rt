@@ -7,7 +7,7 @@ ghost use Rattle.dix_base.specs.Stores.{StoreState};
 ghost use Rattle.image_blocks.specs.Images.{units_open};
 ghost use Rattle.lab_run.specs.declared.command.Command.{Command};
 ghost use Rattle.rig_api.specs.State.{RigState};
-ghost use Rattle.unit_words.specs.Words.{word_bytes};
+ghost use Rattle.call_verdict.specs.Words.{word_bytes};
 ghost use Rattle.lab_run.specs.Calls.{on_first};
 ghost use Rattle.lab_run.specs.Commands.{Came};
 ghost use Rattle.lab_run.specs.Showing.{shown_status};
@@ -15,12 +15,11 @@ ghost use Rattle.lab_run.specs.Showing.{shown_status};
 use crate::finding::find;
 use crate::place::PlaceWord;
 use crate::refusal::Refusal;
-use call_verdict::{Status, status_for};
+use call_verdict::{Status, image_of, status_for};
 use dix_base::{Failed, Sink, Store};
 use image_blocks::{Image, WalkFault, open_image};
 use image_text::Tally;
 use std::alloc::Global;
-use unit_words::image_of;
 
 /// Writes the units of an image.
 fn list_units<O: Sink>(image: &Image, out: &mut O) -> Status

@@ -2,7 +2,7 @@
 
 ghost use Rattle.call_verdict.specs.Verdicts.{IsPassedOn};
 ghost use Rattle.std.specs.Prelude.{◌≡◌, Some, IfOk};
-ghost use Rattle.unit_words.specs.Words.{word_bytes};
+ghost use Rattle.call_verdict.specs.Words.{word_bytes};
 ghost use Rattle.dix_base.specs.Stores.{StoreState};
 ghost use Rattle.rig_api.specs.State.{RigState};
 ghost use Rattle.lab_run.specs.declared.command.Command.{Command};
@@ -12,12 +12,11 @@ ghost use Rattle.lab_run.specs.Commands.{Came};
 ghost use Rattle.lab_run.specs.Swept.{halt_status};
 
 use crate::refusal::Refusal;
-use call_verdict::{Status, status_for};
+use call_verdict::{Status, UnitList, status_for};
 use dix_base::{Sink, Source};
 use flip_sweep::{Halt, Unswept, sweep_script};
 use run_command::take_script;
 use std::alloc::Global;
-use unit_words::UnitList;
 
 /// The status of a sweep that was broken off.
 fn halt_status(halt: Halt) -> Status

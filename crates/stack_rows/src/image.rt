@@ -1,11 +1,11 @@
 //! A formatted image in memory.
 
+use call_verdict::unit_of;
 use dix_base::MemStore;
 use image_rig::ImageRig;
 use rig_api::UnitSpec;
 use std::alloc::{AllocError, Global};
 use test_rig::formatted;
-use unit_words::unit_of;
 
 #[derive(Drop)]
 pub(crate) struct Image {

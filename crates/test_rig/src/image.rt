@@ -1,11 +1,11 @@
 //! Images in memory: freshly formatted, and changed as the lines of a row say.
 
+use call_verdict::unit_of;
 use dix_base::MemStore;
 use image_rig::ImageRig;
 use rig_api::{Rig, UnitSpec, is_layout};
 use std::alloc::{AllocError, Global};
 use test_table::{bytes_of, cut, number};
-use unit_words::unit_of;
 
 /// Whether a rig has formatted these units.
 fn format<R: Rig>(alloc: Global, rig: &mut R, units: &[UnitSpec]) -> bool {

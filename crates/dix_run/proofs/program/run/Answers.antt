@@ -1,5 +1,5 @@
 use Rattle.std.proofs.Common.{None, Some, refl, sym, ap, ◌∙◌}
-use Rattle.unit_words.specs.Words.{word_bytes}
+use Rattle.call_verdict.specs.Words.{word_bytes}
 use Rattle.dix_run.specs.declared.command.Command.{Command}
 use Rattle.dix_run.specs.declared.command.Command.TheVariants.{Run, Trace, Format, Migrate, Mirror, Scrub, Nvme, Modes, Big}
 use Rattle.dix_run.specs.Commands.{no_command}

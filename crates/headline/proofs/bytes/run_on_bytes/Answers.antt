@@ -1,5 +1,5 @@
 use Rattle.std.proofs.Common.{Some, sym, ap, ◌∙◌, arith}
-use Rattle.unit_words.specs.Words.{word_bytes}
+use Rattle.call_verdict.specs.Words.{word_bytes}
 use Rattle.headline.proofs.Headlined.{answered, headlined_by}
 use Rattle.headline.proofs.bytes.run_on_bytes.Goals as goal
 

@@ -1,6 +1,6 @@
 use Rattle.std.proofs.Common.{None, Some, Ok, Err, refl, sym, ap, ◌∙◌}
 use Rattle.lab_run.specs.declared.command.Command.{Command}
-use Rattle.lab_run.specs.declared.command.Command.TheVariants.{Help, Version, ShowUnits, ShowBlocks, Diff, Export, Import, Vectors, Judge, Explain, Sweep}
+use Rattle.lab_run.specs.declared.command.Command.TheVariants.{Help, Version, ShowUnits, ShowBlocks, Diff, Export, Import, Vectors, Judge, Explain, Sweep, Check}
 use Rattle.lab_run.specs.declared.refusal.Refusal.TheVariants as refusal
 use Rattle.lab_run.proofs.Carrying.{came_by}
 use Rattle.lab_run.proofs.program.answer.Goals as goal
@@ -43,3 +43,6 @@ returns-in-Explain-clause-came g c = came_by (Some Explain) c.explain.result _ _
 
 pub returns-in-Sweep-clause-came : goal.returns-in-Sweep-clause-came
 returns-in-Sweep-clause-came g c = came_by (Some (Sweep c.in-Sweep.byte c.in-Sweep.units)) c.sweep.result _ _ _ _ _ (sym c.command_of.ensures ∙ c.in-Some.is ∙ ap (λ (x : Command). Some x) c.in-Sweep.is) (c.sweep.ensures.came _ _ _)
+
+pub returns-in-Check-clause-came : goal.returns-in-Check-clause-came
+returns-in-Check-clause-came g c = came_by (Some (Check c.in-Check.said)) c.check.result _ _ _ _ _ (sym c.command_of.ensures ∙ c.in-Some.is ∙ ap (λ (x : Command). Some x) c.in-Check.is) (c.check.ensures.came _ _ _)

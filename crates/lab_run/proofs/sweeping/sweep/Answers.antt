@@ -1,6 +1,6 @@
 use Rattle.std.proofs.Common.{Ok, Err, refl}
 use Rattle.std.proofs.lemmas.Result.{err_from_is_err_and}
-use Rattle.unit_words.specs.Words.{word_bytes}
+use Rattle.call_verdict.specs.Words.{word_bytes}
 use Rattle.flip_sweep.specs.declared.sweep.Unswept.TheVariants as unswept
 use Rattle.lab_run.specs.Swept.{swept}
 use Rattle.lab_run.proofs.Named.{sweep_good}

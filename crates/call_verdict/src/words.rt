@@ -1,7 +1,7 @@
 //! Words that name an image, and words of units.
 
 ghost use Rattle.std.specs.Prelude.{◌≡◌, ◌≤◌, length, option_map, string_bytes};
-ghost use Rattle.unit_words.specs.Words.{image_in, is_name, laid_out, units_in, word_bytes};
+ghost use Rattle.call_verdict.specs.Words.{image_in, is_name, laid_out, units_in, word_bytes};
 
 use crate::UnitList;
 use crate::unit::unit_of;

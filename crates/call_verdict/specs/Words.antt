@@ -2,7 +2,7 @@
 use Rattle.std.specs.Prelude.{ℕ, Bool, false, not, eqb, if◌then◌else◌, List, [], ◌∷◌, String, string_bytes, Option, Some, None}
 use Rattle.rig_api.specs.Headers.{is_layout}
 use Rattle.rig_api.specs.declared.units.UnitSpec.{UnitSpec}
-use Rattle.unit_words.specs.Units.{unit_in}
+use Rattle.call_verdict.specs.Units.{unit_in}
 
 -- the bytes of the words
 abbrev pub word_bytes : {Z : Type 0} → List (String Z) → List (List ℕ)

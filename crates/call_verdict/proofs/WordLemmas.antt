@@ -4,8 +4,8 @@ use Rattle.std.specs.Prelude.{String}
 use Rattle.std.specs.List.{list_all}
 use Rattle.rig_api.specs.Headers.{is_layout, is_spec}
 use Rattle.rig_api.specs.declared.units.UnitSpec.{UnitSpec}
-use Rattle.unit_words.specs.Units.{unit_in}
-use Rattle.unit_words.specs.Words.{image_in, laid_out, units_in, with_unit, word_bytes}
+use Rattle.call_verdict.specs.Units.{unit_in}
+use Rattle.call_verdict.specs.Words.{image_in, laid_out, units_in, with_unit, word_bytes}
 use Rattle.small_laws.proofs.Tests.{second_no}
 
 -- the units so far, with those that follow

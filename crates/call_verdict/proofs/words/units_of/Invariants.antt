@@ -1,7 +1,7 @@
 use Rattle.std.proofs.Common.{◌≡◌, length, drop}
-use Rattle.unit_words.specs.Words.{units_in, word_bytes}
-use Rattle.unit_words.proofs.WordLemmas.{joined}
-use Rattle.unit_words.proofs.words.units_of.Given as goal
+use Rattle.call_verdict.specs.Words.{units_in, word_bytes}
+use Rattle.call_verdict.proofs.WordLemmas.{joined}
+use Rattle.call_verdict.proofs.words.units_of.Given as goal
 
 abbrev pub invariant-loop-word : goal.invariant-loop-word
 invariant-loop-word l = record {

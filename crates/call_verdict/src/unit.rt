@@ -1,7 +1,7 @@
 //! A unit as a word orders it: `T:BLOCKS` or `T:BLOCKS:SIZE:FIRST`.
 
 ghost use Rattle.std.specs.Prelude.{◌≡◌};
-ghost use Rattle.unit_words.specs.Units.{spec_of, type_in, type_numbered, unit_in};
+ghost use Rattle.call_verdict.specs.Units.{spec_of, type_in, type_numbered, unit_in};
 
 use pi_tuple::{LARGEST_BLOCK, PiType};
 use rig_api::{UnitSpec, is_spec};
