@@ -190,16 +190,3 @@ low_fits size kind c h = search rules
 pub told_form : (o : Op) (c : DeviceCommand) (rest : List ℕ) → Is o c → told o (form o c ++ rest) ≡ c
 told_form o c rest is =
     told_back (size_of o) _ (number o) (kind_of o) c rest (sym is.number) is.bounds (group_of (size_of o) (kind_of o) c is.fits) (size_fits (size_of o) (kind_of o) c is.fits) (low_back (size_of o) (kind_of o) c (low_fits (size_of o) (kind_of o) c is.fits))
-
-at_most_8 : (size : Size) → dld_values size ≤ 8
-at_most_8 Ten = omega arith
-at_most_8 Twelve = omega arith
-at_most_8 Sixteen = omega arith
-at_most_8 ThirtyTwo = omega arith
-
--- DLD has three bits at most
-pub dld_below : (size : Size) (kind : Kind) (c : DeviceCommand) → fits size kind c ≡ true → c.dld < 8
-dld_below size kind c h =
-    let l = low_back size kind c (low_fits size kind c h) in
-    let most = at_most_8 size in
-    let dld = l.dld in omega (arith, most, dld)

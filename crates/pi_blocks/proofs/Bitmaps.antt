@@ -112,9 +112,6 @@ blocks_by_next k n h = elim (cases_lt (8 * (k + 1)) n) [
   | inr above ↦ ap (λ m. 8 * k + m) (min-eq_left (omega arith)) ∙ (whole_again k n h ∙ sym (min-eq_right (omega arith)))
 ]
 
-pub blocks_in_all : (n : ℕ) → min (8 * bytes_for n) n ≡ n
-blocks_in_all n = min-eq_right (omega arith)
-
 -- a bit that is marked, or none
 pub mark_small : (told : Option Found) (bit mark : ℕ) → mark ≡ (if is_told told then bit else 0) → mark ≤ bit
 mark_small told bit mark e = let a = bit_small (is_told told) bit in omega (arith, a, e)

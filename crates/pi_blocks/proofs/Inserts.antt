@@ -49,11 +49,3 @@ strips_more l n blocks old now new inside room h e =
     let next = next_block n l.data_size in
     let long = held-length l n blocks inside in
     puts_more (place_of_data l) (held l blocks) n (n * l.data_size) ((n + 1) * l.data_size) old now new h e (omega arith) (omega arith) (omega arith)
-
--- the data of a block copied to their place
-pub held_is_put : (l : Layout) (i stride : ℕ) (blocks bytes piece : List ℕ) → stride ≡ stride_of l → i * stride_of l + stride_of l ≤ length blocks
-    → piece ≡ take (i * stride + l.data_size - i * stride) (drop (i * stride) blocks) → put_mid (i * l.data_size) (i * l.data_size + l.data_size - i * l.data_size) bytes piece ≡ put_at (place_of_data l i) (held l blocks i) bytes
-held_is_put l i stride blocks bytes piece s inside e =
-    let d : i * stride + l.data_size - i * stride ≡ l.data_size = omega arith in
-    let same : piece ≡ held l blocks i = e ∙ (ap (λ m. take m (drop (i * stride) blocks)) d ∙ ap (λ m. take l.data_size (drop (i * m) blocks)) s) in
-    part_is_put (i * l.data_size) l.data_size piece bytes (ap length same ∙ held-length l i blocks inside) ∙ ap (λ (p : List ℕ). put_at (place_of_data l i) p bytes) same

@@ -48,9 +48,6 @@ pub past_before : {P : Type 0} (read : P → List ℕ) (ps : List P) (i n : ℕ)
 past_before read ps i n e =
     append-nil (all_of read (take (i + 1) ps)) ∙ (front_is read ps i ∙ ap (λ (x : List ℕ). all_of read (take i ps) ++ x) (sym (take_all n (first_of read (drop i ps)) (omega arith))))
 
-pub past_left : {P : Type 0} (read : P → List ℕ) (ps : List P) (i n : ℕ) → length (first_of read (drop i ps)) ≡ n → all_of read (drop (i + 1) ps) ≡ drop n (all_of read (drop i ps))
-past_left read ps i n e = sym (ap (drop n) (rest_is read ps i) ∙ drop_at (first_of read (drop i ps)) (all_of read (drop (i + 1) ps)) n e)
-
 -- what a piece that was put ends
 ends_put : (at : ℕ) (piece bytes : List ℕ) → at + length piece ≤ length bytes → take (at + length piece) (put_at at piece bytes) ≡ take at bytes ++ piece
 ends_put at piece bytes h =

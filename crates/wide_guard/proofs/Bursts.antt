@@ -29,10 +29,6 @@ turned_back (false ∷ xs) (false ∷ ys) e = ap (λ v. false ∷ v) (turned_bac
 turned_back (true ∷ xs) (false ∷ ys) e = absurd cc
 turned_back (false ∷ xs) (true ∷ ys) e = absurd cc
 
-bits_length : (n x : ℕ) → length (low_bits n x) ≡ n
-bits_length zero x = refl
-bits_length (suc n) x = ap suc (bits_length n (x / 2))
-
 low_first-length : (xs : List ℕ) → length (low_first xs) ≡ 8 * length xs
 low_first-length [] = refl
 low_first-length (x ∷ xs) = let h = low_first-length xs in omega arith
