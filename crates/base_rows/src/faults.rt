@@ -1,6 +1,6 @@
 //! Schedules of faults, and what they do to what crosses.
 
-use crate::names::{add, none, or_dash};
+use crate::names::{add, none, or_dash, yes_or_no};
 use arrayvec::ArrayVec;
 use fault_schedule::{Crossing, FaultKind, FaultLine, FaultList, Label, ShortBytes, Tamper};
 use std::alloc::{AllocError, Global};
@@ -47,6 +47,9 @@ fn kind_of(alloc: Global, word: &str, amount: &str) -> Result<FaultKind, AllocEr
             bytes: small(amount),
         });
     }
+    if word == "fail" {
+        return Ok(FaultKind::Fail);
+    }
     let (off, bytes) = cut(amount);
     Ok(FaultKind::Flip {
         off: small(off),
@@ -54,7 +57,7 @@ fn kind_of(alloc: Global, word: &str, amount: &str) -> Result<FaultKind, AllocEr
     })
 }
 
-/// A line of a schedule: the kind, the op, the block, the crossing, and by how many blocks, which bytes or how many.
+/// A line of a schedule: the kind, the op, the block, the crossing, and by how many blocks, which bytes, how many, or nothing.
 fn line_of(alloc: Global, words: &str) -> Result<FaultLine, AllocError> {
     let (word, rest) = cut(words);
     let (op, rest) = cut(rest);
@@ -91,6 +94,7 @@ fn line_text(alloc: Global, line: &FaultLine) -> Result<String, AllocError> {
         }
         FaultKind::Shift { by } => format!(in alloc; "shift {op} {k} {at} {by}"),
         FaultKind::Keep { bytes } => format!(in alloc; "keep {op} {k} {at} {bytes}"),
+        FaultKind::Fail => format!(in alloc; "fail {op} {k} {at}"),
     }
 }
 
@@ -138,6 +142,17 @@ fn kept(alloc: Global, schedule: &str, words: &str) -> Result<String, AllocError
     }
 }
 
+/// Whether the medium fails a block, by the op and the block.
+fn failing(alloc: Global, schedule: &str, words: &str) -> Result<String, AllocError> {
+    let (op, k) = cut(words);
+    let label = Label {
+        op: small(op),
+        k: small(k),
+    };
+    let fails = tamper_of(alloc, schedule)?.fails(label);
+    String::from_str(alloc, yes_or_no(fails))
+}
+
 pub(crate) fn answer(alloc: Global, schedule: &str, words: &str) -> Result<String, AllocError> {
     let (call, rest) = cut(words);
     match call {
@@ -146,6 +161,7 @@ pub(crate) fn answer(alloc: Global, schedule: &str, words: &str) -> Result<Strin
         "cross" => crossed(alloc, schedule, rest),
         "shift" => shifted(alloc, schedule, rest),
         "keep" => kept(alloc, schedule, rest),
+        "fail" => failing(alloc, schedule, rest),
         _ => none(alloc),
     }
 }

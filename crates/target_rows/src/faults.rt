@@ -53,6 +53,16 @@ pub(crate) fn keep(words: &str) -> FaultLine {
     }
 }
 
+/// A block that the medium can't store or send, by its place in its command.
+pub(crate) fn fail(words: &str) -> FaultLine {
+    FaultLine {
+        op: 7,
+        k: small(words),
+        at: Crossing::TargetToMedium,
+        kind: FaultKind::Fail,
+    }
+}
+
 /// A shift of the address, by two words: the crossing, and by how many blocks.
 pub(crate) fn shift(words: &str) -> FaultLine {
     let (at, by) = cut(words);

@@ -1,6 +1,6 @@
 //! The steps of a row.
 
-use crate::faults::{flip, keep, shift};
+use crate::faults::{fail, flip, keep, shift};
 use crate::outcomes::is_outcome;
 use crate::units::answered;
 use dix_base::MemStore;
@@ -70,6 +70,7 @@ impl Scene {
             "flip" => self.lines.push(flip(rest))?,
             "shift" => self.lines.push(shift(rest))?,
             "keep" => self.lines.push(keep(rest))?,
+            "fail" => self.lines.push(fail(rest))?,
             "sent" => self.sent = bytes_of(alloc, rest)?,
             "room" => self.into = bytes_of(alloc, rest)?,
             _ => return Ok(false),
