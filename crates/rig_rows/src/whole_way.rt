@@ -123,8 +123,11 @@ pub(crate) fn way_out(block: &Route, tamper: &Tamper, frame: &mut [u8]) -> Optio
         return Some(Why::Adapter(check));
     }
     let stored = stored_size(block.ty, block.size);
-    let finding = passage(block, tamper).to_medium(tamper, &mut frame[..stored]);
-    finding.map(Why::Target)
+    match passage(block, tamper).to_medium(tamper, &mut frame[..stored]) {
+        Some(check) => Some(Why::Target(check)),
+        None if tamper.fails(block.label) => Some(Why::Medium),
+        None => None,
+    }
 }
 
 /// The way in of a block from a target with these faults armed to the owner of its tuple. In `frame`, which has eight
@@ -138,6 +141,9 @@ pub(crate) fn way_in(block: &Route, tamper: &Tamper, owner: Owner, frame: &mut [
         ≡ delivered_of (way_in tamper.now (target tamper.now) block.now owner (take (stored_size block.now.ty block.now.size) frame.old)) }
     ensures length { length frame.new ≡ length frame.old }
 {
+    if tamper.fails(block.label) {
+        return Some(Why::Medium);
+    }
     let stored = stored_size(block.ty, block.size);
     let finding = passage(block, tamper).from_medium(tamper, &mut frame[..stored]);
     if let Some(check) = finding {
