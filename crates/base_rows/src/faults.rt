@@ -2,31 +2,9 @@
 
 use crate::names::{add, none, or_dash, yes_or_no};
 use arrayvec::ArrayVec;
-use fault_schedule::{Crossing, FaultKind, FaultLine, FaultList, Label, ShortBytes, Tamper};
+use fault_schedule::{FaultKind, FaultLine, FaultList, Label, ShortBytes, Tamper};
 use std::alloc::{AllocError, Global};
-use test_table::{bytes_of, cut, hex_of, small};
-
-fn crossing_of(word: &str) -> Crossing {
-    match word {
-        "host" => Crossing::HostToAdapter,
-        "wire" => Crossing::AdapterToTarget,
-        "storing" => Crossing::TargetToMedium,
-        "fetching" => Crossing::MediumToTarget,
-        "sending" => Crossing::TargetToAdapter,
-        _ => Crossing::AdapterToHost,
-    }
-}
-
-fn crossing_name(at: Crossing) -> &'static str {
-    match at {
-        Crossing::HostToAdapter => "host",
-        Crossing::AdapterToTarget => "wire",
-        Crossing::TargetToMedium => "storing",
-        Crossing::MediumToTarget => "fetching",
-        Crossing::TargetToAdapter => "sending",
-        Crossing::AdapterToHost => "landing",
-    }
-}
+use test_table::{bytes_of, crossing_of, crossing_word, cut, hex_of, small};
 
 /// The first 32 of these bytes.
 fn short(bytes: &[u8]) -> ShortBytes {
@@ -86,7 +64,7 @@ pub(crate) fn tamper_of(alloc: Global, schedule: &str) -> Result<Tamper, AllocEr
 }
 
 fn line_text(alloc: Global, line: &FaultLine) -> Result<String, AllocError> {
-    let (op, k, at) = (line.op, line.k, crossing_name(line.at));
+    let (op, k, at) = (line.op, line.k, crossing_word(line.at));
     match &line.kind {
         FaultKind::Flip { off, bytes } => {
             let bytes = hex_of(alloc, bytes.as_slice())?;

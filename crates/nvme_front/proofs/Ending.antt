@@ -1,6 +1,6 @@
 -- How a told unit ends a translated command: by a completion of its own, and with whole frames.
 use Rattle.std.proofs.Common.{◌≡◌, ◌≤◌, ◌<◌, ℕ, zero, suc, ◌+◌, ◌-◌, ◌*◌, Bool, true, false, not, ◌&&◌, eqb, ltb, List, [], ◌∷◌, length, take, drop, refl, ap, sym, subst, ◌∙◌, arith, inl, inr, ⊎_elim, Option, Some, None, ◌⊎◌}
-use Rattle.std.specs.Prelude.{if◌then◌else◌, Result, Ok, Err, pos, ◌+ℤ◌, nat_abs}
+use Rattle.std.specs.Prelude.{if◌then◌else◌, Result, Ok, Err, ℤ, pos, ◌+ℤ◌, nat_abs}
 use Rattle.std.proofs.lemmas.Bool.{cases_Bool}
 use Rattle.std.proofs.lemmas.List.{length-append, length-drop, length-take-le}
 use Rattle.pi_tuple.specs.Finds.{is_zero}
@@ -16,7 +16,7 @@ use Rattle.fault_schedule.specs.declared.fault.FaultLine.{FaultLine}
 use Rattle.rig_api.specs.Frames.{data_of, frames_of, joined, sent_size}
 use Rattle.rig_api.specs.Passing.{found_in, from_medium, to_medium}
 use Rattle.rig_api.specs.Requests.{is_foreign, request_of}
-use Rattle.rig_api.specs.Target.{Answer, Broken, Flaw, Found, Stop, Stored, answer_unless, bytes_of, carried_out, check_sense, each, first_of, first_sense, has_blocks, illegal, kept_over, medium_address, medium_sense, off_medium, onto_medium, passage, passed, read_by, read_end, refusal, refusals_of, refused, sent_unless, shape_of, stored_from, stored_unless, target_answer, whole, wire_address, write_end, written_by}
+use Rattle.rig_api.specs.Target.{Answer, Broken, Flaw, Found, Stop, Stored, answer_unless, bytes_of, carried_out, check_sense, each, first_of, first_sense, has_blocks, illegal, kept_over, medium_address, medium_sense, move_refusals, off_medium, onto_medium, passage, passed, read_by, read_end, refusal, refusals_of, refused, sent_unless, shape_of, stored_address, stored_from, stored_unless, target_answer, whole, wire_address, write_end, written_by}
 use Rattle.rig_api.specs.declared.request.Request.TheVariants.{Read, Write}
 use Rattle.rig_api.specs.declared.units.UnitSpec.{UnitSpec}
 use Rattle.rig_api.proofs.KeptLaws.{kept-many}
@@ -105,28 +105,29 @@ refused-named n = either (eqb 0 n) out_of_range refl
 
 -- ---- refusals
 
-four : (a b o w : Bool) → a ≡ false → b ≡ false → w ≡ false →
-    first_of (record { comes = a; asc = 0x20 } ∷ record { comes = b; asc = 0x24 } ∷ record { comes = o; asc = 0x21 } ∷ record { comes = w; asc = 0x24 } ∷ []) ≡ (if o then Some (illegal 0x21) else None)
-four a b o w p q r = rw (p, q, r) refl
-
 five : (a b o f w : Bool) → a ≡ false → b ≡ false → w ≡ false →
     first_of (record { comes = a; asc = 0x20 } ∷ record { comes = b; asc = 0x24 } ∷ record { comes = o; asc = 0x21 } ∷ record { comes = f; asc = 0x21 } ∷ record { comes = w; asc = 0x24 } ∷ []) ≡ (if o then Some (illegal 0x21) else (if f then Some (illegal 0x21) else None))
 five a b o f w p q r = rw (p, q, r) refl
 
+refusal-of-move : (unit : UnitSpec) (cmd : Cdb) (c : Rw) (told moved : ℤ) (bytes : ℕ) → is_foreign unit.ty cmd ≡ false → (is_zero unit.ty && not (eqb c.protect 0)) ≡ false → bytes ≡ bytes_of unit.size c →
+    first_of (move_refusals unit cmd c told moved bytes)
+    ≡ (if not (has_blocks unit told c.n) then Some (illegal 0x21) else (if not (eqb c.n 0) && not (has_blocks unit moved c.n) then Some (illegal 0x21) else None))
+refusal-of-move unit cmd c told moved bytes f z e =
+    five (is_foreign unit.ty cmd) (is_zero unit.ty && not (eqb c.protect 0)) (not (has_blocks unit told c.n)) (not (eqb c.n 0) && not (has_blocks unit moved c.n)) (not (eqb bytes (bytes_of unit.size c))) f z (no_other_number bytes (bytes_of unit.size c) e)
+
 refusal-of-write : (unit : UnitSpec) (cmd : Cdb) (c : Rw) (armed : List FaultLine) (out room : ℕ) → request_of cmd ≡ Write c → is_foreign unit.ty cmd ≡ false → (is_zero unit.ty && not (eqb c.protect 0)) ≡ false → out ≡ bytes_of unit.size c →
-    refusal unit (Ok cmd) armed [] out room ≡ (if not (has_blocks unit (wire_address armed [] c) c.n) then Some (illegal 0x21) else None)
+    refusal unit (Ok cmd) armed [] out room
+    ≡ (if not (has_blocks unit (wire_address armed [] c) c.n) then Some (illegal 0x21) else (if not (eqb c.n 0) && not (has_blocks unit (stored_address armed [] c) c.n) then Some (illegal 0x21) else None))
 unfolding refusal
 refusal-of-write unit cmd c armed out room q f z e =
-    ap (λ r. first_of (refusals_of unit cmd r armed [] out room)) q
-    ∙ four (is_foreign unit.ty cmd) (is_zero unit.ty && not (eqb c.protect 0)) (not (has_blocks unit (wire_address armed [] c) c.n)) (not (eqb out (bytes_of unit.size c))) f z (no_other_number out (bytes_of unit.size c) e)
+    ap (λ r. first_of (refusals_of unit cmd r armed [] out room)) q ∙ refusal-of-move unit cmd c (wire_address armed [] c) (stored_address armed [] c) out f z e
 
 refusal-of-read : (unit : UnitSpec) (cmd : Cdb) (c : Rw) (armed : List FaultLine) (out room : ℕ) → request_of cmd ≡ Read c → is_foreign unit.ty cmd ≡ false → (is_zero unit.ty && not (eqb c.protect 0)) ≡ false → room ≡ bytes_of unit.size c →
     refusal unit (Ok cmd) armed [] out room
     ≡ (if not (has_blocks unit (wire_address armed [] c) c.n) then Some (illegal 0x21) else (if not (eqb c.n 0) && not (has_blocks unit (medium_address armed [] c) c.n) then Some (illegal 0x21) else None))
 unfolding refusal
 refusal-of-read unit cmd c armed out room q f z e =
-    ap (λ r. first_of (refusals_of unit cmd r armed [] out room)) q
-    ∙ five (is_foreign unit.ty cmd) (is_zero unit.ty && not (eqb c.protect 0)) (not (has_blocks unit (wire_address armed [] c) c.n)) (not (eqb c.n 0) && not (has_blocks unit (medium_address armed [] c) c.n)) (not (eqb room (bytes_of unit.size c))) f z (no_other_number room (bytes_of unit.size c) e)
+    ap (λ r. first_of (refusals_of unit cmd r armed [] out room)) q ∙ refusal-of-move unit cmd c (wire_address armed [] c) (medium_address armed [] c) room f z e
 
 pub answer-by : (unit : Stored) (cmd : Cdb) (armed : List FaultLine) (out : List ℕ) (room : ℕ) (stop : Option Stop) → Fits cmd →
     target_answer unit armed (form cmd) [] out room stop ≡ answer_unless (refusal (shape_of unit) (Ok cmd) armed [] (length out) room) unit (Ok cmd) armed [] out stop
@@ -202,10 +203,6 @@ stored-count unit a n h =
     let d = length-drop (a - unit.first) unit.blocks in
     length-take-le n (drop (a - unit.first) unit.blocks) (let x = k.0 in let y = k.1 in omega (arith, d))
 
-when-not : (o : Bool) (x : Sense) → ((if o then Some x else None) ≡ Some x) ⊎ ((if o then Some x else None) ≡ None)
-when-not true x = inl refl
-when-not false x = inr refl
-
 when-neither : (o f : Bool) (x : Sense) → ((if o then Some x else (if f then Some x else None)) ≡ Some x) ⊎ (((if o then Some x else (if f then Some x else None)) ≡ None) × (o ≡ false) × (f ≡ false))
 when-neither true f x = inl refl
 when-neither false true x = inl refl
@@ -234,16 +231,18 @@ pub write-ends : (unit : Stored) (cmd : Cdb) (c : Rw) (armed : List FaultLine) (
     IsNamed c.n (outcome_of (target_answer unit armed (form cmd) [] out 0 stop))
 write-ends unit cmd c armed out w stop a q l =
     let o = not (has_blocks (shape_of unit) (wire_address armed [] c) c.n) in
+    let f = not (eqb c.n 0) && not (has_blocks (shape_of unit) (stored_address armed [] c) c.n) in
     let r = refusal-of-write (shape_of unit) cmd c armed (length out) 0 q a.own a.tuples (l ∙ ap (λ x. c.n * x) (sym a.width)) in
     let lba = nat_abs (wire_address armed [] c) in
-    let js = kept_over armed [] 0 (stored_from unit lba c.n) (written_by (shape_of unit) c lba armed [] out) in
-    let count : length js ≡ c.n = kept-many armed [] 0 (stored_from unit lba c.n) (written_by (shape_of unit) c lba armed [] out) ∙ each-long (λ k frame. onto_medium armed (passage (shape_of unit) c lba [] k) frame) 0 (frames_of (sent_size c.protect unit.size) c.n out) ∙ frames_length (sent_size c.protect unit.size) c.n out in
-    let found : AreFound js = kept-found armed 0 (stored_from unit lba c.n) (written_by (shape_of unit) c lba armed [] out)
+    let to = nat_abs (stored_address armed [] c) in
+    let js = kept_over armed [] 0 (stored_from unit to c.n) (written_by (shape_of unit) c lba armed [] out) in
+    let count : length js ≡ c.n = kept-many armed [] 0 (stored_from unit to c.n) (written_by (shape_of unit) c lba armed [] out) ∙ each-long (λ k frame. onto_medium armed (passage (shape_of unit) c lba [] k) frame) 0 (frames_of (sent_size c.protect unit.size) c.n out) ∙ frames_length (sent_size c.protect unit.size) c.n out in
+    let found : AreFound js = kept-found armed 0 (stored_from unit to c.n) (written_by (shape_of unit) c lba armed [] out)
     (each-found (λ k frame. onto_medium armed (passage (shape_of unit) c lba [] k) frame) 0 (frames_of (sent_size c.protect unit.size) c.n out) (λ k frame. found-stored (to_medium armed (passage (shape_of unit) c lba [] k) frame))) in
     ⊎_elim
-    (λ (e : (if o then Some (illegal 0x21) else None) ≡ Some (illegal 0x21)). named-at c.n _ _ (of-refused unit cmd armed out 0 stop _ (illegal 0x21) a.fits r e) (refused-named c.n))
-    (λ (e : (if o then Some (illegal 0x21) else None) ≡ None). named-at c.n _ _ (of-carried unit cmd armed out 0 stop _ a.fits r e ∙ ap (λ x. carried_out unit x armed [] out stop) q) (write-named c.n lba js stop found count))
-    (when-not o (illegal 0x21))
+    (λ (e : (if o then Some (illegal 0x21) else (if f then Some (illegal 0x21) else None)) ≡ Some (illegal 0x21)). named-at c.n _ _ (of-refused unit cmd armed out 0 stop _ (illegal 0x21) a.fits r e) (refused-named c.n))
+    (λ (e : ((if o then Some (illegal 0x21) else (if f then Some (illegal 0x21) else None)) ≡ None) × (o ≡ false) × (f ≡ false)). named-at c.n _ _ (of-carried unit cmd armed out 0 stop _ a.fits r e.0 ∙ ap (λ x. carried_out unit x armed [] out stop) q) (write-named c.n lba js stop found count))
+    (when-neither o f (illegal 0x21))
 
 whole-frames : (n w : ℕ) (js : List (Result (List ℕ) Flaw)) → AllLong w (passed js) → length (passed js) ≡ n → length (joined (passed js)) ≡ n * w
 whole-frames n w js h e = joined-long w (passed js) h ∙ ap (λ m. m * w) e

@@ -11,7 +11,7 @@ use Rattle.pi_tuple.specs.Finds.{is_zero}
 use Rattle.pi_tuple.specs.declared.checks.PiType.{PiType}
 use Rattle.pi_tuple.specs.declared.checks.PiType.TheVariants.{Zero, One, Two, Three}
 use Rattle.pi_tuple.specs.declared.checks.Check.{Check}
-use Rattle.rig_api.specs.Passed.{Flaw, data_of, fails_under, off_medium, sent_unless, joined, sent_size, stored_size, crossed, found_in, from_medium, released, unless, request_of, Answer, Refusal, Stored, answer_unless, capacity_data, carried_out, each, first_of, foreign_form, illegal, medium_address, no_tuples, outside, fetched_outside, passage, passed, read_by, refusal, refusals_of, refused, shape_of, stored_from, target_answer, wire_address, wrong_room, bytes_of, Sense, decoded, Cdb, CdbFault, Rw, Label, FaultLine, MediumToTarget, TargetToAdapter}
+use Rattle.rig_api.specs.Passed.{Flaw, data_of, fails_under, off_medium, sent_unless, joined, sent_size, stored_size, crossed, found_in, from_medium, released, unless, request_of, Answer, Refusal, Stored, answer_unless, capacity_data, carried_out, each, first_of, foreign_form, illegal, medium_address, no_tuples, outside, moved_outside, passage, passed, read_by, refusal, refusals_of, refused, shape_of, stored_from, target_answer, wire_address, wrong_room, bytes_of, Sense, decoded, Cdb, CdbFault, Rw, Label, FaultLine, MediumToTarget, TargetToAdapter}
 use Rattle.rig_api.specs.declared.passage.Passage.{Passage}
 use Rattle.rig_api.specs.declared.request.Request.{Request}
 use Rattle.rig_api.specs.declared.request.Request.TheVariants.{Read, ReadCapacity, Verify, Write}
@@ -120,7 +120,7 @@ module _ (u : Stored) (labels : List Label) (out one other : List ℕ) (stored :
   by_request cdb (Verify c) r e l = refl
   by_request cdb (Read c) (Some sense) e l = nothing_taken (min 0 c.n) (sent_size c.protect u.size) _ _ (omega arith)
   by_request cdb (Read c) None e l = reads_alike c
-      (comes_not (foreign_form (shape_of u) cdb) (no_tuples (shape_of u) c) (outside (shape_of u) (wire_address [] labels c) c.n ∷ fetched_outside (shape_of u) (medium_address [] labels c) c.n ∷ wrong_room (length one) (bytes_of u.size c) ∷ []) e)
+      (comes_not (foreign_form (shape_of u) cdb) (no_tuples (shape_of u) c) (outside (shape_of u) (wire_address [] labels c) c.n ∷ moved_outside (shape_of u) (medium_address [] labels c) c.n ∷ wrong_room (length one) (bytes_of u.size c) ∷ []) e)
   by_request cdb (ReadCapacity len) (Some sense) e l = absurd (fits_room (length one) (min len 32) sense l e)
   by_request cdb (ReadCapacity len) None e l =
       let sent = take (min len 32) (capacity_data (shape_of u)) in

@@ -596,6 +596,53 @@ pub none_fetched_from_outside : ask one (shift 7 MediumToTarget (pos 9) ∷ []) 
 unfolding refusal target_answer to_medium from_medium found_in crc
 none_fetched_from_outside = refl
 
+-- A write goes to its address, is checked there, and is stored at another.
+pub write_stored_elsewhere : ask one (shift 7 TargetToMedium (negsuc 0) ∷ []) (ten 0x2A 1 3 1) (label 7 0 ∷ label 7 1 ∷ []) (tagged 0 0 3) 0
+    ≡ record { done = 1; sense = None; blocks = fresh One 512 0 ∷ fresh One 512 1 ∷ tagged 0 0 3 ∷ fresh One 512 3 ∷ []; sent = [] }
+unfolding refusal target_answer to_medium from_medium found_in crc
+write_stored_elsewhere = refl
+
+pub tuple_made_at_its_own_address : ask one (shift 7 TargetToMedium (pos 1) ∷ []) (ten 0x2A 0 2 1) (label 7 0 ∷ label 7 1 ∷ []) one_last 0
+    ≡ record { done = 1; sense = None; blocks = fresh One 512 0 ∷ fresh One 512 1 ∷ fresh One 512 2 ∷ tagged 0 0 2 ∷ []; sent = [] }
+unfolding refusal target_answer to_medium from_medium found_in crc
+tuple_made_at_its_own_address = refl
+
+-- All blocks of the command move.
+pub two_stored_elsewhere : ask one (shift 7 TargetToMedium (pos 1) ∷ []) (ten 0x2A 1 1 2) (label 7 0 ∷ label 7 1 ∷ []) (tagged 0 0 1 ++ tagged 0 0 2) 0
+    ≡ record { done = 2; sense = None; blocks = fresh One 512 0 ∷ fresh One 512 1 ∷ tagged 0 0 1 ∷ tagged 0 0 2 ∷ []; sent = [] }
+unfolding refusal target_answer to_medium from_medium found_in crc
+two_stored_elsewhere = refl
+
+-- What isn't kept of it is that of the block that stood where it is stored.
+pub front_stored_elsewhere : ask one (shift 7 TargetToMedium (pos 1) ∷ keep 7 0 512 ∷ []) (ten 0x2A 1 2 1) (label 7 0 ∷ label 7 1 ∷ []) (tagged 0 0 2) 0
+    ≡ record { done = 1; sense = None; blocks = fresh One 512 0 ∷ fresh One 512 1 ∷ fresh One 512 2 ∷ (one_last ++ (0 ∷ 0 ∷ 0 ∷ 0 ∷ 0 ∷ 0 ∷ 0 ∷ 3 ∷ [])) ∷ []; sent = [] }
+unfolding refusal target_answer to_medium from_medium found_in crc
+front_stored_elsewhere = refl
+
+-- The sense names the address that the target was told.
+pub stopped_elsewhere : target_answer one (shift 7 TargetToMedium (pos 1) ∷ []) (ten 0x2A 1 2 1) (label 7 0 ∷ []) (tagged 0 0 2) 0 (Some (record { at = 0; left = 1 ∷ 2 ∷ [] }))
+    ≡ record { done = 0; sense = Some (record { key = 3; asc = 12; ascq = 0; info = Some 2 }); blocks = fresh One 512 0 ∷ fresh One 512 1 ∷ fresh One 512 2 ∷ (1 ∷ 2 ∷ []) ∷ []; sent = [] }
+unfolding refusal target_answer to_medium from_medium found_in crc
+stopped_elsewhere = refl
+
+pub none_stored_past_the_last : ask one (shift 7 TargetToMedium (pos 1) ∷ []) (ten 0x2A 1 3 1) (label 7 0 ∷ label 7 1 ∷ []) (tagged 0 0 3) 0 ≡ no one 0x21
+unfolding refusal target_answer to_medium from_medium found_in crc
+none_stored_past_the_last = refl
+
+pub none_stored_before_the_first : ask one (shift 7 TargetToMedium (negsuc 0) ∷ []) (ten 0x2A 1 0 2) (label 7 0 ∷ label 7 1 ∷ []) (tagged 0 0 0 ++ tagged 0 0 1) 0 ≡ no one 0x21
+unfolding refusal target_answer to_medium from_medium found_in crc
+none_stored_before_the_first = refl
+
+-- and only then are the host's bytes counted
+pub outside_before_the_room : ask one (shift 7 TargetToMedium (pos 1) ∷ []) (ten 0x2A 1 3 1) (label 7 0 ∷ []) [] 0 ≡ no one 0x21
+unfolding refusal target_answer to_medium from_medium found_in crc
+outside_before_the_room = refl
+
+pub no_block_moved : ask one (shift 7 TargetToMedium (pos 9) ∷ []) (ten 0x2A 1 3 0) (label 7 0 ∷ label 7 1 ∷ []) [] 0
+    ≡ record { done = 0; sense = None; blocks = one.blocks; sent = [] }
+unfolding refusal target_answer to_medium from_medium found_in crc
+no_block_moved = refl
+
 abbrev spec : PiType → (blocks size first : ℕ) → UnitSpec
 spec ty blocks size first = record { ty = ty; blocks = blocks; size = size; first = first }
 

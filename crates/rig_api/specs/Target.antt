@@ -12,7 +12,7 @@ use Rattle.cdb_codec.specs.declared.command.CdbFault.TheVariants.{Opcode, Field,
 use Rattle.fault_schedule.specs.Altered.{fails_of, kept, shift_of}
 use Rattle.fault_schedule.specs.declared.Label.{Label}
 use Rattle.fault_schedule.specs.declared.fault.Crossing.{Crossing}
-use Rattle.fault_schedule.specs.declared.fault.Crossing.TheVariants.{AdapterToTarget, MediumToTarget}
+use Rattle.fault_schedule.specs.declared.fault.Crossing.TheVariants.{AdapterToTarget, MediumToTarget, TargetToMedium}
 use Rattle.fault_schedule.specs.declared.fault.FaultLine.{FaultLine}
 use Rattle.sense_codes.specs.Checks.{ascq_of, key_of}
 use Rattle.sense_codes.specs.declared.Sense.{Sense}
@@ -64,6 +64,10 @@ wire_address faults labels c = pos c.lba +ℤ shift_by_first faults AdapterToTar
 abbrev pub medium_address : List FaultLine → List Label → Rw → ℤ
 medium_address faults labels c = wire_address faults labels c +ℤ shift_by_first faults MediumToTarget labels
 
+-- where a write's first block is stored, after the shift on the medium
+abbrev pub stored_address : List FaultLine → List Label → Rw → ℤ
+stored_address faults labels c = wire_address faults labels c +ℤ shift_by_first faults TargetToMedium labels
+
 -- The unit has this many blocks from this address on.
 abbrev pub has_blocks : UnitSpec → ℤ → ℕ → Bool
 has_blocks unit (pos a) n = leb unit.first a && leb (a + n) (unit.first + unit.blocks)
@@ -88,9 +92,9 @@ no_tuples unit c = record { comes = is_zero unit.ty && not (eqb c.protect 0); as
 abbrev pub outside : UnitSpec → ℤ → ℕ → Refusal
 outside unit a n = record { comes = not (has_blocks unit a n); asc = OUT_OF_RANGE }
 
--- a block is fetched from outside the unit; a command of no blocks fetches none
-abbrev pub fetched_outside : UnitSpec → ℤ → ℕ → Refusal
-fetched_outside unit a n = record { comes = not (eqb n 0) && not (has_blocks unit a n); asc = OUT_OF_RANGE }
+-- a block is fetched or stored outside the unit; a command of no blocks moves none
+abbrev pub moved_outside : UnitSpec → ℤ → ℕ → Refusal
+moved_outside unit a n = record { comes = not (eqb n 0) && not (has_blocks unit a n); asc = OUT_OF_RANGE }
 
 -- the host's buffer hasn't the length of what is transferred
 abbrev pub wrong_room : (has wants : ℕ) → Refusal
@@ -100,15 +104,18 @@ wrong_room has wants = record { comes = not (eqb has wants); asc = INVALID_FIELD
 abbrev pub bytes_of : (size : ℕ) → Rw → ℕ
 bytes_of size c = c.n * sent_size c.protect size
 
+-- the refusals of a write or a read, in their order: its blocks are stored or fetched from this address on, and the host has so many bytes of them or room for them
+abbrev pub move_refusals : UnitSpec → Cdb → Rw → (told moved : ℤ) → (bytes : ℕ) → List Refusal
+move_refusals unit cdb c told moved bytes =
+    foreign_form unit cdb ∷ no_tuples unit c ∷ outside unit told c.n ∷ moved_outside unit moved c.n ∷ wrong_room bytes (bytes_of unit.size c) ∷ []
+
 -- the refusals of a request, in their order; out and room are the lengths of what the host sends and has room for
 abbrev pub refusals_of : UnitSpec → Cdb → Request → List FaultLine → List Label → (out room : ℕ) → List Refusal
 refusals_of unit cdb (ReadCapacity len) faults labels out room = wrong_room room (min len 32) ∷ []
 refusals_of unit cdb (Write c) faults labels out room =
-    foreign_form unit cdb ∷ no_tuples unit c ∷ outside unit (wire_address faults labels c) c.n
-    ∷ wrong_room out (bytes_of unit.size c) ∷ []
+    move_refusals unit cdb c (wire_address faults labels c) (stored_address faults labels c) out
 refusals_of unit cdb (Read c) faults labels out room =
-    foreign_form unit cdb ∷ no_tuples unit c ∷ outside unit (wire_address faults labels c) c.n
-    ∷ fetched_outside unit (medium_address faults labels c) c.n ∷ wrong_room room (bytes_of unit.size c) ∷ []
+    move_refusals unit cdb c (wire_address faults labels c) (medium_address faults labels c) room
 refusals_of unit cdb (Verify c) faults labels out room =
     foreign_form unit cdb ∷ no_tuples unit c ∷ outside unit (pos c.lba) c.n ∷ []
 
@@ -284,8 +291,9 @@ carried_out unit (ReadCapacity len) faults labels out stop =
     record { done = 0; sense = None; blocks = unit.blocks; sent = take (min len 32) (capacity_data (shape_of unit)) ∷ [] }
 carried_out unit (Write c) faults labels out stop =
     let lba = nat_abs (wire_address faults labels c) in
-    let judged = kept_over faults labels 0 (stored_from unit lba c.n) (written_by (shape_of unit) c lba faults labels out) in
-    storing (lba - unit.first) unit.blocks (write_end lba judged stop)
+    let to = nat_abs (stored_address faults labels c) in
+    let judged = kept_over faults labels 0 (stored_from unit to c.n) (written_by (shape_of unit) c lba faults labels out) in
+    storing (to - unit.first) unit.blocks (write_end lba judged stop)
 carried_out unit (Read c) faults labels out stop =
     let lba = nat_abs (wire_address faults labels c) in
     let fetched = stored_from unit (nat_abs (medium_address faults labels c)) c.n in

@@ -1,21 +1,9 @@
 //! What happens to a block on its way, as a row writes it.
 
 use arrayvec::ArrayVec;
-use fault_schedule::{Crossing, FaultKind, FaultLine, FaultList, ShortBytes, Tamper};
+use fault_schedule::{FaultKind, FaultLine, FaultList, ShortBytes, Tamper};
 use std::alloc::{AllocError, Global};
-use test_table::Words;
-
-fn crossing_of(word: &str) -> Option<Crossing> {
-    match word {
-        "host" => Some(Crossing::HostToAdapter),
-        "wire" => Some(Crossing::AdapterToTarget),
-        "storing" => Some(Crossing::TargetToMedium),
-        "fetching" => Some(Crossing::MediumToTarget),
-        "sending" => Some(Crossing::TargetToAdapter),
-        "home" => Some(Crossing::AdapterToHost),
-        _ => None,
-    }
-}
+use test_table::{Words, crossing_of};
 
 /// What a byte is xored with, at an offset; or by how many blocks another is taken.
 fn kind_of(words: &mut Words<'_>) -> FaultKind {
@@ -35,11 +23,12 @@ fn kind_of(words: &mut Words<'_>) -> FaultKind {
 /// The faults of these words: none, or a crossing and what is done there to the block.
 pub(crate) fn faults_of(alloc: Global, words: &mut Words<'_>) -> Result<Tamper, AllocError> {
     let mut lines = Vec::new(alloc);
-    if let Some(at) = crossing_of(words.word()) {
+    let word = words.word();
+    if !word.is_empty() {
         lines.push(FaultLine {
             op: 1,
             k: 0,
-            at,
+            at: crossing_of(word),
             kind: kind_of(words),
         })?;
     }

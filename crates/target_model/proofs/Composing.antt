@@ -1,7 +1,7 @@
 -- From the blocks of a command to the answer of the unit.
-use Rattle.std.proofs.Common.{ℕ, zero, suc, ◌≡◌, ◌+◌, ◌*◌, ◌-◌, ◌<◌, ◌≤◌, Bool, true, false, List, [], ◌∷◌, ◌++◌, length, take, drop, Option, Some, None, Result, Ok, Err, refl, sym, ap, subst, ◌^◌, ◌∙◌, arith, append-nil}
+use Rattle.std.proofs.Common.{ℕ, zero, suc, ◌≡◌, ◌+◌, ◌*◌, ◌-◌, ◌<◌, ◌≤◌, Bool, true, false, List, [], ◌∷◌, ◌++◌, length, take, drop, Option, Some, None, Result, Ok, Err, refl, sym, ap, subst, ◌^◌, ◌∙◌, arith, append-nil, add-zero}
 use Rattle.std.specs.Prelude.{ℤ, pos, nat_abs, eqb, min, ◌≢◌}
-use Rattle.std.proofs.lemmas.List.{length-take, length-drop}
+use Rattle.std.proofs.lemmas.List.{length-take, length-drop, take-append-drop}
 use Rattle.dix_base.specs.Told.{Rose, over}
 use Rattle.rig_api.specs.Log.{IsMedium, has_key}
 use Rattle.cdb_codec.specs.declared.command.Cdb.{Cdb}
@@ -15,7 +15,7 @@ use Rattle.fault_schedule.specs.declared.Label.{Label}
 use Rattle.fault_schedule.specs.declared.fault.FaultLine.{FaultLine}
 use Rattle.sense_codes.specs.declared.Sense.{Sense}
 use Rattle.rig_api.specs.Frames.{stored_size, sent_size, frames_of, joined, placed}
-use Rattle.rig_api.specs.Target.{Flaw, Stored, Stop, Answer, answer_unless, asc_of, capacity_data, refusal, target_answer, carried_out, first_of, illegal, keeping, kept_over, medium_address, read_by, read_end, refusals_of, sending, shape_of, storing, stored_from, wire_address, write_end, written_by}
+use Rattle.rig_api.specs.Target.{Ended, Flaw, Stored, Stop, Answer, answer_unless, asc_of, capacity_data, refusal, target_answer, carried_out, first_of, illegal, keeping, kept_over, medium_address, read_by, read_end, refusals_of, sending, shape_of, storing, stored_address, stored_from, wire_address, write_end, written_by}
 use Rattle.rig_api.specs.declared.request.Request.{Request}
 use Rattle.rig_api.specs.declared.request.Request.TheVariants.{Read, Write, Verify, ReadCapacity}
 use Rattle.rig_api.specs.declared.units.UnitSpec.{UnitSpec}
@@ -98,32 +98,57 @@ fetched_are u bytes from n place b p =
     frames_part (wide u) (from - u.first) n u.blocks (drop u.at bytes) (omega (arith, b.first, b.last))
     ∙ ap (frames_of (wide u) n) (drop_both (wide u * (from - u.first)) u.at bytes ∙ ap (λ k. drop k bytes) (sym p))
 
-write_is : (u : LogicalUnit) (bytes : List ℕ) (c : Rw) (lba place : ℕ) (faults : List FaultLine) (labels : List Label) (out : List ℕ) → wire_address faults labels c ≡ pos lba → HasBlocks (shape_in u) lba c.n → place ≡ u.at + wide u * (lba - u.first) → (stop : Option Stop) →
-    carried_out (unit_in u bytes) (Write c) faults labels out stop ≡ storing (lba - u.first) (unit_in u bytes).blocks (write_end lba (kept_over faults labels 0 (frames_of (wide u) c.n (drop place bytes)) (written_by (shape_in u) c lba faults labels out)) stop)
-write_is u bytes c lba place faults labels out e b p stop =
-    ap (λ (z : ℤ). storing (nat_abs z - u.first) (unit_in u bytes).blocks (write_end (nat_abs z) (kept_over faults labels 0 (stored_from (unit_in u bytes) (nat_abs z) c.n) (written_by (shape_in u) c (nat_abs z) faults labels out)) stop)) e
-    ∙ ap (λ fs. storing (lba - u.first) (unit_in u bytes).blocks (write_end lba (kept_over faults labels 0 fs (written_by (shape_in u) c lba faults labels out)) stop)) (fetched_are u bytes lba c.n place b p)
+-- Nothing that is put anywhere leaves the blocks as they are.
+none_placed : (at : ℕ) (frames blocks : List (List ℕ)) → length frames ≡ 0 → placed at frames blocks ≡ blocks
+none_placed at [] blocks e = ap (λ k. take at blocks ++ drop k blocks) (add-zero at) ∙ take-append-drop at blocks
+none_placed at (frame ∷ frames) blocks e = absurd (omega arith)
 
-pub served_written : (u : LogicalUnit) (cdb : Cdb) (c : Rw) (lba place o n room : ℕ) (faults : List FaultLine) (labels : List Label) (out bytes into : List ℕ) (now : Option (List ℕ)) (result : Outcome) →
-    u.at + wide u * u.blocks ≤ length bytes → first_of (refusals_of (shape_in u) cdb (Write c) faults labels (length out) room) ≡ None → wire_address faults labels c ≡ pos lba → HasBlocks (shape_in u) lba c.n →
-    place ≡ u.at + wide u * (lba - u.first) → AllWritten (write_end lba (kept_over faults labels 0 (frames_of (wide u) c.n (drop place bytes)) (written_by (shape_in u) c lba faults labels out))) (wide u) place o n bytes now result →
+-- A write of no blocks stores none, wherever that is.
+stores_none : (blocks : List (List ℕ)) (a b lba : ℕ) (stop : Option Stop) → storing a blocks (write_end lba [] stop) ≡ storing b blocks (write_end lba [] stop)
+stores_none blocks a b lba stop =
+    let e : Ended = write_end lba [] stop in
+    let few = few_written lba [] stop in
+    let none : length e.frames ≡ 0 = omega (arith, few) in
+    ap (λ (v : List (List ℕ)). record { done = e.done; sense = e.sense; blocks = v; sent = [] }) (none_placed a e.frames blocks none ∙ sym (none_placed b e.frames blocks none))
+
+-- blocks that are stored from a command's address on are put over those from its place on
+stored_at : (u : LogicalUnit) (bytes : List ℕ) (a : ℤ) (to n place lba : ℕ) (faults : List FaultLine) (labels : List Label) (written : List (Result (List ℕ) Flaw)) → length written ≡ n → (0 < n → a ≡ pos to) → HasBlocks (shape_in u) to n → place ≡ u.at + wide u * (to - u.first) → (stop : Option Stop) →
+    storing (nat_abs a - u.first) (unit_in u bytes).blocks (write_end lba (kept_over faults labels 0 (stored_from (unit_in u bytes) (nat_abs a) n) written) stop)
+    ≡ storing (to - u.first) (unit_in u bytes).blocks (write_end lba (kept_over faults labels 0 (frames_of (wide u) n (drop place bytes)) written) stop)
+stored_at u bytes a to zero place lba faults labels [] l e b p stop = stores_none (unit_in u bytes).blocks (nat_abs a - u.first) (to - u.first) lba stop
+stored_at u bytes a to zero place lba faults labels (r ∷ rs) l e b p stop = absurd (omega arith)
+stored_at u bytes a to (suc n) place lba faults labels written l e b p stop =
+    let is : a ≡ pos to = e (omega arith) in
+    rw is (ap (λ fs. storing (to - u.first) (unit_in u bytes).blocks (write_end lba (kept_over faults labels 0 fs written) stop)) (fetched_are u bytes to (suc n) place b p))
+
+write_is : (u : LogicalUnit) (bytes : List ℕ) (c : Rw) (lba to place : ℕ) (faults : List FaultLine) (labels : List Label) (out : List ℕ) → wire_address faults labels c ≡ pos lba → (0 < c.n → stored_address faults labels c ≡ pos to) →
+    HasBlocks (shape_in u) to c.n → place ≡ u.at + wide u * (to - u.first) → (stop : Option Stop) →
+    carried_out (unit_in u bytes) (Write c) faults labels out stop ≡ storing (to - u.first) (unit_in u bytes).blocks (write_end lba (kept_over faults labels 0 (frames_of (wide u) c.n (drop place bytes)) (written_by (shape_in u) c lba faults labels out)) stop)
+write_is u bytes c lba to place faults labels out e m b p stop =
+    ap (λ (z : ℤ). storing (nat_abs (stored_address faults labels c) - u.first) (unit_in u bytes).blocks (write_end (nat_abs z) (kept_over faults labels 0 (stored_from (unit_in u bytes) (nat_abs (stored_address faults labels c)) c.n) (written_by (shape_in u) c (nat_abs z) faults labels out)) stop)) e
+    ∙ stored_at u bytes (stored_address faults labels c) to c.n place lba faults labels (written_by (shape_in u) c lba faults labels out) (many_written (shape_in u) c lba faults labels out) m b p stop
+
+pub served_written : (u : LogicalUnit) (cdb : Cdb) (c : Rw) (lba to place o n room : ℕ) (faults : List FaultLine) (labels : List Label) (out bytes into : List ℕ) (now : Option (List ℕ)) (result : Outcome) →
+    u.at + wide u * u.blocks ≤ length bytes → first_of (refusals_of (shape_in u) cdb (Write c) faults labels (length out) room) ≡ None → wire_address faults labels c ≡ pos lba →
+    (0 < c.n → stored_address faults labels c ≡ pos to) → HasBlocks (shape_in u) to c.n → place ≡ u.at + wide u * (to - u.first) →
+    AllWritten (write_end lba (kept_over faults labels 0 (frames_of (wide u) c.n (drop place bytes)) (written_by (shape_in u) c lba faults labels out))) (wide u) place o n bytes now result →
     Served u (answer_to (unit_in u bytes) cdb (Write c) faults labels out room) o n bytes now result into into
-served_written u cdb c lba place o n room faults labels out bytes into now result h t e b p w =
+served_written u cdb c lba to place o n room faults labels out bytes into now result h t e m b p w =
     let judged : List (Result (List ℕ) Flaw) = kept_over faults labels 0 (frames_of (wide u) c.n (drop place bytes)) (written_by (shape_in u) c lba faults labels out) in
     let frames : List (List ℕ) = (write_end lba judged w.stop).frames in
     let few = few_written lba judged w.stop in
     let many : length judged ≡ c.n = kept-many faults labels 0 (frames_of (wide u) c.n (drop place bytes)) (written_by (shape_in u) c lba faults labels out) ∙ many_written (shape_in u) c lba faults labels out in
-    let within : lba - u.first + length frames ≤ u.blocks = omega (arith, few, many, b.first, b.last) in
-    let same : with_unit u (placed (lba - u.first) frames (unit_in u bytes).blocks) bytes ≡ over place (joined frames) bytes = unit_over u.at (wide u) (lba - u.first) u.blocks frames bytes within w.whole h ∙ ap (λ k. over k (joined frames) bytes) (sym p) in
+    let within : to - u.first + length frames ≤ u.blocks = omega (arith, few, many, b.first, b.last) in
+    let same : with_unit u (placed (to - u.first) frames (unit_in u bytes).blocks) bytes ≡ over place (joined frames) bytes = unit_over u.at (wide u) (to - u.first) u.blocks frames bytes within w.whole h ∙ ap (λ k. over k (joined frames) bytes) (sym p) in
     let blocks : List (List ℕ) = (unit_in u bytes).blocks in
     let own = own_long u bytes h in
     let number : length blocks ≡ u.blocks = frames_length (wide u) u.blocks (drop u.at bytes) in
-    let long : AllLong (wide u) (placed (lba - u.first) frames blocks) =
-    long_both (wide u) (take (lba - u.first) blocks) (frames ++ drop (lba - u.first + length frames) blocks) (long_take (wide u) (lba - u.first) blocks own)
-    (long_both (wide u) frames (drop (lba - u.first + length frames) blocks) w.long (long_drop (wide u) (lba - u.first + length frames) blocks own)) in
-    let many_still : length (placed (lba - u.first) frames blocks) ≡ u.blocks = placed_length (lba - u.first) frames blocks (omega (arith, within, number)) ∙ number in
-    served_as u _ (λ stop. storing (lba - u.first) (unit_in u bytes).blocks (write_end lba judged stop)) o n bytes now result into into
-    (λ stop. taken_answer u bytes cdb (Write c) faults labels out room t stop ∙ write_is u bytes c lba place faults labels out e b p stop)
+    let long : AllLong (wide u) (placed (to - u.first) frames blocks) =
+    long_both (wide u) (take (to - u.first) blocks) (frames ++ drop (to - u.first + length frames) blocks) (long_take (wide u) (to - u.first) blocks own)
+    (long_both (wide u) frames (drop (to - u.first + length frames) blocks) w.long (long_drop (wide u) (to - u.first + length frames) blocks own)) in
+    let many_still : length (placed (to - u.first) frames blocks) ≡ u.blocks = placed_length (to - u.first) frames blocks (omega (arith, within, number)) ∙ number in
+    served_as u _ (λ stop. storing (to - u.first) (unit_in u bytes).blocks (write_end lba judged stop)) o n bytes now result into into
+    (λ stop. taken_answer u bytes cdb (Write c) faults labels out room t stop ∙ write_is u bytes c lba to place faults labels out e m b p stop)
     (record { stop = w.stop; cause = w.cause; outcome = w.outcome; bytes = w.bytes ∙ ap (λ v. Some v) (sym same); back = stands_back u _ bytes long many_still h; into = refl })
 
 -- and so those that a read fetches
@@ -203,15 +228,16 @@ refused_by u s bytes cdb request faults labels out room asc o now result into e 
     let f' = rw e at f in
     served_refused u _ o bytes now result (Some (illegal asc)) into h k r (refused_answer u bytes cdb request faults labels out room (illegal asc) f')
 
-pub written_as : (u : LogicalUnit) (s : UnitSpec) (cdb : Cdb) (c : Rw) (lba place o n room : ℕ) (faults : List FaultLine) (labels : List Label) (out bytes into : List ℕ) (now : Option (List ℕ)) (result : Outcome) → s ≡ shape_in u →
-    u.at + wide u * u.blocks ≤ length bytes → first_of (refusals_of s cdb (Write c) faults labels (length out) room) ≡ None → wire_address faults labels c ≡ pos lba → HasBlocks s lba c.n →
-    place ≡ u.at + wide u * (lba - u.first) → AllWritten (write_end lba (kept_over faults labels 0 (frames_of (block_bytes s) c.n (drop place bytes)) (written_by s c lba faults labels out))) (block_bytes s) place o n bytes now result →
+pub written_as : (u : LogicalUnit) (s : UnitSpec) (cdb : Cdb) (c : Rw) (lba to place o n room : ℕ) (faults : List FaultLine) (labels : List Label) (out bytes into : List ℕ) (now : Option (List ℕ)) (result : Outcome) → s ≡ shape_in u →
+    u.at + wide u * u.blocks ≤ length bytes → first_of (refusals_of s cdb (Write c) faults labels (length out) room) ≡ None → wire_address faults labels c ≡ pos lba →
+    (0 < c.n → stored_address faults labels c ≡ pos to) → HasBlocks s to c.n → place ≡ u.at + wide u * (to - u.first) →
+    AllWritten (write_end lba (kept_over faults labels 0 (frames_of (block_bytes s) c.n (drop place bytes)) (written_by s c lba faults labels out))) (block_bytes s) place o n bytes now result →
     Served u (answer_to (unit_in u bytes) cdb (Write c) faults labels out room) o n bytes now result into into
-written_as u s cdb c lba place o n room faults labels out bytes into now result e h f a b p w =
+written_as u s cdb c lba to place o n room faults labels out bytes into now result e h f a m b p w =
     let f' = rw e at f in
     let b' = rw e at b in
     let w' = rw e at w in
-    served_written u cdb c lba place o n room faults labels out bytes into now result h f' a b' p w'
+    served_written u cdb c lba to place o n room faults labels out bytes into now result h f' a m b' p w'
 
 pub read_as : (u : LogicalUnit) (s : UnitSpec) (cdb : Cdb) (c : Rw) (lba from place o n room : ℕ) (faults : List FaultLine) (labels : List Label) (out bytes before after : List ℕ) (now : Option (List ℕ)) (result : Outcome) → s ≡ shape_in u →
     u.at + wide u * u.blocks ≤ length bytes → now ≡ Some bytes → first_of (refusals_of s cdb (Read c) faults labels (length out) room) ≡ None → wire_address faults labels c ≡ pos lba →

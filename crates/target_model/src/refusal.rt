@@ -1,11 +1,10 @@
 //! Why a command isn't carried out.
 
 ghost use Rattle.std.specs.Prelude.{◌≡◌, ◌+◌, ◌^◌, ◌<◌, ◌≤◌, ◌+ℤ◌, ◌&&◌, [], ℕ, pos, not, eqb, true, false, IfSome, IfNone, OnSome, IfOk, IfErr, OnOk, None, Some};
-ghost use Rattle.fault_schedule.specs.declared.fault.Crossing.TheVariants.{MediumToTarget};
 ghost use Rattle.pi_tuple.specs.Finds.{is_zero};
 ghost use Rattle.target_model.specs.Served.{FitsFrame, HasBlocks};
-ghost use Rattle.rig_api.specs.Target.{bytes_of, first_of, has_blocks, illegal, medium_address, refusals_of, shift_by_first, wire_address};
-ghost use Rattle.rig_api.specs.declared.request.Request.TheVariants.{Read, ReadCapacity, Verify, Write};
+ghost use Rattle.rig_api.specs.Target.{bytes_of, first_of, has_blocks, illegal, move_refusals, refusals_of, shift_by_first, wire_address};
+ghost use Rattle.rig_api.specs.declared.request.Request.TheVariants.{Verify};
 ghost use Rattle.rig_api.specs.declared.units.UnitSpec.{UnitSpec};
 ghost use Rattle.pi_tuple.specs.declared.TheConstants.{LARGEST_BLOCK};
 
@@ -43,16 +42,14 @@ pub(crate) fn wire_lba(tamper: &Tamper, labels: &[Label], c: Rw) -> Option<u64>
     )
 }
 
-/// Where the block at this LBA is fetched, after the shift on the medium, unless no unit has it.
-pub(crate) fn medium_lba(tamper: &Tamper, labels: &[Label], lba: u64) -> Option<u64>
-    ensures found { IfSome result (λ a. pos lba +ℤ shift_by_first tamper.now MediumToTarget labels.now ≡ pos a) }
+/// Where the block at this LBA is stored or fetched, after the shift at this crossing of the medium,
+/// unless no unit has it.
+fn medium_lba(tamper: &Tamper, at: Crossing, labels: &[Label], lba: u64) -> Option<u64>
+    ensures found { IfSome result (λ a. pos lba +ℤ shift_by_first tamper.now at labels.now ≡ pos a) }
     ensures none { IfNone result ((unit : UnitSpec) → (n : ℕ) → unit.first + unit.blocks < 2 ^ 64
-        → has_blocks unit (pos lba +ℤ shift_by_first tamper.now MediumToTarget labels.now) n ≡ false) }
+        → has_blocks unit (pos lba +ℤ shift_by_first tamper.now at labels.now) n ≡ false) }
 {
-    shifted(
-        lba,
-        shift_by_first(tamper, Crossing::MediumToTarget, labels),
-    )
+    shifted(lba, shift_by_first(tamper, at, labels))
 }
 
 /// Whether the unit has so many blocks from this LBA on.
@@ -78,91 +75,57 @@ fn bytes_of(size: u32, c: Rw) -> u64
     c.n as u64 * sent_size(c.protect, size) as u64
 }
 
-/// The LBA of the first block of a write of `out` bytes, as the target is told it, or the
-/// additional sense code of the first refusal.
-pub(crate) fn taken_write(
-    unit: UnitSpec,
-    cdb: Cdb,
-    c: Rw,
-    tamper: &Tamper,
-    labels: &[Label],
-    out: usize,
-) -> Result<u64, u8>
-    requires size { unit.size ≤ LARGEST_BLOCK }
-    requires fits { unit.first + unit.blocks < 2 ^ 64 }
-    ensures refused { IfErr result (λ asc. first_of (refusals_of unit cdb (Write c) tamper.now labels.now out 0) ≡ Some (illegal asc)) }
-    ensures taken { OnOk result (first_of (refusals_of unit cdb (Write c) tamper.now labels.now out 0) ≡ None) }
-    ensures address { IfOk result (λ a. wire_address tamper.now labels.now c ≡ pos a) }
-    ensures inside { IfOk result (λ a. HasBlocks unit a c.n) }
-    ensures frame { OnOk result (FitsFrame unit c) }
-    ensures room { OnOk result (out ≡ bytes_of unit.size c) }
-{
-    if is_foreign(unit.ty, cdb) {
-        return Err(INVALID_OPCODE);
-    }
-    if lacks_tuples(unit, c) {
-        return Err(INVALID_FIELD);
-    }
-    let Some(lba) = wire_lba(tamper, labels, c) else {
-        return Err(OUT_OF_RANGE);
-    };
-    if !has_blocks(unit, lba, c.n) {
-        return Err(OUT_OF_RANGE);
-    }
-    if out as u64 != bytes_of(unit.size, c) {
-        return Err(INVALID_FIELD);
-    }
-    Ok(lba)
-}
-
-/// Whether a block is fetched from outside the unit, of a command of so many blocks from this LBA
-/// on; one of none fetches none.
-fn fetched_from(
+/// Where the blocks of a command of so many from this LBA on are stored or fetched, unless one of
+/// them lies outside the unit; a command of none moves none.
+fn moved_to(
     unit: UnitSpec,
     tamper: &Tamper,
+    at: Crossing,
     labels: &[Label],
     lba: u64,
     count: u32,
 ) -> Option<u64>
     requires fits { unit.first + unit.blocks < 2 ^ 64 }
     requires there { HasBlocks unit lba count }
-    ensures none { IfNone result ((not (eqb count 0) && not (has_blocks unit (pos lba +ℤ shift_by_first tamper.now MediumToTarget labels.now) count)) ≡ true) }
-    ensures some { OnSome result ((not (eqb count 0) && not (has_blocks unit (pos lba +ℤ shift_by_first tamper.now MediumToTarget labels.now) count)) ≡ false) }
-    ensures address { IfSome result (λ a. 0 < count → pos lba +ℤ shift_by_first tamper.now MediumToTarget labels.now ≡ pos a) }
+    ensures none { IfNone result ((not (eqb count 0) && not (has_blocks unit (pos lba +ℤ shift_by_first tamper.now at labels.now) count)) ≡ true) }
+    ensures some { OnSome result ((not (eqb count 0) && not (has_blocks unit (pos lba +ℤ shift_by_first tamper.now at labels.now) count)) ≡ false) }
+    ensures address { IfSome result (λ a. 0 < count → pos lba +ℤ shift_by_first tamper.now at labels.now ≡ pos a) }
     ensures inside { IfSome result (λ a. HasBlocks unit a count) }
 {
     if count == 0 {
         return Some(lba);
     }
-    let Some(from) = medium_lba(tamper, labels, lba) else {
+    let Some(to) = medium_lba(tamper, at, labels, lba) else {
         return None;
     };
-    if !has_blocks(unit, from, count) {
+    if !has_blocks(unit, to, count) {
         return None;
     }
-    Some(from)
+    Some(to)
 }
 
-/// The LBA of the first block of a read into `room` bytes, as the target is told it, and the one
-/// where it is fetched, or the additional sense code of the first refusal.
-pub(crate) fn taken_read(
+/// Two LBAs of the first block of a write or a read of so many bytes: as the target is told it, and
+/// where it is stored or fetched, after the shift at this crossing of the medium; or the
+/// additional sense code of the first refusal.
+pub(crate) fn taken(
     unit: UnitSpec,
     cdb: Cdb,
     c: Rw,
     tamper: &Tamper,
+    at: Crossing,
     labels: &[Label],
-    room: usize,
+    bytes: usize,
 ) -> Result<(u64, u64), u8>
     requires size { unit.size ≤ LARGEST_BLOCK }
     requires fits { unit.first + unit.blocks < 2 ^ 64 }
-    ensures refused { IfErr result (λ asc. first_of (refusals_of unit cdb (Read c) tamper.now labels.now 0 room) ≡ Some (illegal asc)) }
-    ensures taken { OnOk result (first_of (refusals_of unit cdb (Read c) tamper.now labels.now 0 room) ≡ None) }
+    ensures refused { IfErr result (λ asc. first_of (move_refusals unit cdb c (wire_address tamper.now labels.now c) (wire_address tamper.now labels.now c +ℤ shift_by_first tamper.now at labels.now) bytes) ≡ Some (illegal asc)) }
+    ensures taken { OnOk result (first_of (move_refusals unit cdb c (wire_address tamper.now labels.now c) (wire_address tamper.now labels.now c +ℤ shift_by_first tamper.now at labels.now) bytes) ≡ None) }
     ensures address { IfOk result (λ a. wire_address tamper.now labels.now c ≡ pos a.0) }
-    ensures fetched { IfOk result (λ a. 0 < c.n → medium_address tamper.now labels.now c ≡ pos a.1) }
+    ensures moved { IfOk result (λ a. 0 < c.n → wire_address tamper.now labels.now c +ℤ shift_by_first tamper.now at labels.now ≡ pos a.1) }
     ensures inside { IfOk result (λ a. HasBlocks unit a.0 c.n) }
-    ensures source { IfOk result (λ a. HasBlocks unit a.1 c.n) }
+    ensures there { IfOk result (λ a. HasBlocks unit a.1 c.n) }
     ensures frame { OnOk result (FitsFrame unit c) }
-    ensures room { OnOk result (room ≡ bytes_of unit.size c) }
+    ensures room { OnOk result (bytes ≡ bytes_of unit.size c) }
 {
     if is_foreign(unit.ty, cdb) {
         return Err(INVALID_OPCODE);
@@ -176,13 +139,13 @@ pub(crate) fn taken_read(
     if !has_blocks(unit, lba, c.n) {
         return Err(OUT_OF_RANGE);
     }
-    let Some(from) = fetched_from(unit, tamper, labels, lba, c.n) else {
+    let Some(to) = moved_to(unit, tamper, at, labels, lba, c.n) else {
         return Err(OUT_OF_RANGE);
     };
-    if room as u64 != bytes_of(unit.size, c) {
+    if bytes as u64 != bytes_of(unit.size, c) {
         return Err(INVALID_FIELD);
     }
-    Ok((lba, from))
+    Ok((lba, to))
 }
 
 /// The additional sense code of the first refusal of VERIFY, if there is one.

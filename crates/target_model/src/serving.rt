@@ -10,13 +10,13 @@ ghost use Rattle.rig_api.specs.declared.request.Request.TheVariants.{Read, ReadC
 ghost use Rattle.target_model.specs.Served.{IsUnit, ServedOn, answer_to, block_bytes, shape_in};
 
 use crate::LogicalUnit;
-use crate::refusal::{taken_read, taken_verify, taken_write};
+use crate::refusal::{taken, taken_verify};
 use crate::sense::illegal;
 use crate::transfer::{Blocks, read_blocks, verify_blocks, write_blocks};
 use crate::unit::block_bytes;
 use cdb_codec::{Cdb, CdbFault, Rw};
 use dix_base::Store;
-use fault_schedule::{Label, Tamper};
+use fault_schedule::{Crossing, Label, Tamper};
 use pi_tuple::PiType;
 use rig_api::{Outcome, Request, UnitSpec, request_of};
 use sense_codes::codes::{INVALID_FIELD, INVALID_OPCODE};
@@ -64,15 +64,24 @@ fn write<S: Store>(
     ensures stays { WasWritten (S.state store.old) (S.state store.new) }
 {
     let shape = unit.shape();
-    match taken_write(shape, asked.cdb, c, asked.tamper, asked.labels, out.len()) {
+    let at = Crossing::TargetToMedium;
+    match taken(
+        shape,
+        asked.cdb,
+        c,
+        asked.tamper,
+        at,
+        asked.labels,
+        out.len(),
+    ) {
         Err(asc) => refused(asc),
-        Ok(lba) => {
+        Ok((lba, to)) => {
             let blocks = Blocks {
                 unit: shape,
                 fields: c,
                 lba,
             };
-            let place = place_of(unit, lba);
+            let place = place_of(unit, to);
             write_blocks(store, place, blocks, asked.tamper, asked.labels, out)
         }
     }
@@ -93,7 +102,16 @@ fn read<S: Store>(
     ensures stays { WasRead (S.state store.old) (S.state store.new) }
 {
     let shape = unit.shape();
-    match taken_read(shape, asked.cdb, c, asked.tamper, asked.labels, into.len()) {
+    let at = Crossing::MediumToTarget;
+    match taken(
+        shape,
+        asked.cdb,
+        c,
+        asked.tamper,
+        at,
+        asked.labels,
+        into.len(),
+    ) {
         Err(asc) => refused(asc),
         Ok((lba, from)) => {
             let blocks = Blocks {
@@ -224,7 +242,9 @@ pub fn serve_command<S: Store>(
 /// The first refusal comes before any block. Else the blocks are taken in order, each by one call
 /// of the store at most, up to the first that is found bad, whose call fails, or of which a line says that the
 /// medium fails: those before it are stored or sent. Block `k` of a command has label `k`, whose faults alter it
-/// at its four crossings, and may keep a part of it from the medium; the shifts are those of the first label's op. Places of `into` past what is sent stay.
+/// at its four crossings, and may keep a part of it from the medium. The shifts are those of the first label's op: on the
+/// wire of the address that the target is told, at the medium of where its blocks are stored or fetched. Places of `into`
+/// past what is sent stay.
 pub fn serve<S: Store>(
     store: &mut S,
     unit: &LogicalUnit,

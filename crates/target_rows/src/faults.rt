@@ -2,7 +2,7 @@
 
 use arrayvec::ArrayVec;
 use fault_schedule::{Crossing, FaultKind, FaultLine, Label, ShortBytes};
-use test_table::{cut, small};
+use test_table::{crossing_of, cut, small};
 
 /// The labels of the blocks of every command.
 pub(crate) const LABELS: [Label; 3] = [
@@ -10,17 +10,6 @@ pub(crate) const LABELS: [Label; 3] = [
     Label { op: 7, k: 1 },
     Label { op: 7, k: 2 },
 ];
-
-fn crossing_of(word: &str) -> Crossing {
-    match word {
-        "host" => Crossing::HostToAdapter,
-        "wire" => Crossing::AdapterToTarget,
-        "storing" => Crossing::TargetToMedium,
-        "fetching" => Crossing::MediumToTarget,
-        "sending" => Crossing::TargetToAdapter,
-        _ => Crossing::AdapterToHost,
-    }
-}
 
 /// A turn of the lowest bit of a byte of a block, by three words: the block's place in its command, the crossing, and the
 /// byte.

@@ -2,11 +2,13 @@
 //! which something else comes, with what came, and of each table how many rows there were.
 #![tactic(auto)]
 
+mod crossings;
 mod escapes;
 mod line;
 mod marks;
 mod words;
 
+pub use crossings::{crossing_of, crossing_word};
 pub use escapes::text_of;
 pub use line::Words;
 pub use marks::{add_line, behind, has, is_one_of, numbers, status_wanted, word_of};

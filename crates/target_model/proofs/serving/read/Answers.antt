@@ -5,7 +5,7 @@ use Rattle.target_model.proofs.Composing.{can_move, keyed, not_medium, refused_b
 use Rattle.target_model.proofs.serving.read.Goals as goal
 
 pub read_blocks-requires-clause-can : goal.read_blocks-requires-clause-can
-read_blocks-requires-clause-can g c = can_move c.args.unit.now c.shape-shape.result c.args.c c.in-Ok.lba c.in-Ok.from c.place_of-place.result _ c.shape-shape.ensures c.requires.unit c.in-Ok.ensures.frame c.in-Ok.ensures.inside c.in-Ok.ensures.source c.place_of-place.ensures
+read_blocks-requires-clause-can g c = can_move c.args.unit.now c.shape-shape.result c.args.c c.in-Ok.lba c.in-Ok.from c.place_of-place.result _ c.shape-shape.ensures c.requires.unit c.in-Ok.ensures.frame c.in-Ok.ensures.inside c.in-Ok.ensures.there c.place_of-place.ensures
 
 pub returns-in-Err-clause-told : goal.returns-in-Err-clause-told
 returns-in-Err-clause-told g c =
@@ -25,4 +25,4 @@ returns-in-Ok-clause-told g c =
     λ out bytes e.
     let len = told_length _ _ bytes e (g.met.S.Store.told c.args.store.now) in
     read_as c.args.unit.now c.shape-shape.result c.args.asked.now.cdb c.args.c c.in-Ok.lba c.in-Ok.from c.place_of-place.result _ _ (length c.args.into.now) c.args.asked.now.tamper.now c.args.asked.now.labels.now out bytes c.args.into.now _ _ c.read_blocks.result
-    c.shape-shape.ensures (omega (arith, len, c.requires.unit.held)) (c.read_blocks.ensures.stays.same ∙ e) c.in-Ok.ensures.taken c.in-Ok.ensures.address c.in-Ok.ensures.fetched c.in-Ok.ensures.source c.place_of-place.ensures (c.read_blocks.ensures.told bytes e)
+    c.shape-shape.ensures (omega (arith, len, c.requires.unit.held)) (c.read_blocks.ensures.stays.same ∙ e) c.in-Ok.ensures.taken c.in-Ok.ensures.address c.in-Ok.ensures.moved c.in-Ok.ensures.there c.place_of-place.ensures (c.read_blocks.ensures.told bytes e)

@@ -5,7 +5,7 @@ use Rattle.target_model.proofs.Composing.{can_move, keyed, not_medium, refused_b
 use Rattle.target_model.proofs.serving.write.Goals as goal
 
 pub write_blocks-requires-clause-can : goal.write_blocks-requires-clause-can
-write_blocks-requires-clause-can g c = can_move c.args.unit.now c.shape-shape.result c.args.c c.in-Ok.lba c.in-Ok.lba c.place_of-place.result _ c.shape-shape.ensures c.requires.unit c.in-Ok.ensures.frame c.in-Ok.ensures.inside c.in-Ok.ensures.inside c.place_of-place.ensures
+write_blocks-requires-clause-can g c = can_move c.args.unit.now c.shape-shape.result c.args.c c.in-Ok.lba c.in-Ok.to c.place_of-place.result _ c.shape-shape.ensures c.requires.unit c.in-Ok.ensures.frame c.in-Ok.ensures.inside c.in-Ok.ensures.there c.place_of-place.ensures
 
 pub returns-in-Err-clause-told : goal.returns-in-Err-clause-told
 returns-in-Err-clause-told g c =
@@ -24,5 +24,5 @@ pub returns-in-Ok-clause-told : goal.returns-in-Ok-clause-told
 returns-in-Ok-clause-told g c =
     λ into bytes e.
     let len = told_length _ _ bytes e (g.met.S.Store.told c.args.store.now) in
-    written_as c.args.unit.now c.shape-shape.result c.args.asked.now.cdb c.args.c c.in-Ok.lba c.place_of-place.result _ _ (length into) c.args.asked.now.tamper.now c.args.asked.now.labels.now c.args.out.now bytes into _ c.write_blocks.result
-    c.shape-shape.ensures (omega (arith, len, c.requires.unit.held)) c.in-Ok.ensures.taken c.in-Ok.ensures.address c.in-Ok.ensures.inside c.place_of-place.ensures (c.write_blocks.ensures.told bytes e)
+    written_as c.args.unit.now c.shape-shape.result c.args.asked.now.cdb c.args.c c.in-Ok.lba c.in-Ok.to c.place_of-place.result _ _ (length into) c.args.asked.now.tamper.now c.args.asked.now.labels.now c.args.out.now bytes into _ c.write_blocks.result
+    c.shape-shape.ensures (omega (arith, len, c.requires.unit.held)) c.in-Ok.ensures.taken c.in-Ok.ensures.address c.in-Ok.ensures.moved c.in-Ok.ensures.there c.place_of-place.ensures (c.write_blocks.ensures.told bytes e)
