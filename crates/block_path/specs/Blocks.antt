@@ -14,7 +14,7 @@ use Rattle.bio_core.specs.declared.request.Dir.TheVariants.{Read, Write}
 use Rattle.rig_api.specs.Frames.{frame_of}
 use Rattle.block_path.specs.declared.route.Route.{Route}
 use Rattle.block_path.specs.Acts.{Act, Effect, State}
-use Rattle.block_path.specs.Routes.{Device, host_type, medium_lba, wire_lba}
+use Rattle.block_path.specs.Routes.{Device, host_type, medium_lba, stored_lba}
 use Rattle.block_path.specs.WayIn.{Delivers, Spoils, Stops, WayIn, way_in}
 use Rattle.block_path.specs.WayOut.{Fails, Refuses, Stores, WayOut, way_out}
 
@@ -31,7 +31,7 @@ abbrev pub own_cell : Site → Route → ℕ
 own_cell s r = s.cell r.dev r.lba
 
 abbrev pub stored_cell : Site → Route → ℕ
-stored_cell s r = s.cell r.dev (wire_lba s.faults r)
+stored_cell s r = s.cell r.dev (stored_lba s.faults r)
 
 abbrev pub fetched_cell : Site → Route → ℕ
 fetched_cell s r = s.cell r.dev (medium_lba s.faults r)

@@ -10,7 +10,7 @@ use Rattle.pi_tuple.specs.declared.checks.PiType.TheVariants.{Zero, One, Two, Th
 use Rattle.pi_tuple.specs.declared.checks.Check.{Check}
 use Rattle.fault_schedule.specs.Altered.{fails_of, kept, shift_of}
 use Rattle.fault_schedule.specs.declared.Label.{Label}
-use Rattle.fault_schedule.specs.declared.fault.Crossing.TheVariants.{AdapterToTarget, MediumToTarget}
+use Rattle.fault_schedule.specs.declared.fault.Crossing.TheVariants.{AdapterToTarget, MediumToTarget, TargetToMedium}
 use Rattle.fault_schedule.specs.declared.fault.FaultLine.{FaultLine}
 use Rattle.integrity_payload.specs.Payloads.{all_asked}
 use Rattle.bio_core.specs.declared.fate.Why.{Why}
@@ -82,6 +82,10 @@ wire_lba faults r = moved r.lba (shift_of faults AdapterToTarget r.label.op)
 -- and the one at which a read finds it on the medium
 abbrev pub medium_lba : List FaultLine → Route → ℕ
 medium_lba faults r = moved (wire_lba faults r) (shift_of faults MediumToTarget r.label.op)
+
+-- and the one at which a write stores it there
+abbrev pub stored_lba : List FaultLine → Route → ℕ
+stored_lba faults r = moved (wire_lba faults r) (shift_of faults TargetToMedium r.label.op)
 
 -- the block as the target knows it
 abbrev pub passage : List FaultLine → Route → Passage

@@ -18,7 +18,8 @@ use Rattle.cdb_codec.specs.declared.command.Rw.{Rw}
 use Rattle.cdb_codec.specs.Rule.{fits_10, is_two, tagged, untagged}
 use Rattle.fault_schedule.specs.declared.Label.{Label}
 use Rattle.fault_schedule.specs.declared.fault.FaultLine.{FaultLine}
-use Rattle.rig_api.specs.Passed.{data_of, tuple_of, accepted, asked_of, crossed, then_crossed, unless, with_own_tuple, found_in, from_medium, is_one, released, to_medium, wanted_of, is_foreign, request_of, bytes_of, first_of, has_blocks, medium_address, passage as passage_of, refusal, refusals_of, wire_address}
+use Rattle.rig_api.specs.Passed.{data_of, tuple_of, accepted, asked_of, crossed, then_crossed, unless, with_own_tuple, found_in, from_medium, is_one, released, to_medium, wanted_of, is_foreign, request_of, bytes_of, first_of, has_blocks, medium_address, passage as passage_of, refusal, refusals_of, stored_address, wire_address}
+use Rattle.rig_api.specs.Target.{move_refusals}
 use Rattle.rig_api.specs.declared.request.Request.{Request}
 use Rattle.rig_api.specs.declared.request.Request.TheVariants.{Read, Write}
 use Rattle.rig_api.specs.declared.passage.Passage.{Passage}
@@ -111,23 +112,27 @@ no-tuples dif One p = refl
 no-tuples dif Two p = refl
 no-tuples dif Three p = refl
 
+not-refused : (unit : UnitSpec) (cdb : Cdb) (c : Rw) (told moved : ℤ) (bytes : ℕ) → is_foreign unit.ty cdb ≡ false → (is_zero unit.ty && not (eqb c.protect 0)) ≡ false →
+    has_blocks unit told c.n ≡ true → has_blocks unit moved c.n ≡ true → bytes ≡ bytes_of unit.size c → first_of (move_refusals unit cdb c told moved bytes) ≡ None
+not-refused unit cdb c told moved bytes f t h m l = rw (f, t, h, m, l, eqb_self (bytes_of unit.size c)) (last (eqb c.n 0))
+  where
+    last : (b : Bool) → first_of (record { comes = not b && not true; asc = 0x21 } ∷ record { comes = not true; asc = 0x24 } ∷ []) ≡ None
+    last true = refl
+    last false = refl
+
 pub not-refused-out : (unit : UnitSpec) (cdb : Cdb) (c : Rw) (faults : List FaultLine) (labels : List Label) (out room : ℕ) → request_of cdb ≡ Write c → is_foreign unit.ty cdb ≡ false → (is_zero unit.ty && not (eqb c.protect 0)) ≡ false →
-    has_blocks unit (wire_address faults labels c) c.n ≡ true → out ≡ bytes_of unit.size c → refusal unit (Ok cdb) faults labels out room ≡ None
+    has_blocks unit (wire_address faults labels c) c.n ≡ true → has_blocks unit (stored_address faults labels c) c.n ≡ true → out ≡ bytes_of unit.size c → refusal unit (Ok cdb) faults labels out room ≡ None
 unfolding refusal
-not-refused-out unit cdb c faults labels out room r f t h l =
+not-refused-out unit cdb c faults labels out room r f t h m l =
     ap (λ q. first_of (refusals_of unit cdb q faults labels out room)) r
-    ∙ rw (f, t, h, l, eqb_self (bytes_of unit.size c)) refl
+    ∙ not-refused unit cdb c (wire_address faults labels c) (stored_address faults labels c) out f t h m l
 
 pub not-refused-in : (unit : UnitSpec) (cdb : Cdb) (c : Rw) (faults : List FaultLine) (labels : List Label) (out room : ℕ) → request_of cdb ≡ Read c → is_foreign unit.ty cdb ≡ false → (is_zero unit.ty && not (eqb c.protect 0)) ≡ false →
     has_blocks unit (wire_address faults labels c) c.n ≡ true → has_blocks unit (medium_address faults labels c) c.n ≡ true → room ≡ bytes_of unit.size c → refusal unit (Ok cdb) faults labels out room ≡ None
 unfolding refusal
 not-refused-in unit cdb c faults labels out room r f t h m l =
     ap (λ q. first_of (refusals_of unit cdb q faults labels out room)) r
-    ∙ rw (f, t, h, m, l, eqb_self (bytes_of unit.size c)) (last (eqb c.n 0))
-  where
-    last : (b : Bool) → first_of (record { comes = not b && not true; asc = 0x21 } ∷ record { comes = not true; asc = 0x24 } ∷ []) ≡ None
-    last true = refl
-    last false = refl
+    ∙ not-refused unit cdb c (wire_address faults labels c) (medium_address faults labels c) room f t h m l
 
 pub no-tuples-asked : (a : Adapter) (lba n : ℕ) → (is_zero a.ty && not (eqb (fields_of a lba n).protect 0)) ≡ false
 no-tuples-asked a lba n = ap (λ p. is_zero a.ty && not (eqb p 0)) (protect-is a lba n) ∙ no-tuples a.dif a.ty a.protect

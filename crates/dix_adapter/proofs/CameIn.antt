@@ -44,7 +44,7 @@ use Rattle.dix_adapter.proofs.Runs.{AllLong, Next, Run, cut-joined, front-joined
 use Rattle.dix_adapter.proofs.WentOut.{first-shift}
 
 -- what is known of a read's command before its unit
-pub record BeforeIn (a : Adapter) (ios : List Io) (us : List Stored) (device bytes address n at from : ℕ) (s t : ℤ) (bs : List Block) : Type 0 where
+pub record BeforeIn (a : Adapter) (ios : List Io) (us : List Stored) (device bytes address n at from : ℕ) (s t u : ℤ) (bs : List Block) : Type 0 where
   pub protect : IsProtect a.protect
   pub fits : Fits (command_for a In address n)
   pub there : device < length us
@@ -53,7 +53,7 @@ pub record BeforeIn (a : Adapter) (ios : List Io) (us : List Stored) (device byt
   pub whole : AllLong (stored_size a.ty bytes) (unit_at us device).blocks
   pub count : length bs ≡ n
   pub some : 1 ≤ length bs
-  pub run : Run a ios device bytes s t address bs
+  pub run : Run a ios device bytes s t u address bs
   pub here : pos address +ℤ s ≡ pos at
   pub there_from : pos at +ℤ t ≡ pos from
   pub sent : has_blocks (shape_of (unit_at us device)) (pos at) n ≡ true
@@ -68,28 +68,28 @@ drop-one i [] h = absurd (omega arith)
 drop-one zero (x ∷ xs) h = refl
 drop-one (suc i) (x ∷ xs) h = drop-one i xs (omega arith)
 
-fetched-lba : (a : Adapter) (ios : List Io) (device bytes address at from : ℕ) (s t : ℤ) (k : ℕ) (b : Block) → pos address +ℤ s ≡ pos at → pos at +ℤ t ≡ pos from → Next a ios device bytes s t (address + k) b →
+fetched-lba : (a : Adapter) (ios : List Io) (device bytes address at from : ℕ) (s t u : ℤ) (k : ℕ) (b : Block) → pos address +ℤ s ≡ pos at → pos at +ℤ t ≡ pos from → Next a ios device bytes s t u (address + k) b →
     (at + k ≡ wire_lba a.tamper (route_of a ios b)) × (medium_lba a.tamper (route_of a ios b) ≡ from + k)
-fetched-lba a ios device bytes address at from s t k b p q r =
+fetched-lba a ios device bytes address at from s t u k b p q r =
     let w : wire_lba a.tamper (route_of a ios b) ≡ at + k = ap (λ j. moved b.lba j) r.wire ∙ ap (λ j. moved j s) r.lba ∙ address-more address k at s p in
     (sym w, ap (λ j. moved (wire_lba a.tamper (route_of a ios b)) j) r.medium ∙ ap (λ j. moved j t) w ∙ address-more at k from t q)
 
-pub fetched-block : (a : Adapter) (ios : List Io) (us : List Stored) (device bytes address at from : ℕ) (s t : ℤ) (k : ℕ) (b : Block) → device < length us → (unit_at us device).first ≤ from → from + k < (unit_at us device).first + length (unit_at us device).blocks →
-    pos address +ℤ s ≡ pos at → pos at +ℤ t ≡ pos from → Next a ios device bytes s t (address + k) b →
+pub fetched-block : (a : Adapter) (ios : List Io) (us : List Stored) (device bytes address at from : ℕ) (s t u : ℤ) (k : ℕ) (b : Block) → device < length us → (unit_at us device).first ≤ from → from + k < (unit_at us device).first + length (unit_at us device).blocks →
+    pos address +ℤ s ≡ pos at → pos at +ℤ t ≡ pos from → Next a ios device bytes s t u (address + k) b →
     get_or (blocks_told us) (fetched_cell (site_of a (shapes_of us)) (route_of a ios b)) [] ≡ get_or (unit_at us device).blocks (from + k - (unit_at us device).first) []
-fetched-block a ios us device bytes address at from s t k b l f h p q r =
-    let m = fetched-lba a ios device bytes address at from s t k b p q r in
+fetched-block a ios us device bytes address at from s t u k b l f h p q r =
+    let m = fetched-lba a ios device bytes address at from s t u k b p q r in
     ap (λ d. get_or (blocks_told us) (cell_in (shapes_of us) d (medium_lba a.tamper (route_of a ios b))) []) r.dev
     ∙ ap (λ j. get_or (blocks_told us) (cell_in (shapes_of us) device j) []) m.1
     ∙ ap (λ j. get_or (blocks_told us) j []) (cell-is us device (from + k) l)
     ∙ told-at us device (from + k - (unit_at us device).first) l (omega arith)
 
-pub asked-in : (a : Adapter) (ios : List Io) (us : List Stored) (labels : List Label) (device bytes address n at from : ℕ) (s t : ℤ) (bs : List Block) (k : ℕ) → device < length us → (unit_at us device).ty ≡ a.ty → (unit_at us device).size ≡ bytes →
-    (unit_at us device).first ≤ from → from + k + length bs ≤ (unit_at us device).first + length (unit_at us device).blocks → pos address +ℤ s ≡ pos at → pos at +ℤ t ≡ pos from → Run a ios device bytes s t (address + k) bs → drop k labels ≡ map label_of bs →
+pub asked-in : (a : Adapter) (ios : List Io) (us : List Stored) (labels : List Label) (device bytes address n at from : ℕ) (s t u : ℤ) (bs : List Block) (k : ℕ) → device < length us → (unit_at us device).ty ≡ a.ty → (unit_at us device).size ≡ bytes →
+    (unit_at us device).first ≤ from → from + k + length bs ≤ (unit_at us device).first + length (unit_at us device).blocks → pos address +ℤ s ≡ pos at → pos at +ℤ t ≡ pos from → Run a ios device bytes s t u (address + k) bs → drop k labels ≡ map label_of bs →
     each (λ k frame. off_medium a.tamper (passage_of (shape_of (unit_at us device)) (fields_of a address n) at labels k) frame) k (take (length bs) (drop (from + k - (unit_at us device).first) (unit_at us device).blocks))
     ≡ judged_in a ios (shapes_of us) (blocks_told us) bs
-asked-in a ios us labels device bytes address n at from s t [] k l y z f h p q r d = refl
-asked-in a ios us labels device bytes address n at from s t (b ∷ bs) k l y z f h p q r d =
+asked-in a ios us labels device bytes address n at from s t u [] k l y z f h p q r d = refl
+asked-in a ios us labels device bytes address n at from s t u (b ∷ bs) k l y z f h p q r d =
     let unit = unit_at us device in
     let i : ℕ = from + k - unit.first in
     let o = drop-one i unit.blocks (omega arith) in
@@ -97,26 +97,26 @@ asked-in a ios us labels device bytes address n at from s t (b ∷ bs) k l y z f
     let lb = label-at k labels (map label_of bs) (label_of b) d in
     let m : suc (address + k) ≡ address + (k + 1) = omega arith in
     let v : suc k ≡ k + 1 = omega arith in
-    let fl = fetched-lba a ios device bytes address at from s t k b p q r.0 in
-    let fb = fetched-block a ios us device bytes address at from s t k b l f (omega arith) p q r.0 in
+    let fl = fetched-lba a ios device bytes address at from s t u k b p q r.0 in
+    let fb = fetched-block a ios us device bytes address at from s t u k b l f (omega arith) p q r.0 in
     ap (λ x. each (λ k frame. off_medium a.tamper (passage_of (shape_of unit) (fields_of a address n) at labels k) frame) k (take (suc (length bs)) x)) (o ∙ ap (λ j. get_or unit.blocks i [] ∷ drop j unit.blocks) e)
     ∙ ap (λ j. j ∷ each (λ k frame. off_medium a.tamper (passage_of (shape_of unit) (fields_of a address n) at labels k) frame) (k + 1) (take (length bs) (drop (from + (k + 1) - unit.first) unit.blocks)))
     (off-alike a.tamper (passage_of (shape_of unit) (fields_of a address n) at labels k) (passage a.tamper (route_of a ios b)) (get_or unit.blocks i [])
     (asked-alike a (shape_of unit) a.tamper labels address n at k (route_of a ios b) (record { ty = y; bytes = z ∙ sym r.0.long; own_type = refl; mode = refl; lba = r.0.lba; wire = fl.0; label = lb.0 }))
     ∙ ap (off_medium a.tamper (passage a.tamper (route_of a ios b))) (sym fb))
     ∙ ap (λ js. off_medium a.tamper (passage a.tamper (route_of a ios b)) (get_or (blocks_told us) (fetched_cell (site_of a (shapes_of us)) (route_of a ios b)) []) ∷ js)
-    (asked-in a ios us labels device bytes address n at from s t bs (k + 1) l y z f (omega arith) p q (subst (λ j. Run a ios device bytes s t j bs) m r.1) (ap (λ j. drop j labels) (sym v) ∙ lb.1))
+    (asked-in a ios us labels device bytes address n at from s t u bs (k + 1) l y z f (omega arith) p q (subst (λ j. Run a ios device bytes s t u j bs) m r.1) (ap (λ j. drop j labels) (sym v) ∙ lb.1))
 
-pub came-wide : (a : Adapter) (ios : List Io) (us : List Stored) (device bytes address at from : ℕ) (s t : ℤ) (bs : List Block) (k : ℕ) → IsProtect a.protect → device < length us → AllLong (stored_size a.ty bytes) (unit_at us device).blocks →
-    (unit_at us device).first ≤ from → from + k + length bs ≤ (unit_at us device).first + length (unit_at us device).blocks → pos address +ℤ s ≡ pos at → pos at +ℤ t ≡ pos from → Run a ios device bytes s t (address + k) bs →
+pub came-wide : (a : Adapter) (ios : List Io) (us : List Stored) (device bytes address at from : ℕ) (s t u : ℤ) (bs : List Block) (k : ℕ) → IsProtect a.protect → device < length us → AllLong (stored_size a.ty bytes) (unit_at us device).blocks →
+    (unit_at us device).first ≤ from → from + k + length bs ≤ (unit_at us device).first + length (unit_at us device).blocks → pos address +ℤ s ≡ pos at → pos at +ℤ t ≡ pos from → Run a ios device bytes s t u (address + k) bs →
     AllLong (width_for a bytes) (passed (judged_in a ios (shapes_of us) (blocks_told us) bs))
-came-wide a ios us device bytes address at from s t [] k p l w f h x y r = tt
-came-wide a ios us device bytes address at from s t (b ∷ bs) k p l w f h x y r =
+came-wide a ios us device bytes address at from s t u [] k p l w f h x y r = tt
+came-wide a ios us device bytes address at from s t u (b ∷ bs) k p l w f h x y r =
     let m : suc (address + k) ≡ address + suc k = omega arith in
-    let fb = fetched-block a ios us device bytes address at from s t k b l f (omega arith) x y r.0 in
+    let fb = fetched-block a ios us device bytes address at from s t u k b l f (omega arith) x y r.0 in
     passed-long (width_for a bytes) (off_medium a.tamper (passage a.tamper (route_of a ios b)) (get_or (blocks_told us) (fetched_cell (site_of a (shapes_of us)) (route_of a ios b)) [])) (judged_in a ios (shapes_of us) (blocks_told us) bs)
     (sent-long-in a ios b (get_or (blocks_told us) (fetched_cell (site_of a (shapes_of us)) (route_of a ios b)) []) bytes p r.0.long (ap length fb ∙ long-at (stored_size a.ty bytes) (unit_at us device).blocks (from + k - (unit_at us device).first) w (omega arith)))
-    (came-wide a ios us device bytes address at from s t bs (suc k) p l w f (omega arith) x y (subst (λ j. Run a ios device bytes s t j bs) m r.1))
+    (came-wide a ios us device bytes address at from s t u bs (suc k) p l w f (omega arith) x y (subst (λ j. Run a ios device bytes s t u j bs) m r.1))
 
 -- ---- the answer
 
@@ -134,18 +134,18 @@ answer-by unit cmd faults labels room stop c f q r =
     ap (λ (d : Result Cdb CdbFault). answer_unless (refusal (shape_of unit) d faults labels 0 room) unit d faults labels [] stop) (decoded_form cmd f)
     ∙ ap (λ x. answer_unless x unit (Ok cmd) faults labels [] stop) r ∙ ap (λ x. carried_out unit x faults labels [] stop) q
 
-medium-shift : (a : Adapter) (ios : List Io) (device bytes : ℕ) (s t : ℤ) (address : ℕ) (bs : List Block) (c : Rw) → 1 ≤ length bs → Run a ios device bytes s t address bs → medium_address a.tamper (map label_of bs) c ≡ wire_address a.tamper (map label_of bs) c +ℤ t
-medium-shift a ios device bytes s t address [] c h r = absurd (omega arith)
-medium-shift a ios device bytes s t address (b ∷ bs) c h r = ap (λ z. wire_address a.tamper (map label_of (b ∷ bs)) c +ℤ z) r.0.medium
+medium-shift : (a : Adapter) (ios : List Io) (device bytes : ℕ) (s t u : ℤ) (address : ℕ) (bs : List Block) (c : Rw) → 1 ≤ length bs → Run a ios device bytes s t u address bs → medium_address a.tamper (map label_of bs) c ≡ wire_address a.tamper (map label_of bs) c +ℤ t
+medium-shift a ios device bytes s t u address [] c h r = absurd (omega arith)
+medium-shift a ios device bytes s t u address (b ∷ bs) c h r = ap (λ z. wire_address a.tamper (map label_of (b ∷ bs)) c +ℤ z) r.0.medium
 
-pub answered-in : (a : Adapter) (ios : List Io) (us : List Stored) (device bytes address n at from room : ℕ) (s t : ℤ) (bs : List Block) (stop : Option Stop) → BeforeIn a ios us device bytes address n at from s t bs → room ≡ n * width_for a bytes →
+pub answered-in : (a : Adapter) (ios : List Io) (us : List Stored) (device bytes address n at from room : ℕ) (s t u : ℤ) (bs : List Block) (stop : Option Stop) → BeforeIn a ios us device bytes address n at from s t u bs → room ≡ n * width_for a bytes →
     target_answer (unit_at us device) a.tamper (form (command_for a In address n)) (map label_of bs) [] room stop
     ≡ sending (unit_at us device).blocks (read_end at (judged_in a ios (shapes_of us) (blocks_told us) bs) stop)
-answered-in a ios us device bytes address n at from room s t bs stop k v =
+answered-in a ios us device bytes address n at from room s t u bs stop k v =
     let unit = unit_at us device in
     let c = fields_of a address n in
-    let w : wire_address a.tamper (map label_of bs) c ≡ pos at = first-shift a ios device bytes s t address bs c k.some k.run ∙ ap (λ z. pos z +ℤ s) (lba-is a address n) ∙ k.here in
-    let m : medium_address a.tamper (map label_of bs) c ≡ pos from = medium-shift a ios device bytes s t address bs c k.some k.run ∙ ap (λ z. z +ℤ t) w ∙ k.there_from in
+    let w : wire_address a.tamper (map label_of bs) c ≡ pos at = first-shift a ios device bytes s t u address bs c k.some k.run ∙ ap (λ z. pos z +ℤ s) (lba-is a address n) ∙ k.here in
+    let m : medium_address a.tamper (map label_of bs) c ≡ pos from = medium-shift a ios device bytes s t u address bs c k.some k.run ∙ ap (λ z. z +ℤ t) w ∙ k.there_from in
     let y : sent_size c.protect unit.size ≡ width_for a bytes = ap (λ z. sent_size z unit.size) (protect-is a address n) ∙ ap (sent_size (field_for a)) k.long ∙ width-sent a bytes k.protect in
     let za : address ≡ address + 0 = omega arith in
     let zf : from ≡ from + 0 = omega arith in
@@ -153,7 +153,7 @@ answered-in a ios us device bytes address n at from room s t bs stop k v =
     let j : read_by (shape_of unit) c at a.tamper (map label_of bs) (stored_from unit from c.n) ≡ judged_in a ios (shapes_of us) (blocks_told us) bs =
     ap (λ x. each (λ i frame. off_medium a.tamper (passage_of (shape_of unit) c at (map label_of bs) i) frame) 0 (take x (drop (from - unit.first) unit.blocks))) (count-is a address n ∙ sym k.count)
     ∙ ap (λ x. each (λ i frame. off_medium a.tamper (passage_of (shape_of unit) c at (map label_of bs) i) frame) 0 (take (length bs) (drop (x - unit.first) unit.blocks))) zf
-    ∙ asked-in a ios us (map label_of bs) device bytes address n at from s t bs 0 k.there k.ty k.long k.above zn k.here k.there_from (subst (λ z. Run a ios device bytes s t z bs) za k.run) refl in
+    ∙ asked-in a ios us (map label_of bs) device bytes address n at from s t u bs 0 k.there k.ty k.long k.above zn k.here k.there_from (subst (λ z. Run a ios device bytes s t u z bs) za k.run) refl in
     let r : refusal (shape_of unit) (Ok (command_for a In address n)) a.tamper (map label_of bs) 0 room ≡ None =
     not-refused-in (shape_of unit) (command_for a In address n) c a.tamper (map label_of bs) 0 room (asked-for a In address n)
     (subst (λ z. is_foreign z (command_for a In address n) ≡ false) (sym k.ty) (own-form a In address n))
@@ -189,14 +189,14 @@ moved-in a bytes width address n d fs rest f p w m l e =
 
 -- ---- all of it
 
-pub came-by : (a : Adapter) (ios : List Io) (req : List Bio) (pool pool' : List (List ℕ)) (us : List Stored) (stop : Option Stop) (fates : List Fate) (old new : RigState) (bytes at from width : ℕ) (s t : ℤ) (o : Outcome) (was came : List ℕ) →
-    BeforeIn a ios us (first_of req).dev bytes (first_of req).lba (size req) at from s t (blocks_in req) → width ≡ bytes → length was ≡ size req * width_for a bytes →
+pub came-by : (a : Adapter) (ios : List Io) (req : List Bio) (pool pool' : List (List ℕ)) (us : List Stored) (stop : Option Stop) (fates : List Fate) (old new : RigState) (bytes at from width : ℕ) (s t u : ℤ) (o : Outcome) (was came : List ℕ) →
+    BeforeIn a ios us (first_of req).dev bytes (first_of req).lba (size req) at from s t u (blocks_in req) → width ≡ bytes → length was ≡ size req * width_for a bytes →
     IsAnswer (answer_of us a.tamper (first_of req).dev (form (command_for a In (first_of req).lba (size req))) (map label_of (blocks_in req)) [] (length was) stop) us (first_of req).dev o new.units was came →
     new.log ≡ old.log ++ (entry_of width (first_of req).dev (form (command_for a In (first_of req).lba (size req))) (map label_of (blocks_in req)) o [] came ∷ []) →
     fates ≡ fates_in a ios (blocks_in req) (frames_of (width_for a bytes) (done_of (size req) o) came) ++ rest_of (size req) o →
     flat pool' ≡ landed a ios (blocks_in req) (frames_of (width_for a bytes) (done_of (size req) o) came) (flat pool) →
     CameIn a ios req pool pool' us stop fates old new
-came-by a ios req pool pool' us stop fates old new bytes at from width s t o was came k w v answer log fate lands =
+came-by a ios req pool pool' us stop fates old new bytes at from width s t u o was came k w v answer log fate lands =
     let bs = blocks_in req in
     let unit = unit_at us (first_of req).dev in
     let js = judged_in a ios (shapes_of us) (blocks_told us) bs in
@@ -205,14 +205,14 @@ came-by a ios req pool pool' us stop fates old new bytes at from width s t o was
     let jn : length js ≡ size req = judged-in-long a ios (shapes_of us) (blocks_told us) bs ∙ k.count in
     let bn : length bs ≡ length js = sym (judged-in-long a ios (shapes_of us) (blocks_told us) bs) in
     let ends = ends-in a ios stop at bs js bn in
-    let ans = answered-in a ios us (first_of req).dev bytes (first_of req).lba (size req) at from (length was) s t bs stop k v in
+    let ans = answered-in a ios us (first_of req).dev bytes (first_of req).lba (size req) at from (length was) s t u bs stop k v in
     let isa = subst (λ x. IsAnswer x us (first_of req).dev o new.units was came) ans answer in
     let od : o.done ≡ end.done = ap (λ (x : Outcome). x.done) isa.outcome in
     let fl : length end.frames ≡ end.done = ap length ends.part ∙ take-long end.done (passed js) ends.few in
     let dn : end.done ≤ size req = (let x = ends.few in let y = few_passed js in omega arith) in
     let za : (first_of req).lba ≡ (first_of req).lba + 0 = omega arith in
     let zn : from + 0 + length bs ≤ unit.first + length unit.blocks = (let x = k.below in let z = k.count in omega arith) in
-    let wide = came-wide a ios us (first_of req).dev bytes (first_of req).lba at from s t bs 0 k.protect k.there k.whole k.above zn k.here k.there_from (subst (λ z. Run a ios (first_of req).dev bytes s t z bs) za k.run) in
+    let wide = came-wide a ios us (first_of req).dev bytes (first_of req).lba at from s t u bs 0 k.protect k.there k.whole k.above zn k.here k.there_from (subst (λ z. Run a ios (first_of req).dev bytes s t u z bs) za k.run) in
     let wide' : AllLong (width_for a bytes) end.frames = subst (AllLong (width_for a bytes)) (sym ends.part) (part-long (width_for a bytes) end.done (passed js) wide) in
     let dd : done_of (size req) o ≡ length end.frames = (let m : min end.done (size req) ≡ end.done = omega arith in ap (λ d. min d (size req)) od ∙ m ∙ sym fl) in
     let cut : frames_of (width_for a bytes) (done_of (size req) o) came ≡ end.frames =

@@ -17,7 +17,7 @@ use Rattle.bio_core.specs.declared.request.Io.{Io}
 use Rattle.bio_core.specs.Bios.{Block, block_size, blocks_from, blocks_of}
 use Rattle.fault_schedule.specs.Altered.{shift_of}
 use Rattle.fault_schedule.specs.declared.Label.{Label}
-use Rattle.fault_schedule.specs.declared.fault.Crossing.TheVariants.{AdapterToTarget, MediumToTarget}
+use Rattle.fault_schedule.specs.declared.fault.Crossing.TheVariants.{AdapterToTarget, MediumToTarget, TargetToMedium}
 use Rattle.rig_api.specs.Passed.{frames_of, joined, sent_size, onto_medium, each, passage as passage_of}
 use Rattle.rig_api.specs.declared.units.UnitSpec.{UnitSpec}
 use Rattle.page_pool.proofs.Ranges.{take-sum}
@@ -34,23 +34,24 @@ use Rattle.dix_adapter.proofs.GoingOut.{all_sent, judged_out}
 use Rattle.dix_adapter.proofs.Labels.{label-at}
 
 -- what is known of a block at this address
-pub record Next (a : Adapter) (ios : List Io) (device bytes : ℕ) (s t : ℤ) (address : ℕ) (b : Block) : Type 0 where
+pub record Next (a : Adapter) (ios : List Io) (device bytes : ℕ) (s t u : ℤ) (address : ℕ) (b : Block) : Type 0 where
   pub dev : b.dev ≡ device
   pub lba : b.lba ≡ address
   pub long : block_size (request_of ios b.op) ≡ bytes
   pub host : length (frame_cells ios b) ≡ host_size (route_of a ios b)
   pub wire : shift_of a.tamper AdapterToTarget b.op ≡ s
   pub medium : shift_of a.tamper MediumToTarget b.op ≡ t
+  pub stored : shift_of a.tamper TargetToMedium b.op ≡ u
 
-abbrev pub Run : Adapter → List Io → (device bytes : ℕ) → (s t : ℤ) → (address : ℕ) → List Block → Type 0
-Run a ios device bytes s t address [] = Unit {0}
-Run a ios device bytes s t address (b ∷ bs) = Next a ios device bytes s t address b × Run a ios device bytes s t (suc address) bs
+abbrev pub Run : Adapter → List Io → (device bytes : ℕ) → (s t u : ℤ) → (address : ℕ) → List Block → Type 0
+Run a ios device bytes s t u address [] = Unit {0}
+Run a ios device bytes s t u address (b ∷ bs) = Next a ios device bytes s t u address b × Run a ios device bytes s t u (suc address) bs
 
-run-append : (a : Adapter) (ios : List Io) (device bytes : ℕ) (s t : ℤ) (at : ℕ) (xs ys : List Block) → Run a ios device bytes s t at xs → Run a ios device bytes s t (at + length xs) ys → Run a ios device bytes s t at (xs ++ ys)
-run-append a ios device bytes s t at [] ys x y = let z : at + 0 ≡ at = omega arith in subst (λ k. Run a ios device bytes s t k ys) z y
-run-append a ios device bytes s t at (b ∷ xs) ys x y =
+run-append : (a : Adapter) (ios : List Io) (device bytes : ℕ) (s t u : ℤ) (at : ℕ) (xs ys : List Block) → Run a ios device bytes s t u at xs → Run a ios device bytes s t u (at + length xs) ys → Run a ios device bytes s t u at (xs ++ ys)
+run-append a ios device bytes s t u at [] ys x y = let z : at + 0 ≡ at = omega arith in subst (λ k. Run a ios device bytes s t u k ys) z y
+run-append a ios device bytes s t u at (b ∷ xs) ys x y =
     let z : at + suc (length xs) ≡ suc at + length xs = omega arith in
-    (x.0, run-append a ios device bytes s t (suc at) xs ys x.1 (subst (λ k. Run a ios device bytes s t k ys) z y))
+    (x.0, run-append a ios device bytes s t u (suc at) xs ys x.1 (subst (λ k. Run a ios device bytes s t u k ys) z y))
 
 -- ---- the cells of a frame
 
@@ -67,36 +68,40 @@ cells-long dix pool io k w h l =
 
 -- ---- the blocks of a bio, and of a group
 
-bio-run : (a : Adapter) (pool : List (List ℕ)) (ios : List Io) (bytes : ℕ) (s t : ℤ) (op k dev lba : ℕ) (dir : Dir) (n : ℕ) → block_size (request_of ios op) ≡ bytes → Walkable pool (request_of ios op) → HasHost a.dix (request_of ios op).pi → k + n ≤ (request_of ios op).count →
-    shift_of a.tamper AdapterToTarget op ≡ s → shift_of a.tamper MediumToTarget op ≡ t → Run a ios dev bytes s t lba (blocks_from op k dev lba dir n)
-bio-run a pool ios bytes s t op k dev lba dir zero z w h l x y = tt
-bio-run a pool ios bytes s t op k dev lba dir (suc n) z w h l x y = (
-  record { dev = refl; lba = refl; long = z; host = cells-long a.dix pool (request_of ios op) k w h (omega arith); wire = x; medium = y },
-  bio-run a pool ios bytes s t op (suc k) dev (suc lba) dir n z w h (omega arith) x y,
+bio-run : (a : Adapter) (pool : List (List ℕ)) (ios : List Io) (bytes : ℕ) (s t u : ℤ) (op k dev lba : ℕ) (dir : Dir) (n : ℕ) → block_size (request_of ios op) ≡ bytes → Walkable pool (request_of ios op) → HasHost a.dix (request_of ios op).pi → k + n ≤ (request_of ios op).count →
+    shift_of a.tamper AdapterToTarget op ≡ s → shift_of a.tamper MediumToTarget op ≡ t → shift_of a.tamper TargetToMedium op ≡ u → Run a ios dev bytes s t u lba (blocks_from op k dev lba dir n)
+bio-run a pool ios bytes s t u op k dev lba dir zero z w h l x y v = tt
+bio-run a pool ios bytes s t u op k dev lba dir (suc n) z w h l x y v = (
+  record { dev = refl; lba = refl; long = z; host = cells-long a.dix pool (request_of ios op) k w h (omega arith); wire = x; medium = y; stored = v },
+  bio-run a pool ios bytes s t u op (suc k) dev (suc lba) dir n z w h (omega arith) x y v,
 )
 
-bios-run : (a : Adapter) (pool : List (List ℕ)) (ios : List Io) (bytes dev at : ℕ) (dir : Dir) (s t : ℤ) (req : List Bio) → All (IsBio a pool bytes ios dev dir) req → Chain at req →
-    All (λ b. (shift_of a.tamper AdapterToTarget b.op ≡ s) × (shift_of a.tamper MediumToTarget b.op ≡ t)) req → Run a ios dev bytes s t at (blocks_in req)
-bios-run a pool ios bytes dev at dir s t [] h c e = tt
-bios-run a pool ios bytes dev at dir s t (b ∷ bs) h c e =
-    let x : IsBio a pool bytes ios dev dir b = h 0 b (omega arith) in
-    let y : (shift_of a.tamper AdapterToTarget b.op ≡ s) × (shift_of a.tamper MediumToTarget b.op ≡ t) = e 0 b (omega arith) in
-    let one : Run a ios b.dev bytes s t b.lba (blocks_of b) = bio-run a pool ios bytes s t b.op b.k b.dev b.lba b.dir b.count x.request.size x.request.walks x.request.host x.within y.0 y.1 in
-    let here : Run a ios dev bytes s t at (blocks_of b) = subst (λ d. Run a ios d bytes s t at (blocks_of b)) x.on (subst (λ l. Run a ios b.dev bytes s t l (blocks_of b)) c.0 one) in
-    let n : at + length (blocks_of b) ≡ at + b.count = ap (λ m. at + m) (length-blocks b.op b.k b.dev b.lba b.dir b.count) in
-    run-append a ios dev bytes s t at (blocks_of b) (blocks_in bs) here
-    (subst (λ m. Run a ios dev bytes s t m (blocks_in bs)) (sym n) (bios-run a pool ios bytes dev (at + b.count) dir s t bs (λ k d l. h (suc k) d (omega (arith, l))) c.1 (λ k d l. e (suc k) d (omega (arith, l)))))
+-- the op of a bio is shifted so
+abbrev pub IsShifted : Adapter → (s t u : ℤ) → Bio → Type 0
+IsShifted a s t u b = (shift_of a.tamper AdapterToTarget b.op ≡ s) × (shift_of a.tamper MediumToTarget b.op ≡ t) × (shift_of a.tamper TargetToMedium b.op ≡ u)
 
-pub group-run : (a : Adapter) (pool : List (List ℕ)) (bytes : ℕ) (ios : List Io) (req : List Bio) (s t : ℤ) → IsCarriedGroup a pool bytes ios req →
-    All (λ b. (shift_of a.tamper AdapterToTarget b.op ≡ s) × (shift_of a.tamper MediumToTarget b.op ≡ t)) req → Run a ios (first_of req).dev bytes s t (first_of req).lba (blocks_in req)
-group-run a pool bytes ios req s t g e = bios-run a pool ios bytes (first_of req).dev (first_of req).lba (first_of req).dir s t req g.bios g.chain e
+bios-run : (a : Adapter) (pool : List (List ℕ)) (ios : List Io) (bytes dev at : ℕ) (dir : Dir) (s t u : ℤ) (req : List Bio) → All (IsBio a pool bytes ios dev dir) req → Chain at req →
+    All (IsShifted a s t u) req → Run a ios dev bytes s t u at (blocks_in req)
+bios-run a pool ios bytes dev at dir s t u [] h c e = tt
+bios-run a pool ios bytes dev at dir s t u (b ∷ bs) h c e =
+    let x : IsBio a pool bytes ios dev dir b = h 0 b (omega arith) in
+    let y : IsShifted a s t u b = e 0 b (omega arith) in
+    let one : Run a ios b.dev bytes s t u b.lba (blocks_of b) = bio-run a pool ios bytes s t u b.op b.k b.dev b.lba b.dir b.count x.request.size x.request.walks x.request.host x.within y.0 y.1 y.2 in
+    let here : Run a ios dev bytes s t u at (blocks_of b) = subst (λ d. Run a ios d bytes s t u at (blocks_of b)) x.on (subst (λ l. Run a ios b.dev bytes s t u l (blocks_of b)) c.0 one) in
+    let n : at + length (blocks_of b) ≡ at + b.count = ap (λ m. at + m) (length-blocks b.op b.k b.dev b.lba b.dir b.count) in
+    run-append a ios dev bytes s t u at (blocks_of b) (blocks_in bs) here
+    (subst (λ m. Run a ios dev bytes s t u m (blocks_in bs)) (sym n) (bios-run a pool ios bytes dev (at + b.count) dir s t u bs (λ k d l. h (suc k) d (omega (arith, l))) c.1 (λ k d l. e (suc k) d (omega (arith, l)))))
+
+pub group-run : (a : Adapter) (pool : List (List ℕ)) (bytes : ℕ) (ios : List Io) (req : List Bio) (s t u : ℤ) → IsCarriedGroup a pool bytes ios req →
+    All (IsShifted a s t u) req → Run a ios (first_of req).dev bytes s t u (first_of req).lba (blocks_in req)
+group-run a pool bytes ios req s t u g e = bios-run a pool ios bytes (first_of req).dev (first_of req).lba (first_of req).dir s t u req g.bios g.chain e
 
 -- ---- out
 
-pub asked-out : (a : Adapter) (ios : List Io) (unit : UnitSpec) (labels : List Label) (cells : List ℕ) (lba n at dev bytes : ℕ) (s t : ℤ) (bs : List Block) (k : ℕ) → unit.ty ≡ a.ty → unit.size ≡ bytes → pos lba +ℤ s ≡ pos at → Run a ios dev bytes s t (lba + k) bs → drop k labels ≡ map label_of bs →
+pub asked-out : (a : Adapter) (ios : List Io) (unit : UnitSpec) (labels : List Label) (cells : List ℕ) (lba n at dev bytes : ℕ) (s t u : ℤ) (bs : List Block) (k : ℕ) → unit.ty ≡ a.ty → unit.size ≡ bytes → pos lba +ℤ s ≡ pos at → Run a ios dev bytes s t u (lba + k) bs → drop k labels ≡ map label_of bs →
     each (λ k frame. onto_medium a.tamper (passage_of unit (fields_of a lba n) at labels k) frame) k (all_sent a ios cells bs) ≡ judged_out a ios cells bs
-asked-out a ios unit labels cells lba n at dev bytes s t [] k y z p r d = refl
-asked-out a ios unit labels cells lba n at dev bytes s t (b ∷ bs) k y z p r d =
+asked-out a ios unit labels cells lba n at dev bytes s t u [] k y z p r d = refl
+asked-out a ios unit labels cells lba n at dev bytes s t u (b ∷ bs) k y z p r d =
     let l = label-at k labels (map label_of bs) (label_of b) d in
     let m : suc (lba + k) ≡ lba + (k + 1) = omega arith in
     let q : suc k ≡ k + 1 = omega arith in
@@ -105,7 +110,7 @@ asked-out a ios unit labels cells lba n at dev bytes s t (b ∷ bs) k y z p r d 
     (onto-alike a.tamper (passage_of unit (fields_of a lba n) at labels k) (passage a.tamper (route_of a ios b)) (frame_sent (sends a ios cells b))
     (asked-alike a unit a.tamper labels lba n at k (route_of a ios b) (record { ty = y; bytes = z ∙ sym r.0.long; own_type = refl; mode = refl; lba = r.0.lba; wire = w; label = l.0 })))
     ∙ ap (λ js. onto_medium a.tamper (passage a.tamper (route_of a ios b)) (frame_sent (sends a ios cells b)) ∷ js)
-    (asked-out a ios unit labels cells lba n at dev bytes s t bs (k + 1) y z p (subst (λ j. Run a ios dev bytes s t j bs) m r.1) (ap (λ j. drop j labels) (sym q) ∙ l.1))
+    (asked-out a ios unit labels cells lba n at dev bytes s t u bs (k + 1) y z p (subst (λ j. Run a ios dev bytes s t u j bs) m r.1) (ap (λ j. drop j labels) (sym q) ∙ l.1))
 
 -- the frames that are sent have the wire's size
 abbrev pub width_for : Adapter → ℕ → ℕ
@@ -129,9 +134,9 @@ abbrev pub Shaped : Adapter → List Io → (bytes : ℕ) → List Block → Typ
 Shaped a ios bytes [] = Unit {0}
 Shaped a ios bytes (b ∷ bs) = ((block_size (request_of ios b.op) ≡ bytes) × (length (frame_cells ios b) ≡ host_size (route_of a ios b))) × Shaped a ios bytes bs
 
-run-shaped : (a : Adapter) (ios : List Io) (device bytes : ℕ) (s t : ℤ) (at : ℕ) (bs : List Block) → Run a ios device bytes s t at bs → Shaped a ios bytes bs
-run-shaped a ios device bytes s t at [] r = tt
-run-shaped a ios device bytes s t at (b ∷ bs) r = ((r.0.long, r.0.host), run-shaped a ios device bytes s t (suc at) bs r.1)
+run-shaped : (a : Adapter) (ios : List Io) (device bytes : ℕ) (s t u : ℤ) (at : ℕ) (bs : List Block) → Run a ios device bytes s t u at bs → Shaped a ios bytes bs
+run-shaped a ios device bytes s t u at [] r = tt
+run-shaped a ios device bytes s t u at (b ∷ bs) r = ((r.0.long, r.0.host), run-shaped a ios device bytes s t u (suc at) bs r.1)
 
 bio-shaped : (a : Adapter) (pool : List (List ℕ)) (ios : List Io) (bytes op k dev lba : ℕ) (dir : Dir) (n : ℕ) → block_size (request_of ios op) ≡ bytes → Walkable pool (request_of ios op) → HasHost a.dix (request_of ios op).pi → k + n ≤ (request_of ios op).count → Shaped a ios bytes (blocks_from op k dev lba dir n)
 bio-shaped a pool ios bytes op k dev lba dir zero z w h l = tt
@@ -156,8 +161,8 @@ shaped-wide a ios cells bytes (b ∷ bs) r h =
       shaped-wide a ios cells bytes bs r.1 o.1,
     )
 
-pub sent-wide : (a : Adapter) (ios : List Io) (cells : List ℕ) (dev bytes : ℕ) (s t : ℤ) (at : ℕ) (bs : List Block) → Run a ios dev bytes s t at bs → any_bad (map (sends a ios cells) bs) ≡ false → AllLong (width_for a bytes) (all_sent a ios cells bs)
-sent-wide a ios cells dev bytes s t at bs r h = shaped-wide a ios cells bytes bs (run-shaped a ios dev bytes s t at bs r) h
+pub sent-wide : (a : Adapter) (ios : List Io) (cells : List ℕ) (dev bytes : ℕ) (s t u : ℤ) (at : ℕ) (bs : List Block) → Run a ios dev bytes s t u at bs → any_bad (map (sends a ios cells) bs) ≡ false → AllLong (width_for a bytes) (all_sent a ios cells bs)
+sent-wide a ios cells dev bytes s t u at bs r h = shaped-wide a ios cells bytes bs (run-shaped a ios dev bytes s t u at bs r) h
 
 pub group-wide : (a : Adapter) (pool : List (List ℕ)) (bytes : ℕ) (ios : List Io) (req : List Bio) → IsCarriedGroup a pool bytes ios req → any_bad (map (sends a ios (flat pool)) (blocks_in req)) ≡ false → AllLong (width_for a bytes) (all_sent a ios (flat pool) (blocks_in req))
 group-wide a pool bytes ios req g h = shaped-wide a ios (flat pool) bytes (blocks_in req) (bios-shaped a pool ios bytes (first_of req).dev (first_of req).dir req g.bios) h

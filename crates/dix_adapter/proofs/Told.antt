@@ -10,7 +10,7 @@ use Rattle.bio_core.specs.declared.request.Io.{Io}
 use Rattle.cdb_codec.specs.Forms.{form}
 use Rattle.cdb_codec.specs.declared.choice.Dir2.TheVariants.{In, Out}
 use Rattle.fault_schedule.specs.Altered.{shift_of}
-use Rattle.fault_schedule.specs.declared.fault.Crossing.TheVariants.{AdapterToTarget, MediumToTarget}
+use Rattle.fault_schedule.specs.declared.fault.Crossing.TheVariants.{AdapterToTarget, MediumToTarget, TargetToMedium}
 use Rattle.rig_api.specs.Passed.{frames_of, stored_size, Stop, Stored, has_blocks, shape_of}
 use Rattle.rig_api.specs.Log.{entry_of}
 use Rattle.rig_api.specs.Telling.{IsAnswer, IsStanding, answer_of, frame_size, spec_at, unit_at, units_told}
@@ -42,13 +42,15 @@ told-out a pool pool' bytes ios req fates old new us image p g w n sent u laid r
     by stop answer =
         let s = shift_of a.tamper AdapterToTarget (first_of req).op in
         let t = shift_of a.tamper MediumToTarget (first_of req).op in
+        let v = shift_of a.tamper TargetToMedium (first_of req).op in
         let e = unit-stands old.standing image us (first_of req).dev (sym laid ∙ u) ready dev in
         let unit = unit_at us (first_of req).dev in
         let z = group-bytes a pool bytes ios req g in
         let q = is-pos (shape_of unit) (pos (first_of req).lba +ℤ s) (size req) behind.sent in
+        let f = is-pos (shape_of unit) ((pos (first_of req).lba +ℤ s) +ℤ v) (size req) (behind.stored w) in
         let d : command_of a req ≡ command_for a Out (first_of req).lba (size req) = ap (λ y. command_for a (way_of y) (first_of req).lba (size req)) w in
         let l : length (blocks_in req) ≡ size req = length-in req in
-        went-by a ios req pool us stop fates old new bytes q.0 (spec_at old.standing (first_of req).dev).size s t sent.outcome
+        went-by a ios req pool us stop fates old new bytes q.0 f.0 (spec_at old.standing (first_of req).dev).size s t v sent.outcome
         (record {
           protect = p;
           fits = rw d at sent.fits;
@@ -56,11 +58,13 @@ told-out a pool pool' bytes ios req fates old new us image p g w n sent u laid r
           long = behind.bytes ∙ z;
           count = l;
           some = (let y = some-blocks a pool bytes ios req g in omega arith);
-          run = group-run a pool bytes ios req s t g behind.alike;
+          run = group-run a pool bytes ios req s t v g behind.alike;
           here = q.1.0;
+          there = ap (λ y. y +ℤ v) (sym q.1.0) ∙ f.1.0;
           within = ap (λ y. has_blocks (shape_of unit) y (size req)) (sym q.1.0) ∙ behind.sent;
+          stored = ap (λ y. has_blocks (shape_of unit) y (size req)) (sym f.1.0) ∙ behind.stored w;
         })
-        n e.there q.1.1.0 q.1.1.1 (sym (ap (λ y. y.size) e.shape) ∙ behind.bytes ∙ z)
+        n e.there f.1.1.0 f.1.1.1 (sym (ap (λ y. y.size) e.shape) ∙ behind.bytes ∙ z)
         (subst (λ y. IsAnswer (answer_of us a.tamper (first_of req).dev y (map label_of (blocks_in req)) (out_of a ios req pool) 0 stop) us (first_of req).dev sent.outcome new.units [] []) (ap form d)
         (subst (λ y. IsAnswer (answer_of us y (first_of req).dev (form (command_of a req)) (map label_of (blocks_in req)) (out_of a ios req pool) 0 stop) us (first_of req).dev sent.outcome new.units [] []) behind.armed answer))
         (sent.exchanged.recorded ∙ ap (λ y. old.log ++ (entry_of (spec_at old.standing (first_of req).dev).size (first_of req).dev y (map label_of (blocks_in req)) sent.outcome (out_of a ios req pool) [] ∷ [])) (ap form d))
@@ -76,6 +80,7 @@ told-in a pool pool' bytes ios req fates old new us image p g w got u laid ready
     by stop answer =
         let s = shift_of a.tamper AdapterToTarget (first_of req).op in
         let t = shift_of a.tamper MediumToTarget (first_of req).op in
+        let v = shift_of a.tamper TargetToMedium (first_of req).op in
         let e = unit-stands old.standing image us (first_of req).dev (sym laid ∙ u) ready dev in
         let unit = unit_at us (first_of req).dev in
         let z = group-bytes a pool bytes ios req g in
@@ -84,7 +89,7 @@ told-in a pool pool' bytes ios req fates old new us image p g w got u laid ready
         let d : command_of a req ≡ command_for a In (first_of req).lba (size req) = ap (λ y. command_for a (way_of y) (first_of req).lba (size req)) w in
         let l : length (blocks_in req) ≡ size req = length-in req in
         let gw = group-width a pool bytes ios req g in
-        came-by a ios req pool pool' us stop fates old new bytes q.0 f.0 (spec_at old.standing (first_of req).dev).size s t got.outcome got.before got.came
+        came-by a ios req pool pool' us stop fates old new bytes q.0 f.0 (spec_at old.standing (first_of req).dev).size s t v got.outcome got.before got.came
         (record {
           protect = p;
           fits = rw d at got.fits;
@@ -94,7 +99,7 @@ told-in a pool pool' bytes ios req fates old new us image p g w got u laid ready
           whole = subst (λ y. AllLong (stored_size y bytes) unit.blocks) behind.ty (subst (λ y. AllLong (stored_size unit.ty y) unit.blocks) (behind.bytes ∙ z) e.long);
           count = l;
           some = (let y = some-blocks a pool bytes ios req g in omega arith);
-          run = group-run a pool bytes ios req s t g behind.alike;
+          run = group-run a pool bytes ios req s t v g behind.alike;
           here = q.1.0;
           there_from = ap (λ y. y +ℤ t) (sym q.1.0) ∙ f.1.0;
           sent = ap (λ y. has_blocks (shape_of unit) y (size req)) (sym q.1.0) ∙ behind.sent;

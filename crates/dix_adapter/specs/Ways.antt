@@ -4,13 +4,13 @@ use Rattle.std.specs.List.{All}
 use Rattle.dix_base.specs.Told.{Calm}
 use Rattle.page_pool.specs.Cells.{flat}
 use Rattle.fault_schedule.specs.Altered.{shift_of}
-use Rattle.fault_schedule.specs.declared.fault.Crossing.TheVariants.{AdapterToTarget, MediumToTarget}
+use Rattle.fault_schedule.specs.declared.fault.Crossing.TheVariants.{AdapterToTarget, MediumToTarget, TargetToMedium}
 use Rattle.fault_schedule.specs.declared.fault.FaultLine.{FaultLine}
 use Rattle.bio_core.specs.declared.bio.Bio.{Bio}
 use Rattle.bio_core.specs.declared.fate.Fate.{Fate}
 use Rattle.bio_core.specs.declared.fate.Fate.TheVariants.{Good, Bad, Untouched}
 use Rattle.bio_core.specs.declared.fate.Why.TheVariants.{Medium}
-use Rattle.bio_core.specs.declared.request.Dir.TheVariants.{Read}
+use Rattle.bio_core.specs.declared.request.Dir.TheVariants.{Read, Write}
 use Rattle.bio_core.specs.declared.request.Io.{Io}
 use Rattle.bio_core.specs.Bios.{Block, block_size}
 use Rattle.cdb_codec.specs.Forms.{Fits, form}
@@ -100,8 +100,12 @@ pub record IsBehind (a : Adapter) (ios : List Io) (req : List Bio) (us : List St
   pub bytes : (unit_at us (first_of req).dev).size ≡ block_size (request_of ios (first_of req).op)
   pub armed : lines ≡ a.tamper
   pub alike : All (λ b. (shift_of a.tamper AdapterToTarget b.op ≡ shift_of a.tamper AdapterToTarget (first_of req).op)
-      × (shift_of a.tamper MediumToTarget b.op ≡ shift_of a.tamper MediumToTarget (first_of req).op)) req
+      × (shift_of a.tamper MediumToTarget b.op ≡ shift_of a.tamper MediumToTarget (first_of req).op)
+      × (shift_of a.tamper TargetToMedium b.op ≡ shift_of a.tamper TargetToMedium (first_of req).op)) req
   pub sent : has_blocks (shape_of (unit_at us (first_of req).dev)) (pos (first_of req).lba +ℤ shift_of a.tamper AdapterToTarget (first_of req).op) (size req) ≡ true
+  pub stored : (first_of req).dir ≡ Write
+      → has_blocks (shape_of (unit_at us (first_of req).dev))
+      ((pos (first_of req).lba +ℤ shift_of a.tamper AdapterToTarget (first_of req).op) +ℤ shift_of a.tamper TargetToMedium (first_of req).op) (size req) ≡ true
   pub fetched : (first_of req).dir ≡ Read
       → has_blocks (shape_of (unit_at us (first_of req).dev))
       ((pos (first_of req).lba +ℤ shift_of a.tamper AdapterToTarget (first_of req).op) +ℤ shift_of a.tamper MediumToTarget (first_of req).op) (size req) ≡ true

@@ -9,7 +9,7 @@ use Rattle.bio_core.specs.declared.bio.Bio.{Bio}
 use Rattle.bio_core.specs.declared.request.Dir.{Dir}
 use Rattle.bio_core.specs.declared.request.Io.{Io}
 use Rattle.fault_schedule.specs.Altered.{shift_of}
-use Rattle.fault_schedule.specs.declared.fault.Crossing.TheVariants.{AdapterToTarget, MediumToTarget}
+use Rattle.fault_schedule.specs.declared.fault.Crossing.TheVariants.{AdapterToTarget, MediumToTarget, TargetToMedium}
 use Rattle.stack_ops.specs.declared.op.Op.{Op}
 use Rattle.stack_ops.specs.declared.op.Op.TheVariants.{Fetch, FetchPi, Fill, Overwrite, Put, Seal, Show, Wait, Write, WritePi}
 use Rattle.stack_ops.specs.Footprints.{footprint}
@@ -27,10 +27,11 @@ use Rattle.stack_walk_laws.proofs.Passed.{still_is}
 -- ---- shifts
 
 -- an op that no line shifts
-pub still : (m : Setting) (i : ℕ) → is_shifted m i ≡ false → (shift_of m.site.faults AdapterToTarget i ≡ pos 0) × (shift_of m.site.faults MediumToTarget i ≡ pos 0)
+pub still : (m : Setting) (i : ℕ) → is_shifted m i ≡ false → (shift_of m.site.faults AdapterToTarget i ≡ pos 0) × (shift_of m.site.faults MediumToTarget i ≡ pos 0) × (shift_of m.site.faults TargetToMedium i ≡ pos 0)
 still m i h =
-    let b = or_parts (not (eqb (nat_abs (shift_of m.site.faults AdapterToTarget i)) 0)) (not (eqb (nat_abs (shift_of m.site.faults MediumToTarget i)) 0)) h in
-    (still_is (shift_of m.site.faults AdapterToTarget i) b.0, still_is (shift_of m.site.faults MediumToTarget i) b.1)
+    let b = or_parts (not (eqb (nat_abs (shift_of m.site.faults AdapterToTarget i)) 0)) _ h in
+    let c = or_parts (not (eqb (nat_abs (shift_of m.site.faults MediumToTarget i)) 0)) (not (eqb (nat_abs (shift_of m.site.faults TargetToMedium i)) 0)) b.1 in
+    (still_is (shift_of m.site.faults AdapterToTarget i) b.0, still_is (shift_of m.site.faults MediumToTarget i) c.0, still_is (shift_of m.site.faults TargetToMedium i) c.1)
 
 -- a request that is shifted is alone
 request_alone : (op : Op) (shifted : Bool) → 0 < fates_of op → (footprint op shifted).alone ≡ shifted

@@ -6,7 +6,7 @@ use Rattle.std.proofs.lemmas.Bool.{and_right, cases_Bool, or_parts, true_from_ne
 use Rattle.std.proofs.lemmas.List.{length-map}
 use Rattle.fault_schedule.specs.Altered.{is_same, shift_by, shift_of}
 use Rattle.fault_schedule.specs.declared.fault.Crossing.{Crossing}
-use Rattle.fault_schedule.specs.declared.fault.Crossing.TheVariants.{AdapterToTarget, MediumToTarget}
+use Rattle.fault_schedule.specs.declared.fault.Crossing.TheVariants.{AdapterToTarget, MediumToTarget, TargetToMedium}
 use Rattle.fault_schedule.specs.declared.fault.FaultKind.{FaultKind}
 use Rattle.fault_schedule.specs.declared.fault.FaultKind.TheVariants.{Flip, Shift, Keep, Fail}
 use Rattle.fault_schedule.specs.declared.fault.FaultLine.{FaultLine}
@@ -68,7 +68,8 @@ is_marked m n i h e =
     let none : list_any (shifts (suc i)) m.site.faults ≡ false = ap (λ x. list_any (shifts x) m.site.faults) (sym one) ∙ (sym (shifted_at m.site.faults n i h) ∙ f) in
     let a = not_shifted m.site.faults AdapterToTarget (suc i) none in
     let b = not_shifted m.site.faults MediumToTarget (suc i) none in
-    let still : is_shifted m (suc i) ≡ false = rw (a, b) refl in
+    let c = not_shifted m.site.faults TargetToMedium (suc i) none in
+    let still : is_shifted m (suc i) ≡ false = rw (a, b, c) refl in
     let z : true ≡ false = sym e ∙ still in
     cc)
 

@@ -16,7 +16,8 @@ use Rattle.bio_core.specs.declared.request.Dir.{Dir}
 use Rattle.bio_core.specs.declared.request.Dir.TheVariants.{Read, Write as WriteDir}
 use Rattle.bio_core.specs.declared.request.Io.{Io}
 use Rattle.fault_schedule.specs.Altered.{fails_of, shift_of}
-use Rattle.fault_schedule.specs.declared.fault.Crossing.TheVariants.{AdapterToTarget, MediumToTarget}
+use Rattle.fault_schedule.specs.declared.fault.Crossing.{Crossing}
+use Rattle.fault_schedule.specs.declared.fault.Crossing.TheVariants.{AdapterToTarget, MediumToTarget, TargetToMedium}
 use Rattle.fault_schedule.specs.declared.fault.FaultLine.{FaultLine}
 use Rattle.pi_tuple.specs.declared.checks.Check.{Check}
 use Rattle.rig_api.specs.Frames.{stored_size}
@@ -96,6 +97,13 @@ by_flaw_ok (Err flaw) P h = tt
 
 sends_ok : (broken : Bool) (came : Result (List ℕ) Check) (P : List ℕ → Type 0) → IfOk (sent_unless broken came) P → IfOk (sends_unless broken (by_target came)) P
 sends_ok broken came P h = subst (λ x. IfOk x P) (sym (sends-by broken came)) (by_flaw_ok (sent_unless broken came) P h)
+
+-- the other op is shifted as this one
+abbrev ShiftedAlike : List FaultLine → (op other : ℕ) → Type 0
+ShiftedAlike faults op other =
+    (shift_of faults AdapterToTarget other ≡ shift_of faults AdapterToTarget op)
+    × (shift_of faults MediumToTarget other ≡ shift_of faults MediumToTarget op)
+    × (shift_of faults TargetToMedium other ≡ shift_of faults TargetToMedium op)
 
 module _ {course : Course} (m : Setting) (n : ℕ) (opening : State) (first : ℕ) (s : Stack) (units : Option (List Stored)) (armed : List FaultLine) (st : Standing) (log : List LogEntry) (k : IsStack s) (w : WalksAtTarget course m n opening first s units armed st log) where
   abbrev records : List Sent
@@ -209,17 +217,17 @@ module _ {course : Course} (m : Setting) (n : ℕ) (opening : State) (first : �
             (cases_lt t (length pl.requests))
 
     abbrev Alike : Bio → Bio → Type 0
-    Alike f b = (shift_of m.site.faults AdapterToTarget b.op ≡ shift_of m.site.faults AdapterToTarget f.op) × (shift_of m.site.faults MediumToTarget b.op ≡ shift_of m.site.faults MediumToTarget f.op)
+    Alike f b = ShiftedAlike m.site.faults f.op b.op
 
     two_still : (f b : Bio) → (is_shifted m b.op ≡ false) × (is_shifted m f.op ≡ false) → Alike f b
-    two_still f b h = let x = still m b.op h.0 in let y = still m f.op h.1 in (x.0 ∙ sym y.0, x.1 ∙ sym y.1)
+    two_still f b h = let x = still m b.op h.0 in let y = still m f.op h.1 in (x.0 ∙ sym y.0, x.1 ∙ sym y.1, x.2 ∙ sym y.2)
 
     pair : (f b : Bio) → 1 ≤ f.op → 1 ≤ b.op → IsOut design view (place_of f.op) f.k → IsOut design view (place_of b.op) b.k → Alike f b
     pair f b nf nb of ob =
         let zf : suc (place_of f.op) ≡ f.op = (let e = place-is f.op nf in omega arith) in
         let zb : suc (place_of b.op) ≡ b.op = (let e = place-is b.op nb in omega arith) in
         ⊎_elim
-        (λ (e : place_of b.op ≡ place_of f.op). let e' : b.op ≡ f.op = sym zb ∙ (ap suc e ∙ zf) in (ap (λ x. shift_of m.site.faults AdapterToTarget x) e', ap (λ x. shift_of m.site.faults MediumToTarget x) e'))
+        (λ (e : place_of b.op ≡ place_of f.op). let e' : b.op ≡ f.op = sym zb ∙ (ap suc e ∙ zf) in (ap (λ x. shift_of m.site.faults AdapterToTarget x) e', ap (λ x. shift_of m.site.faults MediumToTarget x) e', ap (λ x. shift_of m.site.faults TargetToMedium x) e'))
         (λ (ne : place_of b.op ≡ place_of f.op → ⊥). ⊎_elim
         (λ (l : place_of b.op < place_of f.op). two_still f b (let x = pair_still (place_of b.op) (place_of f.op) b.k f.k l ob of in (ap (is_shifted m) (sym zb) ∙ x.0, ap (is_shifted m) (sym zf) ∙ x.1)))
         (λ (l : place_of f.op ≤ place_of b.op). two_still f b (let x = pair_still (place_of f.op) (place_of b.op) f.k b.k (omega (arith, l, ne)) of ob in (ap (is_shifted m) (sym zb) ∙ x.1, ap (is_shifted m) (sym zf) ∙ x.0)))
@@ -258,11 +266,14 @@ module _ {course : Course} (m : Setting) (n : ℕ) (opening : State) (first : �
     abbrev medium : ℤ
     medium = shift_of s.adapter.tamper MediumToTarget (first_of g).op
 
-    armed_alike : All (λ b. (shift_of s.adapter.tamper AdapterToTarget b.op ≡ wire) × (shift_of s.adapter.tamper MediumToTarget b.op ≡ medium)) g
-    armed_alike = subst (λ f. All (λ b. (shift_of f AdapterToTarget b.op ≡ shift_of f AdapterToTarget (first_of g).op) × (shift_of f MediumToTarget b.op ≡ shift_of f MediumToTarget (first_of g).op)) g) w.over.faults alike
+    abbrev onto : ℤ
+    onto = shift_of s.adapter.tamper TargetToMedium (first_of g).op
 
-    run : Run s.adapter ios dev m.size wire medium lba bs
-    run = group-run s.adapter s.pool m.size ios g wire medium fit armed_alike
+    armed_alike : All (λ b. ShiftedAlike s.adapter.tamper (first_of g).op b.op) g
+    armed_alike = subst (λ f. All (λ b. ShiftedAlike f (first_of g).op b.op) g) w.over.faults alike
+
+    run : Run s.adapter ios dev m.size wire medium onto lba bs
+    run = group-run s.adapter s.pool m.size ios g wire medium onto fit armed_alike
 
     turns : InTurn (first_of g).dir dev lba bs
     turns = bios_turn s.adapter s.pool m.size ios dev (first_of g).dir lba g fit.bios fit.chain
@@ -271,7 +282,7 @@ module _ {course : Course} (m : Setting) (n : ℕ) (opening : State) (first : �
     long = length-in g
 
     -- a block where the shifts lead it
-    module _ (b : Block) (x : Lies m ios b) (bytes address : ℕ) (r : Next s.adapter ios dev bytes wire medium address b) where
+    module _ (b : Block) (x : Lies m ios b) (bytes address : ℕ) (r : Next s.adapter ios dev bytes wire medium onto address b) where
       abbrev op : Op
       op = op_in ops (b.op - 1)
 
@@ -296,6 +307,9 @@ module _ {course : Course} (m : Setting) (n : ℕ) (opening : State) (first : �
       medium_is : shift_of m.site.faults MediumToTarget b.op ≡ medium
       medium_is = ap (λ f. shift_of f MediumToTarget b.op) w.over.faults ∙ r.medium
 
+      onto_is : shift_of m.site.faults TargetToMedium b.op ≡ onto
+      onto_is = ap (λ f. shift_of f TargetToMedium b.op) w.over.faults ∙ r.stored
+
       sent_at : IsAtUnit m (specs_of st) dev (pos b.lba +ℤ wire)
       sent_at =
           let u = w.behind.sent (b.op - 1) b.k op_there counted in
@@ -305,39 +319,58 @@ module _ {course : Course} (m : Setting) (n : ℕ) (opening : State) (first : �
           (subst (λ l. IsAtUnit m (specs_of st) dev (pos l +ℤ shift_of m.site.faults AdapterToTarget b.op)) x.lba
           (subst (λ p. IsAtUnit m (specs_of st) p (pos (way b.op (io_at ios (b.op - 1)).first).lba +ℤ shift_of m.site.faults AdapterToTarget b.op)) (x.dev ∙ r.dev) o))
 
-      fetched_at : IsAtUnit m (specs_of st) dev (pos b.lba +ℤ (wire +ℤ medium))
-      fetched_at =
-          let u = w.behind.fetched (b.op - 1) b.k op_there counted in
-          let v = subst (λ v. IsAtUnit m (specs_of st) (way (suc (b.op - 1)) v).dev ((pos (way (suc (b.op - 1)) v).lba +ℤ shift_of m.site.faults AdapterToTarget (suc (b.op - 1))) +ℤ shift_of m.site.faults MediumToTarget (suc (b.op - 1)))) virt_is u in
-          let o = subst (λ i. IsAtUnit m (specs_of st) (way i (io_at ios (b.op - 1)).first).dev ((pos (way i (io_at ios (b.op - 1)).first).lba +ℤ shift_of m.site.faults AdapterToTarget i) +ℤ shift_of m.site.faults MediumToTarget i)) next v in
-          subst (IsAtUnit m (specs_of st) dev) (+ℤ_assoc (pos b.lba) wire medium)
-          (subst (λ z. IsAtUnit m (specs_of st) dev ((pos b.lba +ℤ wire) +ℤ z)) medium_is
-          (subst (λ z. IsAtUnit m (specs_of st) dev ((pos b.lba +ℤ z) +ℤ shift_of m.site.faults MediumToTarget b.op)) wire_is
-          (subst (λ l. IsAtUnit m (specs_of st) dev ((pos l +ℤ shift_of m.site.faults AdapterToTarget b.op) +ℤ shift_of m.site.faults MediumToTarget b.op)) x.lba
-          (subst (λ p. IsAtUnit m (specs_of st) p ((pos (way b.op (io_at ios (b.op - 1)).first).lba +ℤ shift_of m.site.faults AdapterToTarget b.op) +ℤ shift_of m.site.faults MediumToTarget b.op)) (x.dev ∙ r.dev) o))))
+      moved_at : (at : Crossing) (by : ℤ) → shift_of m.site.faults at b.op ≡ by
+          → ((i k : ℕ) → i < length ops → k < fates_of (op_in ops i)
+          → let r = route m (block_of (suc i) (first_virt (op_in ops i)) k) in IsAtUnit m (specs_of st) r.dev ((pos r.lba +ℤ shift_of m.site.faults AdapterToTarget (suc i)) +ℤ shift_of m.site.faults at (suc i)))
+          → IsAtUnit m (specs_of st) dev (pos b.lba +ℤ (wire +ℤ by))
+      moved_at at by by_is all =
+          let u = all (b.op - 1) b.k op_there counted in
+          let v = subst (λ v. IsAtUnit m (specs_of st) (way (suc (b.op - 1)) v).dev ((pos (way (suc (b.op - 1)) v).lba +ℤ shift_of m.site.faults AdapterToTarget (suc (b.op - 1))) +ℤ shift_of m.site.faults at (suc (b.op - 1)))) virt_is u in
+          let o = subst (λ i. IsAtUnit m (specs_of st) (way i (io_at ios (b.op - 1)).first).dev ((pos (way i (io_at ios (b.op - 1)).first).lba +ℤ shift_of m.site.faults AdapterToTarget i) +ℤ shift_of m.site.faults at i)) next v in
+          subst (IsAtUnit m (specs_of st) dev) (+ℤ_assoc (pos b.lba) wire by)
+          (subst (λ z. IsAtUnit m (specs_of st) dev ((pos b.lba +ℤ wire) +ℤ z)) by_is
+          (subst (λ z. IsAtUnit m (specs_of st) dev ((pos b.lba +ℤ z) +ℤ shift_of m.site.faults at b.op)) wire_is
+          (subst (λ l. IsAtUnit m (specs_of st) dev ((pos l +ℤ shift_of m.site.faults AdapterToTarget b.op) +ℤ shift_of m.site.faults at b.op)) x.lba
+          (subst (λ p. IsAtUnit m (specs_of st) p ((pos (way b.op (io_at ios (b.op - 1)).first).lba +ℤ shift_of m.site.faults AdapterToTarget b.op) +ℤ shift_of m.site.faults at b.op)) (x.dev ∙ r.dev) o))))
 
-    each_sent : (cs : List Block) (at : ℕ) → AllLie m ios cs → Run s.adapter ios dev m.size wire medium at cs → EachIn (spec_at st dev) wire cs
+      fetched_at : IsAtUnit m (specs_of st) dev (pos b.lba +ℤ (wire +ℤ medium))
+      fetched_at = moved_at MediumToTarget medium medium_is w.behind.fetched
+
+      stored_at : IsAtUnit m (specs_of st) dev (pos b.lba +ℤ (wire +ℤ onto))
+      stored_at = moved_at TargetToMedium onto onto_is w.behind.stored
+
+    each_sent : (cs : List Block) (at : ℕ) → AllLie m ios cs → Run s.adapter ios dev m.size wire medium onto at cs → EachIn (spec_at st dev) wire cs
     each_sent [] at x r = tt
     each_sent (b ∷ cs) at x r = ((sent_at b x.0 m.size at r.0).there, each_sent cs (suc at) x.1 r.1)
 
-    each_fetched : (cs : List Block) (at : ℕ) → AllLie m ios cs → Run s.adapter ios dev m.size wire medium at cs → EachIn (spec_at st dev) (wire +ℤ medium) cs
-    each_fetched [] at x r = tt
-    each_fetched (b ∷ cs) at x r = ((fetched_at b x.0 m.size at r.0).there, each_fetched cs (suc at) x.1 r.1)
+    -- where a shift at the medium moves each block, which lies in the unit there too
+    abbrev MovedIn : ℤ → Type 0
+    MovedIn by = (b : Block) (address : ℕ) → Lies m ios b → Next s.adapter ios dev m.size wire medium onto address b → IsAtUnit m (specs_of st) dev (pos b.lba +ℤ (wire +ℤ by))
+
+    each_moved : (by : ℤ) → MovedIn by → (cs : List Block) (at : ℕ) → AllLie m ios cs → Run s.adapter ios dev m.size wire medium onto at cs → EachIn (spec_at st dev) (wire +ℤ by) cs
+    each_moved by there [] at x r = tt
+    each_moved by there (b ∷ cs) at x r = ((there b at x.0 r.0).there, each_moved by there cs (suc at) x.1 r.1)
 
     first_at : IsAtUnit m (specs_of st) dev (pos lba +ℤ wire)
     first_at = by bs lba (omega (arith, long, has_some)) lies run where
-      by : (cs : List Block) (at : ℕ) → 0 < length cs → AllLie m ios cs → Run s.adapter ios dev m.size wire medium at cs → IsAtUnit m (specs_of st) dev (pos at +ℤ wire)
+      by : (cs : List Block) (at : ℕ) → 0 < length cs → AllLie m ios cs → Run s.adapter ios dev m.size wire medium onto at cs → IsAtUnit m (specs_of st) dev (pos at +ℤ wire)
       by [] at h x r = absurd (omega arith)
       by (b ∷ cs) at h x r = subst (λ l. IsAtUnit m (specs_of st) dev (pos l +ℤ wire)) r.0.lba (sent_at b x.0 m.size at r.0)
 
     sent_in_unit : has_blocks (spec_at st dev) (pos lba +ℤ wire) (size g) ≡ true
     sent_in_unit = ap (λ c. has_blocks (spec_at st dev) (pos lba +ℤ wire) c) (sym long) ∙ range_in (spec_at st dev) wire (first_of g).dir dev lba bs (omega (arith, long, has_some)) turns (each_sent bs lba lies run)
 
+    moved_in_unit : (by : ℤ) → MovedIn by → has_blocks (spec_at st dev) ((pos lba +ℤ wire) +ℤ by) (size g) ≡ true
+    moved_in_unit by there =
+        ap (λ p. has_blocks (spec_at st dev) p (size g)) (+ℤ_assoc (pos lba) wire by)
+        ∙ (ap (λ c. has_blocks (spec_at st dev) (pos lba +ℤ (wire +ℤ by)) c) (sym long)
+        ∙ range_in (spec_at st dev) (wire +ℤ by) (first_of g).dir dev lba bs (omega (arith, long, has_some)) turns (each_moved by there bs lba lies run))
+
     fetched_in_unit : has_blocks (spec_at st dev) ((pos lba +ℤ wire) +ℤ medium) (size g) ≡ true
-    fetched_in_unit =
-        ap (λ p. has_blocks (spec_at st dev) p (size g)) (+ℤ_assoc (pos lba) wire medium)
-        ∙ (ap (λ c. has_blocks (spec_at st dev) (pos lba +ℤ (wire +ℤ medium)) c) (sym long)
-        ∙ range_in (spec_at st dev) (wire +ℤ medium) (first_of g).dir dev lba bs (omega (arith, long, has_some)) turns (each_fetched bs lba lies run))
+    fetched_in_unit = moved_in_unit medium (λ b at x r. fetched_at b x m.size at r)
+
+    stored_in_unit : has_blocks (spec_at st dev) ((pos lba +ℤ wire) +ℤ onto) (size g) ≡ true
+    stored_in_unit = moved_in_unit onto (λ b at x r. stored_at b x m.size at r)
 
     head : 0 < (io_at ios ((first_of g).op - 1)).count
     head = head_there m n opening records told_blocks s k w.over w.walks s' d i group fates between stays ch takes flies settles same
@@ -350,6 +383,7 @@ module _ {course : Course} (m : Setting) (n : ℕ) (opening : State) (first : �
         armed = w.armed_are;
         alike = armed_alike;
         sent = ap (λ x. has_blocks x (pos lba +ℤ wire) (size g)) u.shape ∙ sent_in_unit;
+        stored = λ write. ap (λ x. has_blocks x ((pos lba +ℤ wire) +ℤ onto) (size g)) u.shape ∙ stored_in_unit;
         fetched = λ read. ap (λ x. has_blocks x ((pos lba +ℤ wire) +ℤ medium) (size g)) u.shape ∙ fetched_in_unit;
       }
 
@@ -359,18 +393,18 @@ module _ {course : Course} (m : Setting) (n : ℕ) (opening : State) (first : �
       -- ---- what a read is sent has the wire's size
 
       sized_from : (cs : List Block) (at from q : ℕ) → pos lba +ℤ wire ≡ pos at → pos at +ℤ medium ≡ pos from → (unit_at w.us dev).first ≤ from → from + q + length cs ≤ (unit_at w.us dev).first + length (unit_at w.us dev).blocks →
-          Run s.adapter ios dev m.size wire medium (lba + q) cs → AllSized (record m { site = site_of s.adapter (shapes_of w.us) }) s.adapter ios told_blocks (width_for s.adapter m.size) cs
+          Run s.adapter ios dev m.size wire medium onto (lba + q) cs → AllSized (record m { site = site_of s.adapter (shapes_of w.us) }) s.adapter ios told_blocks (width_for s.adapter m.size) cs
       sized_from [] at from q x y f h r = tt
       sized_from (b ∷ cs) at from q x y f h r =
           let a = s.adapter in
           let e : suc (lba + q) ≡ lba + suc q = omega arith in
           let stored = get_or told_blocks (fetched_cell (site_of a (shapes_of w.us)) (route_of a ios b)) [] in
-          let block = fetched-block a ios w.us dev m.size lba at from wire medium q b u.there f (omega (arith, h)) x y r.0 in
+          let block = fetched-block a ios w.us dev m.size lba at from wire medium onto q b u.there f (omega (arith, h)) x y r.0 in
           let ty : (unit_at w.us dev).ty ≡ a.ty = is_behind.ty in
           let bytes : (unit_at w.us dev).size ≡ m.size = ap (λ z. z.size) u.shape ∙ first_at.size in
           let sized : length stored ≡ stored_size a.ty m.size = ap length block ∙ (long-at (stored_size (unit_at w.us dev).ty (unit_at w.us dev).size) (unit_at w.us dev).blocks (from + q - (unit_at w.us dev).first) u.long (omega (arith, f, h)) ∙ (ap (λ z. stored_size z (unit_at w.us dev).size) ty ∙ ap (stored_size a.ty) bytes)) in (
             sends_ok (fails_of a.tamper (route_of a ios b).label) (from_medium a.tamper (passage a.tamper (route_of a ios b)) stored) (λ frame. length frame ≡ width_for a m.size) (sent-long-in a ios b stored m.size k.fixed.protect r.0.long sized),
-            sized_from cs at from (suc q) x y f (omega (arith, h)) (subst (λ z. Run a ios dev m.size wire medium z cs) e r.1),
+            sized_from cs at from (suc q) x y f (omega (arith, h)) (subst (λ z. Run a ios dev m.size wire medium onto z cs) e r.1),
           )
 
       sized : AllSized m s.adapter ios told_blocks (frame_len s.adapter ios g) bs
@@ -383,7 +417,7 @@ module _ {course : Course} (m : Setting) (n : ℕ) (opening : State) (first : �
           let fu = ap (λ z. z.first) u.shape in
           let bu = ap (λ z. z.blocks) u.shape in
           let z : lba + 0 ≡ lba = omega arith in
-          let all = sized_from bs x.0 y.0 0 x.1.0 there (omega (arith, f, fu)) (omega (arith, h, fu, bu, long)) (subst (λ l. Run s.adapter ios dev m.size wire medium l bs) (sym z) run) in
+          let all = sized_from bs x.0 y.0 0 x.1.0 there (omega (arith, f, fu)) (omega (arith, h, fu, bu, long)) (subst (λ l. Run s.adapter ios dev m.size wire medium onto l bs) (sym z) run) in
           subst (λ len. AllSized m s.adapter ios told_blocks len bs) (sym (group-width s.adapter s.pool m.size ios g fit))
           (subst (λ (x : Site). AllSized (record m { site = x }) s.adapter ios told_blocks (width_for s.adapter m.size) bs) (sym site_is) all)
 
