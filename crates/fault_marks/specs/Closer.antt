@@ -18,7 +18,8 @@ use Rattle.script_lines.specs.declared.line.ScriptLine.TheVariants.{Inner, Linea
 use Rattle.script_lines.specs.declared.verb.ScriptVersion.{ScriptVersion}
 use Rattle.script_lines.specs.declared.verb.ScriptVersion.TheVariants.{One, Two, Three}
 use Rattle.script_lines.specs.declared.verb.Verb.{Verb}
-use Rattle.script_text.specs.Bindings.{is_at_medium, names_block, request_at, request_of, shifts}
+use Rattle.script_text.specs.Bindings.{is_at_medium, is_misplaced, names_block, request_at, request_of, shifts}
+use Rattle.script_text.specs.Crossings.{is_read}
 use Rattle.script_text.specs.Language.{is_comment, script_in}
 use Rattle.script_text.specs.Segments.{are_whole_tuples, is_inside}
 use Rattle.script_text.specs.declared.TheConstants.{MOST_LEGS, MOST_OPS}
@@ -32,7 +33,7 @@ use Rattle.volume_table.specs.declared.entry.Entry.{Entry}
 use Rattle.fault_marks.specs.Words.{line_at, text_behind}
 use Rattle.fault_marks.specs.declared.closer.Closer.{Closer}
 use Rattle.fault_marks.specs.declared.detail.Detail.{Detail}
-use Rattle.fault_marks.specs.declared.detail.Detail.TheVariants.{Plain, PastFrame, NoChange, NoShift, NoRequest, NoBlock, ShiftStored, ShiftTwice, ShiftAway, NoWrite, KeptWhole, KeptTwice, NoStored, NoBytes, NoPage, PastPage, LongShow, OtherTotal, Scattered, NoWholeTuple, BadCount, OverLegs, PastVolume, NoTuples, NoBegin, NewLine, ThirdLine, LongText, ManyInner, ManyEntries, ManyLegs, ManyFaults, ManySteps, ManyOps, ManyBlocks, ManySegments}
+use Rattle.fault_marks.specs.declared.detail.Detail.TheVariants.{Plain, PastFrame, NoChange, NoShift, NoRequest, NoBlock, ShiftStored, ShiftTwice, ShiftAway, NoWrite, KeptWhole, NamedTwice, NoStored, NoBytes, NoPage, PastPage, LongShow, OtherTotal, Scattered, NoWholeTuple, BadCount, OverLegs, PastVolume, NoTuples, NoBegin, NewLine, ThirdLine, LongText, ManyInner, ManyEntries, ManyLegs, ManyFaults, ManySteps, ManyOps, ManyBlocks, ManySegments}
 
 -- Which of the causes of its kind a fault has, and at which word of its line, counted from 0.
 
@@ -245,26 +246,26 @@ order_closer text (Some line) = early_closer text (line_version (words_of line))
 
 -- ---- a fault of a script over its volume
 
-abbrev pub shift_closer : (earlier : List FaultLine) → FaultLine → Closer
-shift_closer earlier f = if is_at_medium f.at then at_word ShiftStored 2 else (if list_any (shifts f.op) earlier then at_word ShiftTwice 1 else at_word ShiftAway 3)
+abbrev pub shift_closer : (earlier : List FaultLine) → FaultLine → (reads : Bool) → Closer
+shift_closer earlier f reads = if is_misplaced reads f.at then at_word ShiftStored 2 else (if list_any (shifts f.op) earlier then at_word ShiftTwice 1 else at_word ShiftAway 3)
 
 -- a block that is lost or torn, of a script of blocks of this size: what isn't the op or an earlier line is LEN, on a unit without tuples
 abbrev pub keep_closer : (size : ℕ) → (earlier : List FaultLine) → FaultLine → Closer
-keep_closer size earlier f = if not (is_at_medium f.at) then at_word NoWrite 1 else (if list_any (names_block f.op f.k) earlier then at_word KeptTwice 2 else at_word (KeptWhole size) 3)
+keep_closer size earlier f = if not (is_at_medium f.at) then at_word NoWrite 1 else (if list_any (names_block f.op f.k) earlier then at_word NamedTwice 2 else at_word (KeptWhole size) 3)
 
-abbrev pub kind_closer : (size : ℕ) → (earlier : List FaultLine) → FaultLine → FaultKind → Closer
-kind_closer size earlier f (FlipKind off bytes) = plain
-kind_closer size earlier f (ShiftKind by) = shift_closer earlier f
-kind_closer size earlier f (KeepKind bytes) = keep_closer size earlier f
-kind_closer size earlier f FailKind = at_word KeptTwice 2
+abbrev pub kind_closer : (size : ℕ) → (earlier : List FaultLine) → FaultLine → (reads : Bool) → FaultKind → Closer
+kind_closer size earlier f reads (FlipKind off bytes) = plain
+kind_closer size earlier f reads (ShiftKind by) = shift_closer earlier f reads
+kind_closer size earlier f reads (KeepKind bytes) = keep_closer size earlier f
+kind_closer size earlier f reads FailKind = at_word NamedTwice 2
 
-abbrev pub request_closer : (size : ℕ) → (earlier : List FaultLine) → FaultLine → Option (ℕ × ℕ) → Closer
-request_closer size earlier f None = at_word NoRequest 1
-request_closer size earlier f (Some request) = if nat_le request.1 f.k then at_word (NoBlock request.1) 2 else kind_closer size earlier f f.kind
+abbrev pub request_closer : (size : ℕ) → (earlier : List FaultLine) → FaultLine → (reads : Bool) → Option (ℕ × ℕ) → Closer
+request_closer size earlier f reads None = at_word NoRequest 1
+request_closer size earlier f reads (Some request) = if nat_le request.1 f.k then at_word (NoBlock request.1) 2 else kind_closer size earlier f reads f.kind
 
 abbrev pub bound_fault : Script → (i : ℕ) → Option FaultLine → Closer
 bound_fault script i None = plain
-bound_fault script i (Some f) = request_closer script.block (take i script.faults) f (request_at script.ops f.op)
+bound_fault script i (Some f) = request_closer script.block (take i script.faults) f (is_read script.ops f.op) (request_at script.ops f.op)
 
 -- a number that may be above all numbers of 64 bits, which is then told as the highest of them
 abbrev pub told_number : ℕ → ℕ

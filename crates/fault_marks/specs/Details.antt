@@ -2,7 +2,7 @@ use Rattle.std.specs.Prelude.{ℕ, List, [], ◌++◌, codes, decimal}
 use Rattle.script_lines.specs.declared.kind.ScriptKind.{ScriptKind}
 use Rattle.fault_marks.specs.Sentences.{sentence}
 use Rattle.fault_marks.specs.declared.detail.Detail.{Detail}
-use Rattle.fault_marks.specs.declared.detail.Detail.TheVariants.{Plain, PastFrame, NoChange, NoShift, NoRequest, NoBlock, ShiftStored, ShiftTwice, ShiftAway, NoWrite, KeptWhole, KeptTwice, NoStored, NoBytes, NoPage, PastPage, LongShow, OtherTotal, Scattered, NoWholeTuple, BadCount, OverLegs, PastVolume, NoTuples, NoBegin, NewLine, ThirdLine, LongText, ManyInner, ManyEntries, ManyLegs, ManyFaults, ManySteps, ManyOps, ManyBlocks, ManySegments}
+use Rattle.fault_marks.specs.declared.detail.Detail.TheVariants.{Plain, PastFrame, NoChange, NoShift, NoRequest, NoBlock, ShiftStored, ShiftTwice, ShiftAway, NoWrite, KeptWhole, NamedTwice, NoStored, NoBytes, NoPage, PastPage, LongShow, OtherTotal, Scattered, NoWholeTuple, BadCount, OverLegs, PastVolume, NoTuples, NoBegin, NewLine, ThirdLine, LongText, ManyInner, ManyEntries, ManyLegs, ManyFaults, ManySteps, ManyOps, ManyBlocks, ManySegments}
 
 -- What is wrong, in a sentence with its numbers.
 
@@ -32,7 +32,7 @@ front_text kind ShiftTwice = codes "an earlier line shifts this op"
 front_text kind ShiftAway = codes "a shift needs units of type 1, and may move no block off its unit"
 front_text kind NoWrite = codes "the medium loses or tears what an op writes, and this op does not write"
 front_text kind (KeptWhole stored) = codes "LEN is less than what the unit stores of a block, which is "
-front_text kind KeptTwice = codes "an earlier line loses, tears or fails this block"
+front_text kind NamedTwice = codes "an earlier line loses, tears or fails this block"
 front_text kind NoStored = codes "the image has no such block, or of another type or size than the volume"
 front_text kind NoBytes = codes "a segment has at least one byte"
 front_text kind (NoPage pages) = codes "pages are numbered from 0, and the script has "

@@ -10,7 +10,7 @@ ghost use Rattle.fault_marks.specs.Closer.{bound_closer, bound_fault, bound_line
 use crate::closer::{Closer, at_word, plain};
 use crate::detail::Detail;
 use fault_schedule::{Crossing, FaultKind, FaultLine};
-use script_text::{Script, ScriptKind, is_named, is_shifted, request_at};
+use script_text::{Script, ScriptKind, is_misplaced, is_named, is_read, is_shifted, request_at};
 use stack_ops::Op;
 use volume_table::Entry;
 
@@ -24,10 +24,10 @@ fn is_at_medium(at: Crossing) -> bool
 }
 
 /// A shift behind these lines.
-fn shift_closer(earlier: &[FaultLine], line: &FaultLine) -> Closer
-    ensures { result ≡ shift_closer earlier.now line.now }
+fn shift_closer(earlier: &[FaultLine], line: &FaultLine, reads: bool) -> Closer
+    ensures { result ≡ shift_closer earlier.now line.now reads }
 {
-    if is_at_medium(line.at) {
+    if is_misplaced(reads, line.at) {
         return at_word(Detail::ShiftStored, 2);
     }
     if is_shifted(earlier, line.op) {
@@ -44,21 +44,21 @@ fn keep_closer(size: u32, earlier: &[FaultLine], line: &FaultLine) -> Closer
         return at_word(Detail::NoWrite, 1);
     }
     if is_named(earlier, line.op, line.k) {
-        return at_word(Detail::KeptTwice, 2);
+        return at_word(Detail::NamedTwice, 2);
     }
     let stored = u64::from(size);
     at_word(Detail::KeptWhole { stored }, 3)
 }
 
 /// A line behind these whose request has the block.
-fn kind_closer(size: u32, earlier: &[FaultLine], line: &FaultLine) -> Closer
-    ensures { result ≡ kind_closer size earlier.now line.now line.now.kind }
+fn kind_closer(size: u32, earlier: &[FaultLine], line: &FaultLine, reads: bool) -> Closer
+    ensures { result ≡ kind_closer size earlier.now line.now reads line.now.kind }
 {
     match line.kind {
         FaultKind::Flip { .. } => plain(),
-        FaultKind::Shift { .. } => shift_closer(earlier, line),
+        FaultKind::Shift { .. } => shift_closer(earlier, line, reads),
         FaultKind::Keep { .. } => keep_closer(size, earlier, line),
-        FaultKind::Fail => at_word(Detail::KeptTwice, 2),
+        FaultKind::Fail => at_word(Detail::NamedTwice, 2),
     }
 }
 
@@ -67,9 +67,10 @@ fn request_closer(
     size: u32,
     earlier: &[FaultLine],
     line: &FaultLine,
+    reads: bool,
     request: Option<(u64, u32)>,
 ) -> Closer
-    ensures { result ≡ request_closer size earlier.now line.now request }
+    ensures { result ≡ request_closer size earlier.now line.now reads request }
 {
     match request {
         None => at_word(Detail::NoRequest, 1),
@@ -77,7 +78,7 @@ fn request_closer(
             if blocks <= line.k {
                 return at_word(Detail::NoBlock { blocks }, 2);
             }
-            kind_closer(size, earlier, line)
+            kind_closer(size, earlier, line, reads)
         }
     }
 }
@@ -93,6 +94,7 @@ fn bound_fault(script: &Script, i: usize) -> Closer
             script.block,
             &faults[..i],
             line,
+            is_read(script.ops.as_slice(), line.op),
             request_at(script.ops.as_slice(), line.op),
         ),
     }

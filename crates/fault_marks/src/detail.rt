@@ -33,8 +33,8 @@ pub(crate) enum Detail {
     NoWrite,
     /// A line that tears no less than all that is stored of a block.
     KeptWhole { stored: u64 },
-    /// A block that an earlier line loses or tears.
-    KeptTwice,
+    /// A block that an earlier line loses, tears or fails.
+    NamedTwice,
     /// An overwrite of a block that isn't there, or doesn't fit the volume.
     NoStored,
     /// A segment without bytes.
@@ -120,7 +120,7 @@ fn front_text(kind: ScriptKind, detail: Detail) -> &'static [u8]
         Detail::NoWrite =>
             b"the medium loses or tears what an op writes, and this op does not write",
         Detail::KeptWhole { .. } => b"LEN is less than what the unit stores of a block, which is ",
-        Detail::KeptTwice => b"an earlier line loses, tears or fails this block",
+        Detail::NamedTwice => b"an earlier line loses, tears or fails this block",
         Detail::NoStored =>
             b"the image has no such block, or of another type or size than the volume",
         Detail::NoBytes => b"a segment has at least one byte",

@@ -1,6 +1,7 @@
 -- A script with a flip as its one fault keeps the rules of its language.
 use Rattle.std.proofs.Common.{◌≡◌, ◌⊎◌, inl, inr, ℕ, ◌+◌, ◌<◌, ◌≤◌, Bool, true, false, eqb, List, [], ◌∷◌, length, Option, None, refl, ap, arith}
 use Rattle.std.specs.Prelude.{◌&&◌, nat_lt}
+use Rattle.std.specs.List.{list_any}
 use Rattle.std.proofs.lemmas.Bool.{le-ltb, ne_eqb, or_from}
 use Rattle.fault_schedule.specs.declared.fault.FaultKind.TheVariants.{Flip}
 use Rattle.fault_schedule.specs.declared.fault.FaultLine.{FaultLine}
@@ -8,6 +9,7 @@ use Rattle.script_laws.specs.Keeping.{IsFault, IsFlip}
 use Rattle.script_laws.proofs.Words.{bytes_one}
 use Rattle.script_lines.specs.declared.line.Spot.{Spot}
 use Rattle.script_lines.specs.declared.line.Spot.TheVariants.{Host, Wire, Medium}
+use Rattle.script_text.specs.Bindings.{is_third_line}
 use Rattle.script_text.specs.Crossings.{crossing_of, is_read, spot_of}
 use Rattle.script_text.specs.Rules.{is_bad_flip}
 use Rattle.script_text.specs.declared.fault.ScriptFault.{ScriptFault}
@@ -32,8 +34,8 @@ good_flip size off byte o b = or_from (nat_lt (size + 8) (off + 1)) (eqb byte 0 
 is_flip : (size off byte : ℕ) → off < size + 8 → 1 ≤ byte → byte < 256 → IsFlip size off (byte ∷ [])
 is_flip size off byte o b h = record { off_fits = omega (arith, o); are_bytes = bytes_one byte h; count = omega arith; good = good_flip size off byte o b }
 
-is_fault : (size : ℕ) (ops : List Op) (at : Site) (off byte : ℕ) → IsSite at → off < size + 8 → 1 ≤ byte → byte < 256 → IsFault size ops (flip_at ops at off byte)
-is_fault size ops at off byte s o b h = record {
+is_fault : (third : Bool) (size : ℕ) (ops : List Op) (at : Site) (off byte : ℕ) → IsSite at → off < size + 8 → 1 ≤ byte → byte < 256 → IsFault third size ops (flip_at ops at off byte)
+is_fault third size ops at off byte s o b h = record {
   op_is = record { low_is = s.op_low; high_is = s.op_high };
   k_is = s.block;
   crossing = lies_there at.spot off (byte ∷ []) (is_read ops at.op);
@@ -60,7 +62,7 @@ still_sound s at off byte sound own h o b e =
         block_is = k.block_is;
         entries_are = k.entries_are;
         entries_count = k.entries_count;
-        faults_are = (is_fault s.block s.ops at off byte h o b e, tt);
+        faults_are = (is_fault (list_any is_third_line (flip_at s.ops at off byte ∷ [])) s.block s.ops at off byte h o b e, tt);
         faults_count = omega arith;
         choices_are = k.choices_are;
         choices_count = k.choices_count;

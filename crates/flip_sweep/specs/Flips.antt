@@ -50,7 +50,7 @@ AreSites (at ∷ sites) = IsSite at × AreSites sites
 
 -- the line that flips the bits of this byte in byte `off` of the frame that crosses there
 abbrev pub flip_at : List Op → Site → (off byte : ℕ) → FaultLine
-flip_at ops at off byte = crossed ops (record { op = at.op; k = at.k; spot = at.spot; kind = Flip off (byte ∷ []) })
+flip_at ops at off byte = crossed true ops (record { op = at.op; k = at.k; spot = at.spot; kind = Flip off (byte ∷ []) })
 
 -- the script with these faults, whose lines have these numbers before those of the ops
 abbrev pub with_faults : Script → List FaultLine → (lines : List ℕ) → Script

@@ -8,7 +8,7 @@ use Rattle.page_pool.specs.Cells.{flat}
 use Rattle.pi_tuple.specs.declared.checks.Check.{Check}
 use Rattle.fault_schedule.specs.Altered.{fails_of, shift_of}
 use Rattle.fault_schedule.specs.declared.fault.Crossing.{Crossing}
-use Rattle.fault_schedule.specs.declared.fault.Crossing.TheVariants.{AdapterToTarget, MediumToTarget}
+use Rattle.fault_schedule.specs.declared.fault.Crossing.TheVariants.{AdapterToTarget, MediumToTarget, TargetToMedium}
 use Rattle.fault_schedule.specs.declared.fault.FaultLine.{FaultLine}
 use Rattle.bio_core.specs.Bios.{Block}
 use Rattle.bio_core.specs.declared.request.Io.{Io}
@@ -36,7 +36,7 @@ one_taken faults r (Ok carried) ws fs served good h rest =
 one_taken faults r (Err check) ws fs served good h rest = never (sym good)
 
 module _ (a : Adapter) (ios : List Io) (cells : List ℕ) (faults : a.tamper ≡ []) (free : a.dix ≡ false → a.mask ≡ 0) where
-  all_taken : (dev bytes at : ℕ) (bs : List Block) → Run a ios dev bytes (pos 0) (pos 0) at bs → any_bad (map (sends a ios cells) bs) ≡ false → frames_out (ways_out a ios cells bs) ≡ map frame_sent (map (sends a ios cells) bs)
+  all_taken : (dev bytes at : ℕ) (bs : List Block) → Run a ios dev bytes (pos 0) (pos 0) (pos 0) at bs → any_bad (map (sends a ios cells) bs) ≡ false → frames_out (ways_out a ios cells bs) ≡ map frame_sent (map (sends a ios cells) bs)
   all_taken dev bytes at [] run good = refl
   all_taken dev bytes at (b ∷ bs) run good =
       let r = route_of a ios b in
@@ -52,8 +52,8 @@ unshifted faults at op none = ap (λ ts. shift_of ts at op) none
 pub command_passes : CommandPasses
 command_passes a ios req pool bytes us fates old new none free group good w =
     let frames = map frame_sent (map (sends a ios (flat pool)) (blocks_in req)) in
-    let still : All (λ b. (shift_of a.tamper AdapterToTarget b.op ≡ pos 0) × (shift_of a.tamper MediumToTarget b.op ≡ pos 0)) req =
-    λ i d l. (unshifted a.tamper AdapterToTarget (get_or req i d).op none, unshifted a.tamper MediumToTarget (get_or req i d).op none) in
-    let all = all_taken a ios (flat pool) none free (first_of req).dev bytes (first_of req).lba (blocks_in req) (group-run a pool bytes ios req (pos 0) (pos 0) group still) good in
+    let still : All (λ b. (shift_of a.tamper AdapterToTarget b.op ≡ pos 0) × (shift_of a.tamper MediumToTarget b.op ≡ pos 0) × (shift_of a.tamper TargetToMedium b.op ≡ pos 0)) req =
+    λ i d l. (unshifted a.tamper AdapterToTarget (get_or req i d).op none, unshifted a.tamper MediumToTarget (get_or req i d).op none, unshifted a.tamper TargetToMedium (get_or req i d).op none) in
+    let all = all_taken a ios (flat pool) none free (first_of req).dev bytes (first_of req).lba (blocks_in req) (group-run a pool bytes ios req (pos 0) (pos 0) (pos 0) group still) good in
     let many : length frames ≡ size req = length-map (map (sends a ios (flat pool)) (blocks_in req)) frame_sent ∙ length-map (blocks_in req) (sends a ios (flat pool)) ∙ length-in req in
     (w.done ∙ ap length all ∙ many, w.moved ∙ ap joined all)

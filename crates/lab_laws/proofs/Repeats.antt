@@ -13,7 +13,7 @@ use Rattle.rig_api.specs.Requests.{request_of}
 use Rattle.rig_api.specs.declared.passage.Passage.{Passage}
 use Rattle.rig_api.specs.declared.request.Request.{Request}
 use Rattle.rig_api.specs.declared.request.Request.TheVariants.{Read, ReadCapacity, Verify, Write}
-use Rattle.rig_api.specs.Target.{Answer, Flaw, Stored, answer_unless, carried_out, each, fails_under, medium_address, off_medium, onto_medium, passage, read_end, refusal, refusals_of, sending, sent_unless, shape_of, stored_from, stored_unless, storing, target_answer, wire_address, write_end, written_by, first_of}
+use Rattle.rig_api.specs.Target.{Answer, Flaw, Stored, answer_unless, carried_out, each, fails_under, medium_address, off_medium, onto_medium, passage, read_end, refusal, refusals_of, sending, sent_unless, shape_of, stored_address, stored_from, stored_unless, storing, target_answer, wire_address, write_end, written_by, first_of}
 use Rattle.rig_api.proofs.KeptLaws.{no-lines-keep}
 use Rattle.rig_api.specs.Log.{LogEntry, moved_of}
 use Rattle.rig_api.specs.Telling.{Standing, at_front, spec_at, unit_at, with_blocks}
@@ -63,8 +63,9 @@ module _ (unit : Stored) (label : Label) (labels : List Label) (out : List ℕ) 
   carries (Write c) =
       let lba = nat_abs (wire_address [] [] c) in
       let frames = frames_of (sent_size c.protect unit.size) c.n out in
-      let olds = stored_from unit lba c.n in
-      ap (λ judged. storing (lba - unit.first) unit.blocks (write_end lba judged None))
+      let to = nat_abs (stored_address [] [] c) in
+      let olds = stored_from unit to c.n in
+      ap (λ judged. storing (to - unit.first) unit.blocks (write_end lba judged None))
       (no-lines-keep (label ∷ labels) 0 olds (written_by (shape_of unit) c lba [] (label ∷ labels) out)
       ∙ each_alike (λ k frame. onto_medium [] (passage (shape_of unit) c lba (label ∷ labels) k) frame) (λ k frame. onto_medium [] (passage (shape_of unit) c lba [] k) frame)
       (λ k frame. onto_alike (passage (shape_of unit) c lba [] k) (slice_get (label ∷ labels) k) frame ∙ sym (onto_alike (passage (shape_of unit) c lba [] k) (slice_get [] k) frame)) 0 frames

@@ -25,7 +25,7 @@ use Rattle.walk_laws.specs.Settings.{Block, Setting, route}
 use Rattle.walk_laws.specs.Steps.{Alters, Reads, Seals, Sets, Shows, Step, Writes, WritesPi}
 use Rattle.walk_laws.specs.UnderMap.{SuppliesNoEscape, home}
 use Rattle.walk_laws.proofs.TupleFrames.{Small, below_append, below_drop, below_gather, below_replicate, below_scatter, below_take, four_below, tuple_below, tuple_is}
-use Rattle.run_laws.proofs.Along.{set_cases}
+use Rattle.run_laws.proofs.Counted.{set_cases}
 use Rattle.run_premises.proofs.Ways.{OfBytes, comes_bytes}
 use Rattle.lab_laws.proofs.Flipped.{Whole}
 use Rattle.lab_laws.proofs.Ways.{fetched_home, in_by, out_by, out_of, stored_home, target_finds}

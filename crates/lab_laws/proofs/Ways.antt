@@ -64,7 +64,9 @@ module _ (m' : Setting) (lines : List FaultLine) (unshifted : (at : Crossing) (o
       ap (moved w) (unshifted MediumToTarget b.op) ∙ unmoved bare w (pos 0) refl ∙ wire_is b
 
   pub stored_home : (b : Block) → stored_cell m.site (route m b) ≡ home m b.virt
-  stored_home b = ap (m'.site.cell (route m b).dev) (wire_is b)
+  stored_home b =
+      let w : ℕ = wire_lba lines (route m b) in
+      ap (m'.site.cell (route m b).dev) (ap (moved w) (unshifted TargetToMedium b.op) ∙ unmoved bare w (pos 0) refl ∙ wire_is b)
 
   pub fetched_home : (b : Block) → fetched_cell m.site (route m b) ≡ home m b.virt
   fetched_home b = ap (m'.site.cell (route m b).dev) (medium_is b)

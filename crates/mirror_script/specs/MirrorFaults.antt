@@ -14,7 +14,8 @@ use Rattle.script_lines.specs.declared.kind.ScriptKind.{ScriptKind}
 use Rattle.script_lines.specs.declared.kind.ScriptKind.TheVariants.{BadFault, BadRange, NoIntegrity, OutOfPlace}
 use Rattle.script_text.specs.declared.fault.ScriptFault.{ScriptFault}
 use Rattle.script_text.specs.declared.script.Script.{Script}
-use Rattle.script_text.specs.Bindings.{at_line, is_alterable, is_bad_change, is_bad_fail, is_bad_keep, or_else, request_at, stored_bytes}
+use Rattle.script_text.specs.Bindings.{at_line, is_alterable, is_bad_change, is_bad_fail, is_bad_keep, or_else, request_at}
+use Rattle.rig_api.specs.Frames.{stored_size}
 
 -- What a script may not do on a mirror: a volume of two legs of equal length.
 
@@ -81,4 +82,4 @@ abbrev pub mirror_fault : Script → Table → List DeviceInfo → Option Script
 mirror_fault s t devices =
     or_else (mode_fault s.mode t.ty)
     (or_else (length_fault (volume_len t.entries))
-    (or_else (faults_fault s.mode.protect (stored_bytes t.ty s.block) s.ops [] s.faults s.lines) (ops_fault s.mode.protect t devices s.block s.ops (drop (length s.faults) s.lines))))
+    (or_else (faults_fault s.mode.protect (stored_size t.ty s.block) s.ops [] s.faults s.lines) (ops_fault s.mode.protect t devices s.block s.ops (drop (length s.faults) s.lines))))

@@ -7,9 +7,10 @@ ghost use Rattle.volume_table.specs.Places.{volume_len};
 use block_path::Mode;
 use fault_schedule::{FaultKind, FaultLine};
 use pi_tuple::PiType;
+use rig_api::stored_size;
 use script_text::{
     Against, Script, ScriptFault, ScriptKind, can_alter, is_bad_change, is_bad_fail, is_bad_keep,
-    request_at, stored_bytes,
+    request_at,
 };
 use stack_ops::Op;
 use volume_table::{DeviceInfo, VolumeTable};
@@ -51,7 +52,7 @@ fn is_past(k: u32, request: Option<(u64, u32)>) -> bool
 }
 
 /// Whether a line behind these can't be of its kind, where so many bytes are stored of a block.
-fn is_bad_kind(stored: u64, earlier: &[FaultLine], line: &FaultLine) -> bool
+fn is_bad_kind(stored: usize, earlier: &[FaultLine], line: &FaultLine) -> bool
     ensures { result ≡ is_bad_kind stored earlier.now line.now line.now.kind }
 {
     match line.kind {
@@ -65,7 +66,7 @@ fn is_bad_kind(stored: u64, earlier: &[FaultLine], line: &FaultLine) -> bool
 /// Whether a fault line behind these can't be.
 fn is_bad_line(
     protect: u8,
-    stored: u64,
+    stored: usize,
     ops: &[Op],
     earlier: &[FaultLine],
     line: &FaultLine,
@@ -76,7 +77,7 @@ fn is_bad_line(
 }
 
 /// The first fault line that can't be, where so many bytes are stored of a block.
-fn faults_fault(script: &Script, stored: u64) -> Option<ScriptFault>
+fn faults_fault(script: &Script, stored: usize) -> Option<ScriptFault>
     requires lines { length script.now.faults ≤ length script.now.lines }
     ensures { result ≡ faults_fault script.now.mode.protect stored script.now.ops [] script.now.faults script.now.lines }
 {
@@ -166,7 +167,7 @@ pub fn bind_mirror(
     if let Some(fault) = length_fault(table.len()) {
         return Err(fault);
     }
-    if let Some(fault) = faults_fault(script, stored_bytes(table.ty(), script.block)) {
+    if let Some(fault) = faults_fault(script, stored_size(table.ty(), script.block)) {
         return Err(fault);
     }
     match ops_fault(against, script) {

@@ -15,7 +15,8 @@ use Rattle.script_lines.specs.declared.verb.Section.{Section}
 use Rattle.script_lines.specs.declared.verb.Section.TheVariants.{Dix as AtDix, Mode as AtMode, Limits as AtLimits, Pages as AtPages, Block as AtBlock, Expect as AtExpect}
 use Rattle.std.specs.List.{list_any}
 use Rattle.script_lines.specs.Verbs.{is_new}
-use Rattle.script_text.specs.Bindings.{is_of_medium_line}
+use Rattle.script_text.specs.Bindings.{is_third_line}
+use Rattle.script_text.specs.Crossings.{is_third}
 use Rattle.script_text.specs.Drafts.{Drafted}
 use Rattle.script_text.specs.declared.script.Script.{Script}
 use Rattle.script_text.specs.Language.{is_behind, nothing_read, taken}
@@ -135,7 +136,7 @@ pub record Fronted (s : Script) (rest : List ℕ) : Type 0 where
   pub number : ℕ
   pub expect : ℕ
   pub version : ScriptVersion
-  pub version_is : list_any is_of_medium_line s.faults ≡ true → version ≡ Three
+  pub version_is : is_third version ≡ list_any is_third_line s.faults
   pub section : Section
   pub step : Step 1 (front_text s ++ rest) nothing_read number rest (fronted s expect version section)
   pub volume : is_behind version LinearVerb (Some section) ≡ true
@@ -155,8 +156,13 @@ parts_false true true h = (refl, refl)
 parts_false true false h = absurd (cc)
 parts_false false b h = absurd (cc)
 
-third : (s : Script) (b : ScriptVersion) → version_for s.faults s.block s.mode.mask ≡ b → list_any is_of_medium_line s.faults ≡ true → b ≡ Three
-third s b v h = sym v ∙ ap (λ t. if t then Three else (if is_past_one s.block s.mode.mask then Two else One)) h
+third_by : (any past : Bool) → is_third (if any then Three else (if past then Two else One)) ≡ any
+third_by true past = refl
+third_by false true = refl
+third_by false false = refl
+
+third : (s : Script) (b : ScriptVersion) → version_for s.faults s.block s.mode.mask ≡ b → is_third b ≡ list_any is_third_line s.faults
+third s b v = sym (ap is_third v) ∙ third_by (list_any is_third_line s.faults) (is_past_one s.block s.mode.mask)
 
 -- a script of version 1 says nothing that only a later one can
 one_says : (keeps past : Bool) → (if keeps then Three else (if past then Two else One)) ≡ One → past ≡ false
@@ -213,7 +219,7 @@ by_version : (v : ScriptVersion) (s : Script) (rest : List ℕ) → version_for 
 by_version Three s rest v m l p k = by_mask (eqb s.mode.mask 0) Three s rest refl m l p k v refl
 by_version Two s rest v m l p k = by_mask (eqb s.mode.mask 0) Two s rest refl m l p k v refl
 by_version One s rest v m l p k =
-    let old = parts_false (eqb s.block 512) (eqb s.mode.mask 0) (one_says (list_any is_of_medium_line s.faults) (is_past_one s.block s.mode.mask) v) in
+    let old = parts_false (eqb s.block 512) (eqb s.mode.mask 0) (one_says (list_any is_third_line s.faults) (is_past_one s.block s.mode.mask) v) in
     let size = eqb-true s.block 512 old.0 in
     let none = eqb-true s.mode.mask 0 old.1 in
     let app = m.unmasked none in

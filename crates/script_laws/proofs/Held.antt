@@ -4,6 +4,8 @@ use Rattle.std.specs.Prelude.{if◌then◌else◌, unwrap_or, is_some}
 use Rattle.std.proofs.lemmas.Bool.Decides.{nat_tests}
 use Rattle.std.proofs.lemmas.Bool.{eqb-true}
 use Rattle.hex.specs.Hex.{IsBytes}
+use Rattle.fault_schedule.specs.declared.fault.Crossing.{Crossing}
+use Rattle.fault_schedule.specs.declared.fault.Crossing.TheVariants.{HostToAdapter, AdapterToTarget, TargetToMedium, MediumToTarget, TargetToAdapter, AdapterToHost}
 use Rattle.fault_schedule.specs.declared.fault.FaultKind.{FaultKind}
 use Rattle.fault_schedule.specs.declared.fault.FaultKind.TheVariants.{Flip as FlipKind, Shift as ShiftKind, Keep as KeepKind, Fail as FailKind}
 use Rattle.script_lines.specs.Passed.{Limits}
@@ -20,7 +22,8 @@ use Rattle.script_lines.specs.declared.line.Spot.TheVariants.{Host, Wire, Medium
 use Rattle.script_lines.specs.declared.verb.Section.{Section}
 use Rattle.script_lines.specs.declared.verb.Section.TheVariants.{Dix as AtDix, Mode as AtMode, Limits as AtLimits, Pages as AtPages, Block as AtBlock, Expect as AtExpect, Inner as AtInner, Volume as AtVolume, Fault as AtFault, Schedule as AtSchedule, Begin as AtBegin, Op as AtOp}
 use Rattle.script_lines.specs.Verbs.{comes_before, section_number}
-use Rattle.script_text.specs.Crossings.{Raw, crossed, crossing_of, is_read, spot_of}
+use Rattle.script_text.specs.Bindings.{is_of_medium}
+use Rattle.script_text.specs.Crossings.{Raw, crossed, crossing_in, crossing_of, is_read, is_third, shifted_at, spot_of}
 use Rattle.script_text.specs.Drafts.{Drafted}
 use Rattle.script_text.specs.Language.{nothing_read}
 use Rattle.script_text.specs.Ops.{both_fault, data_fault, op_in, unless, where_inside}
@@ -42,11 +45,13 @@ pub record HoldsFront (mode : Moded) (app mask : ℕ) (limits : Limits) (pages b
   pub pages_are : IsWithin 1 256 pages
   pub block_is : (block ≡ 512) ⊎ (block ≡ 4096)
 
-abbrev pub IsRaw : ℕ → Raw → Type 0
-IsRaw size f = (ops : List Op) → IsFault size ops (crossed ops f)
+-- a fault of a line, in a script of version 3 or of an earlier one
+pub record IsRaw (third : Bool) (size : ℕ) (f : Raw) : Type 0 where
+  pub is_fault : (ops : List Op) → IsFault third size ops (crossed third ops f)
+  pub old : third ≡ false → is_of_medium f.kind ≡ false
 
-pub record HoldsFaults (size : ℕ) (faults : List Raw) (lines : List ℕ) : Type 0 where
-  pub each : Each (IsRaw size) faults
+pub record HoldsFaults (third : Bool) (size : ℕ) (faults : List Raw) (lines : List ℕ) : Type 0 where
+  pub each : Each (IsRaw third size) faults
   pub count : length faults ≤ 256
   pub lined : length lines ≡ length faults
 
@@ -73,7 +78,7 @@ pub record Held (d : Drafted) : Type 0 where
   pub inner_count : length d.inner ≤ 32
   pub entries_are : Each IsEntry d.entries
   pub entries_count : length d.entries ≤ 16
-  pub faults_hold : HoldsFaults d.block d.faults d.fault_lines
+  pub faults_hold : HoldsFaults (is_third d.version) d.block d.faults d.fault_lines
   pub choices_are : Each IsChoice d.schedule
   pub choices_count : length d.schedule ≤ 16384
   pub ops_hold : HoldsOps d.mode.dix d.pages d.block d.ops d.blocks d.op_lines
@@ -186,40 +191,63 @@ spot_back Host kind false = refl
 spot_back Wire kind false = refl
 spot_back Medium kind false = refl
 
-pub flip_raw : (size op k : ℕ) (spot : Spot) (off : ℕ) (bytes : List ℕ) → IsWithin 1 1024 op → k ≤ 2047 → IsFlip size off bytes → IsRaw size (record { op = op; k = k; spot = spot; kind = FlipKind off bytes })
-flip_raw size op k spot off bytes o l h ops = record {
-  op_is = o;
-  k_is = l;
-  crossing = ap (λ s. crossing_of s (FlipKind off bytes) (is_read ops op)) (spot_back spot (FlipKind off bytes) (is_read ops op));
-  kind_is = h;
+spot_shifted : (third : Bool) (at : Crossing) → spot_of (shifted_at third at) ≡ spot_of at
+spot_shifted true at = refl
+spot_shifted false HostToAdapter = refl
+spot_shifted false AdapterToTarget = refl
+spot_shifted false TargetToMedium = refl
+spot_shifted false MediumToTarget = refl
+spot_shifted false TargetToAdapter = refl
+spot_shifted false AdapterToHost = refl
+
+pub flip_raw : (third : Bool) (size op k : ℕ) (spot : Spot) (off : ℕ) (bytes : List ℕ) → IsWithin 1 1024 op → k ≤ 2047 → IsFlip size off bytes → IsRaw third size (record { op = op; k = k; spot = spot; kind = FlipKind off bytes })
+flip_raw third size op k spot off bytes o l h = record {
+  is_fault = λ ops. record {
+    op_is = o;
+    k_is = l;
+    crossing = ap (λ s. crossing_of s (FlipKind off bytes) (is_read ops op)) (spot_back spot (FlipKind off bytes) (is_read ops op));
+    kind_is = h;
+  };
+  old = λ e. refl;
 }
 
 some_shift : (by : ℤ) → IsSmall by → is_no_shift by ≡ false → IsShift by
 some_shift (pos n) h s = record { low_is = grind (arith, nat_tests); high_is = h }
 some_shift (negsuc n) h s = h
 
-pub shift_raw : (size op : ℕ) (spot : Spot) (by : ℤ) → IsWithin 1 1024 op → IsShiftSpot spot → IsSmall by → is_no_shift by ≡ false → IsRaw size (record { op = op; k = 0; spot = spot; kind = ShiftKind by })
-shift_raw size op spot by o w h s ops = record {
-  op_is = o;
-  k_is = omega arith;
-  crossing = ap (λ s. crossing_of s (ShiftKind by) (is_read ops op)) (spot_back spot (ShiftKind by) (is_read ops op));
-  kind_is = (refl, subst IsShiftSpot (sym (spot_back spot (ShiftKind by) (is_read ops op))) w, some_shift by h s);
+pub shift_raw : (third : Bool) (size op : ℕ) (spot : Spot) (by : ℤ) → IsWithin 1 1024 op → IsShiftSpot spot → IsSmall by → is_no_shift by ≡ false → IsRaw third size (record { op = op; k = 0; spot = spot; kind = ShiftKind by })
+shift_raw third size op spot by o w h s = record {
+  is_fault = λ ops.
+      let there = spot_shifted third (crossing_of spot (ShiftKind by) (is_read ops op)) ∙ spot_back spot (ShiftKind by) (is_read ops op) in
+      record {
+        op_is = o;
+        k_is = omega arith;
+        crossing = ap (λ s. shifted_at third (crossing_of s (ShiftKind by) (is_read ops op))) there;
+        kind_is = (refl, subst IsShiftSpot (sym there) w, some_shift by h s);
+      };
+  old = λ e. refl;
 }
 
-pub keep_raw : (size op k bytes : ℕ) → IsWithin 1 1024 op → k ≤ 2047 → bytes ≤ size + 7 → IsRaw size (record { op = op; k = k; spot = Medium; kind = KeepKind bytes })
-keep_raw size op k bytes o l h ops = record {
-  op_is = o;
-  k_is = l;
-  crossing = ap (λ s. crossing_of s (KeepKind bytes) (is_read ops op)) (spot_back Medium (KeepKind bytes) (is_read ops op));
-  kind_is = (spot_back Medium (KeepKind bytes) (is_read ops op), h);
+pub keep_raw : (third : Bool) (size op k bytes : ℕ) → third ≡ true → IsWithin 1 1024 op → k ≤ 2047 → bytes ≤ size + 7 → IsRaw third size (record { op = op; k = k; spot = Medium; kind = KeepKind bytes })
+keep_raw third size op k bytes t o l h = record {
+  is_fault = λ ops. record {
+    op_is = o;
+    k_is = l;
+    crossing = ap (λ s. crossing_of s (KeepKind bytes) (is_read ops op)) (spot_back Medium (KeepKind bytes) (is_read ops op));
+    kind_is = (spot_back Medium (KeepKind bytes) (is_read ops op), h);
+  };
+  old = λ e. sym t ∙ e;
 }
 
-pub fail_raw : (size op k : ℕ) → IsWithin 1 1024 op → k ≤ 2047 → IsRaw size (record { op = op; k = k; spot = Medium; kind = FailKind })
-fail_raw size op k o l ops = record {
-  op_is = o;
-  k_is = l;
-  crossing = ap (λ s. crossing_of s FailKind (is_read ops op)) (spot_back Medium FailKind (is_read ops op));
-  kind_is = spot_back Medium FailKind (is_read ops op);
+pub fail_raw : (third : Bool) (size op k : ℕ) → third ≡ true → IsWithin 1 1024 op → k ≤ 2047 → IsRaw third size (record { op = op; k = k; spot = Medium; kind = FailKind })
+fail_raw third size op k t o l = record {
+  is_fault = λ ops. record {
+    op_is = o;
+    k_is = l;
+    crossing = ap (λ s. crossing_of s FailKind (is_read ops op)) (spot_back Medium FailKind (is_read ops op));
+    kind_is = spot_back Medium FailKind (is_read ops op);
+  };
+  old = λ e. sym t ∙ e;
 }
 
 -- an op is that of its line
@@ -331,9 +359,9 @@ ops_more dix pages size ops blocks lines line op n h o few most =
       lined = omega (arith, a, b, c);
     }
 
-pub faults_more : (size : ℕ) (faults : List Raw) (lines : List ℕ) (f : Raw) (n : ℕ) → HoldsFaults size faults lines → IsRaw size f → length faults < 256 → HoldsFaults size (faults ++ (f ∷ [])) (lines ++ (n ∷ []))
-faults_more size faults lines f n h r few =
+pub faults_more : (third : Bool) (size : ℕ) (faults : List Raw) (lines : List ℕ) (f : Raw) (n : ℕ) → HoldsFaults third size faults lines → IsRaw third size f → length faults < 256 → HoldsFaults third size (faults ++ (f ∷ [])) (lines ++ (n ∷ []))
+faults_more third size faults lines f n h r few =
     let a = length_both faults (f ∷ []) in
     let b = length_both lines (n ∷ []) in
     let c = h.lined in
-    record { each = each_snoc (IsRaw size) faults f h.each r; count = omega (arith, a, few); lined = omega (arith, a, b, c) }
+    record { each = each_snoc (IsRaw third size) faults f h.each r; count = omega (arith, a, few); lined = omega (arith, a, b, c) }

@@ -9,9 +9,13 @@ use Rattle.script_lines.specs.declared.line.ScriptLine.TheVariants.{Begin as Beg
 use Rattle.script_lines.specs.declared.line.OpLine.{OpLine}
 use Rattle.script_lines.specs.declared.verb.Verb.TheVariants.{Mode as ModeVerb, Limits as LimitsVerb, Pages as PagesVerb, Block as BlockVerb, Expect as ExpectVerb, Inner as InnerVerb, Linear as LinearVerb, Stripe as StripeVerb, Over as OverVerb, Fault as FaultVerb, Shift as ShiftVerb, Lose as LoseVerb, Tear as TearVerb, Fail as FailVerb, Schedule as ScheduleVerb, Begin as BeginVerb}
 use Rattle.script_lines.specs.declared.verb.Section.TheVariants.{Mode as AtMode, Limits as AtLimits, Pages as AtPages, Block as AtBlock, Expect as AtExpect, Inner as AtInner, Volume as AtVolume, Fault as AtFault, Schedule as AtSchedule, Begin as AtBegin, Op as AtOp}
+use Rattle.script_lines.specs.declared.verb.ScriptVersion.{ScriptVersion}
+use Rattle.script_lines.specs.declared.verb.ScriptVersion.TheVariants.{One, Two, Three}
 use Rattle.script_lines.specs.Forms.{as_line, line_form}
+use Rattle.script_lines.specs.Verbs.{has_lines_of}
 use Rattle.volume_table.specs.declared.entry.Entry.{Entry}
 use Rattle.volume_table.specs.declared.entry.Entry.TheVariants.{Linear as LinearEntry, Stripe as StripeEntry}
+use Rattle.script_text.specs.Crossings.{is_third}
 use Rattle.script_text.specs.Drafts.{Drafted}
 use Rattle.script_text.specs.Language.{taken, with_entries, with_op}
 use Rattle.script_text.specs.Ops.{op_in}
@@ -222,12 +226,18 @@ over_kept n words d e h g line f t =
     by true found each some i k = absurd (cc)
     by false found each some i k = subst (λ x. Held (record x { section = Some AtVolume })) (sym (ok_draft (record d { entries = d.entries ++ found }) e k)) (more_entries d found h g each some (ltb-false 16 (length d.entries + length found) i))
 
+-- the lines that version 3 brought are in scripts of that version
+third_has : (version : ScriptVersion) → has_lines_of version Three ≡ true → is_third version ≡ true
+third_has One h = h
+third_has Two h = h
+third_has Three h = refl
+
 pub fault_kept : (n : ℕ) (words : List (List ℕ)) (d e : Drafted) → Held d → Goes (number_of d.section) 8 → (line : ScriptLine) → line_form FaultVerb d.block words ≡ Ok line → Rules d line → taken n line d ≡ Ok e → Held (record e { section = Some AtFault })
 unfolding taken
 fault_kept n words d e h g line f r t =
     let m = fault_gives d.block words line f in
     let few = leb-false 256 (length d.faults) (sym (ap (is_too_many d) m.5) ∙ r.few) in
-    let raw = flip_raw d.block m.0 m.1 m.2 m.3 m.4 m.6 m.7 (record { off_fits = m.8; are_bytes = m.9; count = m.10; good = sym (ap (is_bad_fault d) m.5) ∙ r.good }) in
+    let raw = flip_raw (is_third d.version) d.block m.0 m.1 m.2 m.3 m.4 m.6 m.7 (record { off_fits = m.8; are_bytes = m.9; count = m.10; good = sym (ap (is_bad_fault d) m.5) ∙ r.good }) in
     let same = ok_draft _ e (sym (ap (λ l. taken n l d) m.5) ∙ t) in
     let o = order_on (number_of d.section) 8 d.mask d.entries d.faults d.ops (λ s. absurd (omega (arith, s))) g h.order in
     subst (λ x. Held (record x { section = Some AtFault })) (sym same)
@@ -237,7 +247,7 @@ fault_kept n words d e h g line f r t =
       inner_count = h.inner_count;
       entries_are = h.entries_are;
       entries_count = h.entries_count;
-      faults_hold = faults_more d.block d.faults d.fault_lines _ n h.faults_hold raw few;
+      faults_hold = faults_more (is_third d.version) d.block d.faults d.fault_lines _ n h.faults_hold raw few;
       choices_are = h.choices_are;
       choices_count = h.choices_count;
       ops_hold = h.ops_hold;
@@ -249,7 +259,7 @@ unfolding taken
 shift_kept n words d e h g line f r t =
     let m = shift_gives words line f in
     let few = leb-false 256 (length d.faults) (sym (ap (is_too_many d) m.3) ∙ r.few) in
-    let raw = shift_raw d.block m.0 m.1 m.2 m.4 m.5 m.6 (sym (ap (is_bad_fault d) m.3) ∙ r.good) in
+    let raw = shift_raw (is_third d.version) d.block m.0 m.1 m.2 m.4 m.5 m.6 (sym (ap (is_bad_fault d) m.3) ∙ r.good) in
     let same = ok_draft _ e (sym (ap (λ l. taken n l d) m.3) ∙ t) in
     let o = order_on (number_of d.section) 8 d.mask d.entries d.faults d.ops (λ s. absurd (omega (arith, s))) g h.order in
     subst (λ x. Held (record x { section = Some AtFault })) (sym same)
@@ -259,19 +269,19 @@ shift_kept n words d e h g line f r t =
       inner_count = h.inner_count;
       entries_are = h.entries_are;
       entries_count = h.entries_count;
-      faults_hold = faults_more d.block d.faults d.fault_lines _ n h.faults_hold raw few;
+      faults_hold = faults_more (is_third d.version) d.block d.faults d.fault_lines _ n h.faults_hold raw few;
       choices_are = h.choices_are;
       choices_count = h.choices_count;
       ops_hold = h.ops_hold;
       order = record { before_expect = o.before_expect; no_faults = λ l. absurd (omega (arith, l)); no_ops = λ l. absurd (omega (arith, l)); with_volume = o.with_volume };
     })
 
-pub lose_kept : (n : ℕ) (words : List (List ℕ)) (d e : Drafted) → Held d → Goes (number_of d.section) 8 → (line : ScriptLine) → line_form LoseVerb d.block words ≡ Ok line → Rules d line → taken n line d ≡ Ok e → Held (record e { section = Some AtFault })
+pub lose_kept : (n : ℕ) (words : List (List ℕ)) (d e : Drafted) → Held d → Goes (number_of d.section) 8 → has_lines_of d.version Three ≡ true → (line : ScriptLine) → line_form LoseVerb d.block words ≡ Ok line → Rules d line → taken n line d ≡ Ok e → Held (record e { section = Some AtFault })
 unfolding taken
-lose_kept n words d e h g line f r t =
+lose_kept n words d e h g b line f r t =
     let m = lose_gives words line f in
     let few = leb-false 256 (length d.faults) (sym (ap (is_too_many d) m.2) ∙ r.few) in
-    let raw = keep_raw d.block m.0 m.1 0 m.3 m.4 (omega arith) in
+    let raw = keep_raw (is_third d.version) d.block m.0 m.1 0 (third_has d.version b) m.3 m.4 (omega arith) in
     let same = ok_draft _ e (sym (ap (λ l. taken n l d) m.2) ∙ t) in
     let o = order_on (number_of d.section) 8 d.mask d.entries d.faults d.ops (λ s. absurd (omega (arith, s))) g h.order in
     subst (λ x. Held (record x { section = Some AtFault })) (sym same)
@@ -281,19 +291,19 @@ lose_kept n words d e h g line f r t =
       inner_count = h.inner_count;
       entries_are = h.entries_are;
       entries_count = h.entries_count;
-      faults_hold = faults_more d.block d.faults d.fault_lines _ n h.faults_hold raw few;
+      faults_hold = faults_more (is_third d.version) d.block d.faults d.fault_lines _ n h.faults_hold raw few;
       choices_are = h.choices_are;
       choices_count = h.choices_count;
       ops_hold = h.ops_hold;
       order = record { before_expect = o.before_expect; no_faults = λ l. absurd (omega (arith, l)); no_ops = λ l. absurd (omega (arith, l)); with_volume = o.with_volume };
     })
 
-pub tear_kept : (n : ℕ) (words : List (List ℕ)) (d e : Drafted) → Held d → Goes (number_of d.section) 8 → (line : ScriptLine) → line_form TearVerb d.block words ≡ Ok line → Rules d line → taken n line d ≡ Ok e → Held (record e { section = Some AtFault })
+pub tear_kept : (n : ℕ) (words : List (List ℕ)) (d e : Drafted) → Held d → Goes (number_of d.section) 8 → has_lines_of d.version Three ≡ true → (line : ScriptLine) → line_form TearVerb d.block words ≡ Ok line → Rules d line → taken n line d ≡ Ok e → Held (record e { section = Some AtFault })
 unfolding taken
-tear_kept n words d e h g line f r t =
+tear_kept n words d e h g b line f r t =
     let m = tear_gives d.block words line f in
     let few = leb-false 256 (length d.faults) (sym (ap (is_too_many d) m.3) ∙ r.few) in
-    let raw = keep_raw d.block m.0 m.1 m.2 m.4 m.5 m.6 in
+    let raw = keep_raw (is_third d.version) d.block m.0 m.1 m.2 (third_has d.version b) m.4 m.5 m.6 in
     let same = ok_draft _ e (sym (ap (λ l. taken n l d) m.3) ∙ t) in
     let o = order_on (number_of d.section) 8 d.mask d.entries d.faults d.ops (λ s. absurd (omega (arith, s))) g h.order in
     subst (λ x. Held (record x { section = Some AtFault })) (sym same)
@@ -303,19 +313,19 @@ tear_kept n words d e h g line f r t =
       inner_count = h.inner_count;
       entries_are = h.entries_are;
       entries_count = h.entries_count;
-      faults_hold = faults_more d.block d.faults d.fault_lines _ n h.faults_hold raw few;
+      faults_hold = faults_more (is_third d.version) d.block d.faults d.fault_lines _ n h.faults_hold raw few;
       choices_are = h.choices_are;
       choices_count = h.choices_count;
       ops_hold = h.ops_hold;
       order = record { before_expect = o.before_expect; no_faults = λ l. absurd (omega (arith, l)); no_ops = λ l. absurd (omega (arith, l)); with_volume = o.with_volume };
     })
 
-pub fail_kept : (n : ℕ) (words : List (List ℕ)) (d e : Drafted) → Held d → Goes (number_of d.section) 8 → (line : ScriptLine) → line_form FailVerb d.block words ≡ Ok line → Rules d line → taken n line d ≡ Ok e → Held (record e { section = Some AtFault })
+pub fail_kept : (n : ℕ) (words : List (List ℕ)) (d e : Drafted) → Held d → Goes (number_of d.section) 8 → has_lines_of d.version Three ≡ true → (line : ScriptLine) → line_form FailVerb d.block words ≡ Ok line → Rules d line → taken n line d ≡ Ok e → Held (record e { section = Some AtFault })
 unfolding taken
-fail_kept n words d e h g line f r t =
+fail_kept n words d e h g b line f r t =
     let m = fail_gives words line f in
     let few = leb-false 256 (length d.faults) (sym (ap (is_too_many d) m.2) ∙ r.few) in
-    let raw = fail_raw d.block m.0 m.1 m.3 m.4 in
+    let raw = fail_raw (is_third d.version) d.block m.0 m.1 (third_has d.version b) m.3 m.4 in
     let same = ok_draft _ e (sym (ap (λ l. taken n l d) m.2) ∙ t) in
     let o = order_on (number_of d.section) 8 d.mask d.entries d.faults d.ops (λ s. absurd (omega (arith, s))) g h.order in
     subst (λ x. Held (record x { section = Some AtFault })) (sym same)
@@ -325,7 +335,7 @@ fail_kept n words d e h g line f r t =
       inner_count = h.inner_count;
       entries_are = h.entries_are;
       entries_count = h.entries_count;
-      faults_hold = faults_more d.block d.faults d.fault_lines _ n h.faults_hold raw few;
+      faults_hold = faults_more (is_third d.version) d.block d.faults d.fault_lines _ n h.faults_hold raw few;
       choices_are = h.choices_are;
       choices_count = h.choices_count;
       ops_hold = h.ops_hold;

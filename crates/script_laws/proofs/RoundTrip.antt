@@ -1,5 +1,5 @@
 -- what is printed is read back
-use Rattle.std.proofs.Common.{ℕ, ◌≡◌, ◌⊎◌, inl, inr, ◌+◌, ◌≤◌, true, false, ltb, List, [], ◌∷◌, ◌++◌, length, map, Some, Result, Ok, Err, refl, sym, subst, ap, ◌∙◌, arith, append-nil}
+use Rattle.std.proofs.Common.{ℕ, ◌≡◌, ◌⊎◌, inl, inr, ◌+◌, ◌≤◌, Bool, true, false, ltb, List, [], ◌∷◌, ◌++◌, length, map, Some, Result, Ok, Err, refl, sym, subst, ap, ◌∙◌, arith, append-nil}
 use Rattle.std.specs.Prelude.{MatchResult, codes, if◌then◌else◌}
 use Rattle.std.proofs.lemmas.Bool.Decides.{nat_tests}
 use Rattle.fault_schedule.specs.declared.fault.FaultLine.{FaultLine}
@@ -10,6 +10,8 @@ use Rattle.script_lines.specs.declared.verb.Verb.TheVariants.{Schedule as Schedu
 use Rattle.script_lines.specs.declared.verb.ScriptVersion.{ScriptVersion}
 use Rattle.script_lines.specs.declared.verb.Section.{Section}
 use Rattle.script_lines.specs.declared.verb.Section.TheVariants.{Volume as AtVolume, Fault as AtFault, Schedule as AtSchedule, Begin as AtBegin, Op as AtOp}
+use Rattle.std.specs.List.{list_any}
+use Rattle.script_text.specs.Bindings.{is_third_line}
 use Rattle.script_text.specs.Crossings.{crossed, raw_of}
 use Rattle.script_text.specs.Drafts.{Drafted}
 use Rattle.script_text.specs.declared.fault.ScriptFault.{ScriptFault}
@@ -20,13 +22,13 @@ use Rattle.script_laws.specs.Keeping.{Each, IsFault, Keeps, blocks_of}
 use Rattle.script_laws.specs.RoundTrip.{IsSame, IsWithinLimits, ReadsAs}
 use Rattle.script_laws.proofs.Front.{Fronted, front_stage, fronted}
 use Rattle.script_laws.proofs.LastStages.{begin_stage, ends, ops_stage, schedule_stage}
-use Rattle.script_laws.proofs.Stages.{entries_stage, faults_stage, numbered, placed}
+use Rattle.script_laws.proofs.Stages.{entries_stage, faults_stage, numbered, placed, third_for}
 use Rattle.script_laws.proofs.Steps.{Step, behind, from_text, joined}
 
-crossed_back : (size : ℕ) (ops : List Op) (fs : List FaultLine) → Each (IsFault size ops) fs → map (crossed ops) (map raw_of fs) ≡ fs
-crossed_back size ops [] h = refl
-crossed_back size ops (f ∷ fs) h =
-    ap (λ at. record f { at = at } ∷ map (crossed ops) (map raw_of fs)) (h.0).crossing ∙ ap (λ x. f ∷ x) (crossed_back size ops fs h.1)
+crossed_back : (third : Bool) (size : ℕ) (ops : List Op) (fs : List FaultLine) → Each (IsFault third size ops) fs → map (crossed third ops) (map raw_of fs) ≡ fs
+crossed_back third size ops [] h = refl
+crossed_back third size ops (f ∷ fs) h =
+    ap (λ at. record f { at = at } ∷ map (crossed third ops) (map raw_of fs)) (h.0).crossing ∙ ap (λ x. f ∷ x) (crossed_back third size ops fs h.1)
 
 -- one of two places
 either_place : {A : Type 0} (p q : Section) (xs : List A) → (r : Section) × (placed (Some p) xs q ≡ Some r)
@@ -66,7 +68,7 @@ record WholeRead (s : Script) : Type 0 where
   op_number : ℕ
   step : Step 1 (script_printed s) nothing_read number [] last
   place_is : last.section ≡ placed (Some AtBegin) s.ops AtOp
-  is : finished last ≡ record s { expect_line = expect; faults = map (crossed s.ops) (map raw_of s.faults); lines = numbered fault_number s.faults ++ numbered op_number s.ops }
+  is : finished last ≡ record s { expect_line = expect; faults = map (crossed (list_any is_third_line s.faults) s.ops) (map raw_of s.faults); lines = numbered fault_number s.faults ++ numbered op_number s.ops }
 
 whole_read : (s : Script) → Keeps s → WholeRead s
 whole_read s h =
@@ -102,12 +104,12 @@ whole_read s h =
           from_text 1 (script_printed s) (front_text s ++ text_entries) nothing_read n5 [] d5 ops_end
           (joined 1 (front_text s ++ text_entries) nothing_read front.number text_entries d0 n5 [] d5 front.step
           (joined front.number text_entries d0 n1 text_faults d1 n5 [] d5 (entries_stage s.entries front.number text_faults d0 front.section h.entries_are h.entries_count refl refl front.volume)
-          (joined n1 text_faults d1 n2 text_schedule d2 n5 [] d5 (faults_stage s.faults n1 s.ops text_schedule d1 size.1 h.faults_are refl refl refl h.faults_count front.version_is)
+          (joined n1 text_faults d1 n2 text_schedule d2 n5 [] d5 (faults_stage (list_any is_third_line s.faults) s.faults n1 s.ops text_schedule d1 size.1 h.faults_are refl refl refl h.faults_count (third_for s.faults front.version front.version_is))
           (joined n2 text_schedule d2 n3 text_begin d3 n5 [] d5 (schedule_stage s.schedule n2 text_begin d2 p2.0 h.choices_are p2.1 (schedule_behind front.version s.faults) refl h.choices_count)
           (joined n3 text_begin d3 (n3 + 1) text_ops d4 n5 [] d5 (begin_stage n3 text_ops d3 p3.0 p3.1 (begin_behind front.version s.faults s.schedule p2.0 p2.1))
           (ops_stage s.ops (n3 + 1) [] d4 pages size.0 size.1 h.ops_are refl refl refl refl h.ops_count h.blocks_count))))));
       place_is = refl;
-      is = refl;
+      is = ap (λ t. record s { expect_line = front.expect; faults = map (crossed t s.ops) (map raw_of s.faults); lines = numbered n1 s.faults ++ numbered (n3 + 1) s.ops }) front.version_is;
     }
 
 pub reads_back : (s : Script) → Keeps s → IsWithinLimits (script_printed s) → ReadsAs (script_printed s) s
@@ -116,7 +118,7 @@ reads_back s h w =
     let read = r.step w.lines in
     let lines : List ℕ = numbered r.fault_number s.faults ++ numbered r.op_number s.ops in
     let found : Script = record s { expect_line = r.expect; lines = lines } in
-    let same : finished r.last ≡ found = r.is ∙ ap (λ fs. record s { expect_line = r.expect; faults = fs; lines = lines }) (crossed_back s.block s.ops s.faults h.faults_are) in
+    let same : finished r.last ≡ found = r.is ∙ ap (λ fs. record s { expect_line = r.expect; faults = fs; lines = lines }) (crossed_back (list_any is_third_line s.faults) s.block s.ops s.faults h.faults_are) in
     let a = lines_length (numbered r.fault_number s.faults) (numbered r.op_number s.ops) in
     let b = length-numbered r.fault_number s.faults in
     let c = length-numbered r.op_number s.ops in

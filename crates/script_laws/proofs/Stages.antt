@@ -1,5 +1,5 @@
 -- the lines of a stage, one after another
-use Rattle.std.proofs.Common.{ℕ, ℤ, pos, negsuc, zero, suc, ◌≡◌, ◌+◌, ◌<◌, ◌≤◌, ◌||◌, Bool, true, false, ltb, List, [], ◌∷◌, ◌++◌, length, map, Option, Some, None, refl, sym, subst, ap, ◌∙◌, arith, append_assoc, append-nil}
+use Rattle.std.proofs.Common.{ℕ, ℤ, pos, negsuc, zero, suc, ◌≡◌, ◌+◌, ◌<◌, ◌≤◌, ◌||◌, ◌&&◌, Bool, true, false, ltb, List, [], ◌∷◌, ◌++◌, length, map, Option, Some, None, refl, sym, subst, ap, ◌∙◌, arith, append_assoc, append-nil}
 use Rattle.std.specs.Prelude.{codes, decimal, eqb, if◌then◌else◌}
 use Rattle.std.specs.Fmt.{signed_decimal}
 use Rattle.std.proofs.lemmas.Bool.Decides.{nat_tests}
@@ -18,18 +18,18 @@ use Rattle.script_lines.specs.declared.line.Spot.{Spot}
 use Rattle.script_lines.specs.declared.line.Spot.TheVariants.{Host, Wire, Medium}
 use Rattle.script_lines.specs.declared.verb.Verb.TheVariants.{Linear as LinearVerb, Stripe as StripeVerb, Fault as FaultVerb, Shift as ShiftVerb, Lose as LoseVerb, Tear as TearVerb, Fail as FailVerb}
 use Rattle.script_lines.specs.declared.verb.ScriptVersion.{ScriptVersion}
-use Rattle.script_lines.specs.declared.verb.ScriptVersion.TheVariants.{Three}
+use Rattle.script_lines.specs.declared.verb.ScriptVersion.TheVariants.{One, Two, Three}
 use Rattle.script_lines.specs.declared.verb.Section.{Section}
 use Rattle.script_lines.specs.declared.verb.Section.TheVariants.{Volume as AtVolume, Fault as AtFault}
 use Rattle.std.specs.List.{list_any}
-use Rattle.script_text.specs.Bindings.{is_of_medium, is_of_medium_line}
+use Rattle.script_text.specs.Bindings.{is_at_medium, is_of_medium, is_shift, is_third_line}
 use Rattle.script_text.specs.Drafts.{Drafted}
 use Rattle.script_text.specs.Language.{is_behind, taken}
 use Rattle.script_text.specs.Printed.{entries_text, entry_text, fault_text, faults_text, pair_text}
 use Rattle.script_text.specs.Rules.{is_bad_flip, is_no_shift}
 use Rattle.script_laws.specs.Clean.{AreWords, IsWord}
 use Rattle.script_laws.specs.Keeping.{Each, IsEntry, IsFault, IsFlip, IsKind, IsLeg, IsShift, IsShiftSpot, IsWithin}
-use Rattle.script_text.specs.Crossings.{raw_of, spot_of}
+use Rattle.script_text.specs.Crossings.{is_third, raw_of, spot_of}
 use Rattle.script_laws.specs.Lines.{fault_words, leg_words, linear_words, block_words, shift_words, spot_word, stripe_words, tear_words}
 use Rattle.script_laws.proofs.Clean.{decimal_word}
 use Rattle.script_laws.proofs.Forms.{fault_back, linear_back, lose_back, fail_back, shift_back, some_byte, stripe_back, tear_back}
@@ -254,53 +254,61 @@ fault_by_kind FailKind n op k at rest d section s o l h v p b few =
     let third = third_behind d.version d.section (v refl) b in
     to_draft n (fault_text (record { op = op; k = k; at = at; kind = FailKind }) ++ rest) d (n + 1) rest _ _ (ap (λ spot. failed_draft n op k spot d) (sym h)) (fail_step n op k rest d section o l p third.2 few)
 
-fault_step : (n : ℕ) (ops : List Op) (f : FaultLine) (rest : List ℕ) (d : Drafted) (section : Section) → d.block ≤ 4096 → IsFault d.block ops f
+fault_step : (third : Bool) (n : ℕ) (ops : List Op) (f : FaultLine) (rest : List ℕ) (d : Drafted) (section : Section) → d.block ≤ 4096 → IsFault third d.block ops f
     → (is_of_medium f.kind ≡ true → d.version ≡ Three) → d.section ≡ Some section → is_behind d.version FaultVerb d.section ≡ true → length d.faults < 256
     → Step n (fault_text f ++ rest) d (n + 1) rest (record d { faults = d.faults ++ (raw_of f ∷ []); fault_lines = d.fault_lines ++ (n ∷ []); section = Some AtFault })
-fault_step n ops f rest d section s h v p b few = fault_by_kind f.kind n f.op f.k f.at rest d section s h.op_is h.k_is h.kind_is v p b few
+fault_step third n ops f rest d section s h v p b few = fault_by_kind f.kind n f.op f.k f.at rest d section s h.op_is h.k_is h.kind_is v p b few
 
 -- Lines that only version 3 can say are in a script of that version.
 abbrev pub IsThirdFor : List FaultLine → ScriptVersion → Type 0
-IsThirdFor fs version = list_any is_of_medium_line fs ≡ true → version ≡ Three
+IsThirdFor fs version = list_any is_third_line fs ≡ true → version ≡ Three
+
+is_three : (version : ScriptVersion) → is_third version ≡ true → version ≡ Three
+is_three One e = absurd (cc)
+is_three Two e = absurd (cc)
+is_three Three e = refl
+
+pub third_for : (fs : List FaultLine) (version : ScriptVersion) → is_third version ≡ list_any is_third_line fs → IsThirdFor fs version
+third_for fs version e any = is_three version (e ∙ any)
 
 fault_again : (b : ScriptVersion) → is_behind b FaultVerb (Some AtFault) ≡ true
 fault_again b = behind b FaultVerb AtFault refl refl
 
-more_faults : (fs : List FaultLine) (n : ℕ) (ops : List Op) (rest : List ℕ) (d : Drafted) → d.block ≤ 4096 → Each (IsFault d.block ops) fs → d.section ≡ Some AtFault → length d.faults + length fs ≤ 256 → IsThirdFor fs d.version
+more_faults : (third : Bool) (fs : List FaultLine) (n : ℕ) (ops : List Op) (rest : List ℕ) (d : Drafted) → d.block ≤ 4096 → Each (IsFault third d.block ops) fs → d.section ≡ Some AtFault → length d.faults + length fs ≤ 256 → IsThirdFor fs d.version
     → Step n (faults_text fs ++ rest) d (n + length fs) rest (record d { faults = d.faults ++ map raw_of fs; fault_lines = d.fault_lines ++ numbered n fs; section = Some AtFault })
-more_faults [] n ops rest d s h p few v =
+more_faults third [] n ops rest d s h p few v =
     to_number n rest d n (n + 0) rest _ (omega arith)
     (to_draft n rest d n rest d _
     (ap (λ q. record d { section = q }) p ∙ ap (λ x. record d { faults = x; section = Some AtFault }) (sym (append-nil d.faults))
     ∙ ap (λ x. record d { faults = d.faults ++ []; fault_lines = x; section = Some AtFault }) (sym (append-nil d.fault_lines)))
     (stay n rest d))
-more_faults (f ∷ fs) n ops rest d s h p few v =
+more_faults third (f ∷ fs) n ops rest d s h p few v =
     let next : Drafted = record d { faults = d.faults ++ (raw_of f ∷ []); fault_lines = d.fault_lines ++ (n ∷ []); section = Some AtFault } in
     let one = length-snoc d.faults (raw_of f) in
     to_number n ((fault_text f ++ faults_text fs) ++ rest) d ((n + 1) + length fs) (n + suc (length fs)) rest _ (next_number n (length fs))
     (from_text n ((fault_text f ++ faults_text fs) ++ rest) (fault_text f ++ (faults_text fs ++ rest)) d ((n + 1) + length fs) rest _ (append_assoc (fault_text f) (faults_text fs) rest)
     (joined n (fault_text f ++ (faults_text fs ++ rest)) d (n + 1) (faults_text fs ++ rest) next ((n + 1) + length fs) rest _
-    (fault_step n ops f (faults_text fs ++ rest) d AtFault s h.0 (λ e. v (or_left (is_of_medium f.kind) (list_any is_of_medium_line fs) e)) p (ap (is_behind d.version FaultVerb) p ∙ fault_again d.version) (omega (arith, few)))
+    (fault_step third n ops f (faults_text fs ++ rest) d AtFault s h.0 (λ e. v (or_left (is_third_line f) (list_any is_third_line fs) (or_left (is_of_medium f.kind) (is_shift f.kind && is_at_medium f.at) e))) p (ap (is_behind d.version FaultVerb) p ∙ fault_again d.version) (omega (arith, few)))
     (to_draft (n + 1) (faults_text fs ++ rest) next ((n + 1) + length fs) rest _ _
     (ap (λ x. record d { faults = x; fault_lines = (d.fault_lines ++ (n ∷ [])) ++ numbered (n + 1) fs; section = Some AtFault }) (append_assoc d.faults (raw_of f ∷ []) (map raw_of fs))
     ∙ ap (λ x. record d { faults = d.faults ++ (raw_of f ∷ map raw_of fs); fault_lines = x; section = Some AtFault }) (append_assoc d.fault_lines (n ∷ []) (numbered (n + 1) fs)))
-    (more_faults fs (n + 1) ops rest next s h.1 refl (omega (arith, few, one)) (λ e. v (or_right (is_of_medium f.kind) (list_any is_of_medium_line fs) e))))))
+    (more_faults third fs (n + 1) ops rest next s h.1 refl (omega (arith, few, one)) (λ e. v (or_right (is_third_line f) (list_any is_third_line fs) e))))))
 
 -- any number of faults behind a volume
-pub faults_stage : (fs : List FaultLine) (n : ℕ) (ops : List Op) (rest : List ℕ) (d : Drafted) → d.block ≤ 4096 → Each (IsFault d.block ops) fs → d.section ≡ Some AtVolume → d.faults ≡ [] → d.fault_lines ≡ [] → length fs ≤ 256 → IsThirdFor fs d.version
+pub faults_stage : (third : Bool) (fs : List FaultLine) (n : ℕ) (ops : List Op) (rest : List ℕ) (d : Drafted) → d.block ≤ 4096 → Each (IsFault third d.block ops) fs → d.section ≡ Some AtVolume → d.faults ≡ [] → d.fault_lines ≡ [] → length fs ≤ 256 → IsThirdFor fs d.version
     → Step n (faults_text fs ++ rest) d (n + length fs) rest (record d { faults = map raw_of fs; fault_lines = numbered n fs; section = placed (Some AtVolume) fs AtFault })
-faults_stage [] n ops rest d s h p z l few v =
+faults_stage third [] n ops rest d s h p z l few v =
     to_number n rest d n (n + 0) rest _ (omega arith)
     (to_draft n rest d n rest d _ (ap (λ q. record d { section = q }) p ∙ ap (λ x. record d { faults = x; section = Some AtVolume }) z ∙ ap (λ x. record d { faults = []; fault_lines = x; section = Some AtVolume }) l) (stay n rest d))
-faults_stage (f ∷ fs) n ops rest d s h p z l few v =
+faults_stage third (f ∷ fs) n ops rest d s h p z l few v =
     let next : Drafted = record d { faults = d.faults ++ (raw_of f ∷ []); fault_lines = d.fault_lines ++ (n ∷ []); section = Some AtFault } in
     let none : length d.faults ≡ 0 = ap length z in
     let one = length-snoc d.faults (raw_of f) in
     to_number n ((fault_text f ++ faults_text fs) ++ rest) d ((n + 1) + length fs) (n + suc (length fs)) rest _ (next_number n (length fs))
     (from_text n ((fault_text f ++ faults_text fs) ++ rest) (fault_text f ++ (faults_text fs ++ rest)) d ((n + 1) + length fs) rest _ (append_assoc (fault_text f) (faults_text fs) rest)
     (joined n (fault_text f ++ (faults_text fs ++ rest)) d (n + 1) (faults_text fs ++ rest) next ((n + 1) + length fs) rest _
-    (fault_step n ops f (faults_text fs ++ rest) d AtVolume s h.0 (λ e. v (or_left (is_of_medium f.kind) (list_any is_of_medium_line fs) e)) p (ap (is_behind d.version FaultVerb) p ∙ behind d.version FaultVerb AtVolume refl refl) (omega (arith, none)))
+    (fault_step third n ops f (faults_text fs ++ rest) d AtVolume s h.0 (λ e. v (or_left (is_third_line f) (list_any is_third_line fs) (or_left (is_of_medium f.kind) (is_shift f.kind && is_at_medium f.at) e))) p (ap (is_behind d.version FaultVerb) p ∙ behind d.version FaultVerb AtVolume refl refl) (omega (arith, none)))
     (to_draft (n + 1) (faults_text fs ++ rest) next ((n + 1) + length fs) rest _ _
     (ap (λ x. record d { faults = (x ++ (raw_of f ∷ [])) ++ map raw_of fs; fault_lines = (d.fault_lines ++ (n ∷ [])) ++ numbered (n + 1) fs; section = Some AtFault }) z
     ∙ ap (λ x. record d { faults = raw_of f ∷ map raw_of fs; fault_lines = (x ++ (n ∷ [])) ++ numbered (n + 1) fs; section = Some AtFault }) l)
-    (more_faults fs (n + 1) ops rest next s h.1 refl (omega (arith, few, one, none)) (λ e. v (or_right (is_of_medium f.kind) (list_any is_of_medium_line fs) e))))))
+    (more_faults third fs (n + 1) ops rest next s h.1 refl (omega (arith, few, one, none)) (λ e. v (or_right (is_third_line f) (list_any is_third_line fs) e))))))

@@ -1,4 +1,5 @@
 use Rattle.std.specs.Prelude.{ℕ, ℤ, pos, negsuc, suc, ◌≡◌, ◌⊎◌, ◌+◌, ◌^◌, ◌<◌, ◌≤◌, ◌&&◌, Bool, true, false, not, eqb, List, [], ◌∷◌, length, Option, Some, None, Ok}
+use Rattle.std.specs.List.{list_any}
 use Rattle.hex.specs.Hex.{IsBytes}
 use Rattle.script_text.specs.Passed.{Mode, Op, MOST_BLOCKS}
 use Rattle.fault_schedule.specs.declared.fault.FaultKind.{FaultKind}
@@ -13,7 +14,8 @@ use Rattle.script_lines.specs.declared.line.OpLine.TheVariants.{Fill, Put, Show,
 use Rattle.script_lines.specs.declared.line.Spot.{Spot}
 use Rattle.script_lines.specs.declared.line.Spot.TheVariants.{Host, Wire, Medium}
 use Rattle.script_text.specs.declared.script.Script.{Script}
-use Rattle.script_text.specs.Crossings.{crossing_of, is_read, spot_of}
+use Rattle.script_text.specs.Bindings.{is_third_line}
+use Rattle.script_text.specs.Crossings.{crossing_in, crossing_of, is_read, spot_of}
 use Rattle.script_text.specs.Ops.{op_in}
 use Rattle.script_text.specs.Rules.{is_bad_flip, needs_tuples, request_blocks}
 use Rattle.script_laws.specs.Lines.{line_of}
@@ -85,11 +87,11 @@ IsKind size f (ShiftKind by) = (f.k ≡ 0) × IsShiftSpot (spot_of f.at) × IsSh
 IsKind size f (KeepKind bytes) = (spot_of f.at ≡ Medium) × (bytes ≤ size + 7)
 IsKind size f FailKind = spot_of f.at ≡ Medium
 
--- A fault's crossing is that of its place for its op.
-pub record IsFault (size : ℕ) (ops : List Op) (f : FaultLine) : Type 0 where
+-- A fault's crossing is that of its place for its op, in a script of version 3 or of an earlier one.
+pub record IsFault (third : Bool) (size : ℕ) (ops : List Op) (f : FaultLine) : Type 0 where
   pub op_is : IsWithin 1 1024 f.op
   pub k_is : f.k ≤ 2047
-  pub crossing : crossing_of (spot_of f.at) f.kind (is_read ops f.op) ≡ f.at
+  pub crossing : crossing_in third f.kind (crossing_of (spot_of f.at) f.kind (is_read ops f.op)) ≡ f.at
   pub kind_is : IsKind size f f.kind
 
 abbrev pub IsTag : Option ℕ → Type 0
@@ -130,7 +132,7 @@ pub record Keeps (s : Script) : Type 0 where
   pub block_is : (s.block ≡ 512) ⊎ (s.block ≡ 4096)
   pub entries_are : Each IsEntry s.entries
   pub entries_count : IsWithin 1 MOST_ENTRIES (length s.entries)
-  pub faults_are : Each (IsFault s.block s.ops) s.faults
+  pub faults_are : Each (IsFault (list_any is_third_line s.faults) s.block s.ops) s.faults
   pub faults_count : length s.faults ≤ MOST_FAULTS
   pub choices_are : Each IsChoice s.schedule
   pub choices_count : length s.schedule ≤ MOST_SCHEDULE

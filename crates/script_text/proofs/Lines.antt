@@ -10,11 +10,12 @@ use Rattle.stack_ops.specs.declared.op.Op.{Op}
 use Rattle.volume_table.specs.declared.device.DeviceInfo.{DeviceInfo}
 use Rattle.volume_table.specs.Tables.{Table}
 use Rattle.script_text.specs.Bindings.{faults_fault, is_bad_on, at_line, op_fault, ops_fault, request_at}
+use Rattle.script_text.specs.Crossings.{is_read}
 
 -- The fault line at i is the first of those that are left.
 left : (t : Table) (devices : List DeviceInfo) (size : ℕ) (ops : List Op) (faults : List FaultLine) (lines : List ℕ) (i : ℕ) (f : FaultLine) → i < length faults → i < length lines → get_or faults i f ≡ f
     → faults_fault t devices size ops (take i faults) (drop i faults) (drop i lines)
-    ≡ (if is_bad_on t devices size (take i faults) f (request_at ops f.op) then Some (record { line = get_or lines i 0; kind = BadFault })
+    ≡ (if is_bad_on t devices size (take i faults) f (is_read ops f.op) (request_at ops f.op) then Some (record { line = get_or lines i 0; kind = BadFault })
     else faults_fault t devices size ops (take i faults ++ (f ∷ [])) (drop (suc i) faults) (drop (suc i) lines))
 left t devices size ops faults lines i f h l e =
     ap (λ fs. faults_fault t devices size ops (take i faults) fs (drop i lines)) (drop-cons faults i f h ∙ ap (λ x. x ∷ drop (suc i) faults) e)
@@ -25,7 +26,7 @@ pub taken_more : (faults : List FaultLine) (i : ℕ) (f : FaultLine) → i < len
 taken_more faults i f h e = ap (λ k. take k faults) (add-one i) ∙ take-suc faults i f h ∙ ap (λ x. take i faults ++ (x ∷ [])) e
 
 pub passes : (t : Table) (devices : List DeviceInfo) (size : ℕ) (ops : List Op) (faults : List FaultLine) (lines : List ℕ) (i : ℕ) (f : FaultLine) → i < length faults → i < length lines → get_or faults i f ≡ f
-    → is_bad_on t devices size (take i faults) f (request_at ops f.op) ≡ false
+    → is_bad_on t devices size (take i faults) f (is_read ops f.op) (request_at ops f.op) ≡ false
     → faults_fault t devices size ops (take i faults) (drop i faults) (drop i lines) ≡ faults_fault t devices size ops (take (i + 1) faults) (drop (i + 1) faults) (drop (i + 1) lines)
 passes t devices size ops faults lines i f h l e good =
     left t devices size ops faults lines i f h l e

@@ -1,13 +1,13 @@
 use Rattle.std.specs.Prelude.{ℕ, zero, suc, ◌+◌, ℤ, pos, negsuc, Bool, true, false, not, ◌||◌, ◌&&◌, eqb, nat_le, nat_lt, if◌then◌else◌, List, [], ◌∷◌, ◌++◌, length, drop, slice_get, Option, Some, None}
 use Rattle.std.specs.List.{list_any}
 use Rattle.fault_schedule.specs.declared.fault.Crossing.{Crossing}
-use Rattle.fault_schedule.specs.declared.fault.Crossing.TheVariants.{TargetToMedium}
+use Rattle.fault_schedule.specs.declared.fault.Crossing.TheVariants.{MediumToTarget, TargetToMedium}
 use Rattle.fault_schedule.specs.declared.fault.FaultKind.{FaultKind}
 use Rattle.fault_schedule.specs.declared.fault.FaultKind.TheVariants.{Flip as FlipKind, Shift as ShiftKind, Keep as KeepKind, Fail as FailKind}
 use Rattle.fault_schedule.specs.declared.fault.FaultLine.{FaultLine}
-use Rattle.pi_tuple.specs.declared.TheConstants.{TUPLE}
 use Rattle.pi_tuple.specs.declared.checks.PiType.{PiType}
 use Rattle.pi_tuple.specs.declared.checks.PiType.TheVariants.{Zero as TypeZero, One as TypeOne, Two as TypeTwo, Three as TypeThree}
+use Rattle.rig_api.specs.Frames.{stored_size}
 use Rattle.rig_api.specs.declared.change.Change.{Change}
 use Rattle.rig_api.specs.declared.change.Change.TheVariants.{Flip as FlipChange, Copy as CopyChange}
 use Rattle.stack_ops.specs.declared.op.Op.{Op}
@@ -19,6 +19,7 @@ use Rattle.script_lines.specs.declared.kind.ScriptKind.{ScriptKind}
 use Rattle.script_lines.specs.declared.kind.ScriptKind.TheVariants.{BadRange, BadFault, NoIntegrity}
 use Rattle.script_text.specs.declared.fault.ScriptFault.{ScriptFault}
 use Rattle.script_text.specs.declared.script.Script.{Script}
+use Rattle.script_text.specs.Crossings.{is_read}
 
 -- What a script may not do over a volume of devices.
 
@@ -85,12 +86,14 @@ is_of_medium (ShiftKind by) = false
 is_of_medium (KeepKind bytes) = true
 is_of_medium FailKind = true
 
-abbrev pub is_of_medium_line : FaultLine → Bool
-is_of_medium_line f = is_of_medium f.kind
+-- A line that no version before 3 can say: so, or it moves the address at which a write is stored.
+abbrev pub is_third_line : FaultLine → Bool
+is_third_line f = is_of_medium f.kind || (is_shift f.kind && is_at_medium f.at)
 
--- how many bytes the medium stores of a block
-abbrev pub stored_bytes : PiType → (size : ℕ) → ℕ
-stored_bytes ty size = if has_no_tuples ty then size else size + TUPLE
+-- A shift of fetched blocks, of an op that fetches none.
+abbrev pub is_misplaced : (reads : Bool) → Crossing → Bool
+is_misplaced reads MediumToTarget = not reads
+is_misplaced reads _ = false
 
 -- The line says that the medium loses, tears or fails this block.
 abbrev pub names_block : (op k : ℕ) → FaultLine → Bool
@@ -104,22 +107,22 @@ is_bad_keep stored earlier f bytes = not (is_at_medium f.at) || (nat_le stored b
 abbrev pub is_bad_fail : (earlier : List FaultLine) → FaultLine → Bool
 is_bad_fail earlier f = list_any (names_block f.op f.k) earlier
 
--- A shift needs tuples of type 1, isn't on the medium of a write, comes once for an op, and keeps each block on its device.
-abbrev pub is_bad_shift : Table → List DeviceInfo → (earlier : List FaultLine) → FaultLine → ℕ × ℕ → (by : ℤ) → Bool
-is_bad_shift t devices earlier f request by =
-    not (is_first_type t.ty) || (is_at_medium f.at || (list_any (shifts f.op) earlier || not (blocks_stay t devices by request.0 request.1)))
+-- A shift needs tuples of type 1, isn't of fetched blocks where the op fetches none, comes once for an op, and keeps each block on its device.
+abbrev pub is_bad_shift : Table → List DeviceInfo → (earlier : List FaultLine) → FaultLine → (reads : Bool) → ℕ × ℕ → (by : ℤ) → Bool
+is_bad_shift t devices earlier f reads request by =
+    not (is_first_type t.ty) || (is_misplaced reads f.at || (list_any (shifts f.op) earlier || not (blocks_stay t devices by request.0 request.1)))
 
 -- behind these lines, in a script of blocks of this size
-abbrev pub is_bad_kind : Table → List DeviceInfo → (size : ℕ) → (earlier : List FaultLine) → FaultLine → ℕ × ℕ → FaultKind → Bool
-is_bad_kind t devices size earlier f request (FlipKind off bytes) = false
-is_bad_kind t devices size earlier f request (ShiftKind by) = is_bad_shift t devices earlier f request by
-is_bad_kind t devices size earlier f request (KeepKind bytes) = is_bad_keep (stored_bytes t.ty size) earlier f bytes
-is_bad_kind t devices size earlier f request FailKind = is_bad_fail earlier f
+abbrev pub is_bad_kind : Table → List DeviceInfo → (size : ℕ) → (earlier : List FaultLine) → FaultLine → (reads : Bool) → ℕ × ℕ → FaultKind → Bool
+is_bad_kind t devices size earlier f reads request (FlipKind off bytes) = false
+is_bad_kind t devices size earlier f reads request (ShiftKind by) = is_bad_shift t devices earlier f reads request by
+is_bad_kind t devices size earlier f reads request (KeepKind bytes) = is_bad_keep (stored_size t.ty size) earlier f bytes
+is_bad_kind t devices size earlier f reads request FailKind = is_bad_fail earlier f
 
 -- A fault line behind these is at fault on this request: there is none, or it hasn't the block, or the line's kind can't be.
-abbrev pub is_bad_on : Table → List DeviceInfo → (size : ℕ) → (earlier : List FaultLine) → FaultLine → Option (ℕ × ℕ) → Bool
-is_bad_on t devices size earlier f None = true
-is_bad_on t devices size earlier f (Some request) = not (nat_lt f.k request.1) || is_bad_kind t devices size earlier f request f.kind
+abbrev pub is_bad_on : Table → List DeviceInfo → (size : ℕ) → (earlier : List FaultLine) → FaultLine → (reads : Bool) → Option (ℕ × ℕ) → Bool
+is_bad_on t devices size earlier f reads None = true
+is_bad_on t devices size earlier f reads (Some request) = not (nat_lt f.k request.1) || is_bad_kind t devices size earlier f reads request f.kind
 
 abbrev pub request_by : Option Op → Option (ℕ × ℕ)
 request_by None = None
@@ -133,7 +136,7 @@ request_at ops (suc n) = request_by (slice_get ops n)
 -- the first fault of the fault lines behind these
 abbrev pub faults_fault : Table → List DeviceInfo → (size : ℕ) → List Op → (earlier faults : List FaultLine) → (lines : List ℕ) → Option ScriptFault
 faults_fault t devices size ops earlier (f ∷ faults) (line ∷ lines) =
-    if is_bad_on t devices size earlier f (request_at ops f.op) then Some (record { line = line; kind = BadFault })
+    if is_bad_on t devices size earlier f (is_read ops f.op) (request_at ops f.op) then Some (record { line = line; kind = BadFault })
     else faults_fault t devices size ops (earlier ++ (f ∷ [])) faults lines
 faults_fault t devices size ops earlier _ _ = None
 

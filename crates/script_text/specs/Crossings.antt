@@ -1,6 +1,8 @@
 use Rattle.std.specs.Prelude.{ℕ, ◌-◌, Bool, true, false, List, Option, Some, slice_get}
 use Rattle.fault_schedule.specs.declared.fault.Crossing.{Crossing}
 use Rattle.fault_schedule.specs.declared.fault.Crossing.TheVariants.{HostToAdapter, AdapterToTarget, TargetToMedium, MediumToTarget, TargetToAdapter, AdapterToHost}
+use Rattle.script_lines.specs.declared.verb.ScriptVersion.{ScriptVersion}
+use Rattle.script_lines.specs.declared.verb.ScriptVersion.TheVariants.{One, Two, Three}
 use Rattle.fault_schedule.specs.declared.fault.FaultKind.{FaultKind}
 use Rattle.fault_schedule.specs.declared.fault.FaultKind.TheVariants.{Flip, Shift, Keep, Fail}
 use Rattle.fault_schedule.specs.declared.fault.FaultLine.{FaultLine}
@@ -38,8 +40,31 @@ is_read_op _ = false
 abbrev pub is_read : List Op → ℕ → Bool
 is_read ops number = is_read_op (slice_get ops (number - 1))
 
-abbrev pub crossed : List Op → RawFault → FaultLine
-crossed ops f = record { op = f.op; k = f.k; at = crossing_of f.spot f.kind (is_read ops f.op); kind = f.kind }
+-- Scripts of this version may say that the medium itself fails.
+abbrev pub is_third : ScriptVersion → Bool
+is_third One = false
+is_third Two = false
+is_third Three = true
+
+-- Before version 3 a shift on the medium is of a fetched block, whatever op it names; from then on one of a write moves the stored block.
+abbrev pub shifted_at : (third : Bool) → Crossing → Crossing
+shifted_at true at = at
+shifted_at false HostToAdapter = HostToAdapter
+shifted_at false AdapterToTarget = AdapterToTarget
+shifted_at false TargetToMedium = MediumToTarget
+shifted_at false MediumToTarget = MediumToTarget
+shifted_at false TargetToAdapter = TargetToAdapter
+shifted_at false AdapterToHost = AdapterToHost
+
+-- the crossing of a fault in a script of version 3, or of an earlier one
+abbrev pub crossing_in : (third : Bool) → FaultKind → Crossing → Crossing
+crossing_in third (Flip off bytes) at = at
+crossing_in third (Shift by) at = shifted_at third at
+crossing_in third (Keep bytes) at = at
+crossing_in third Fail at = at
+
+abbrev pub crossed : (third : Bool) → List Op → RawFault → FaultLine
+crossed third ops f = record { op = f.op; k = f.k; at = crossing_in third f.kind (crossing_of f.spot f.kind (is_read ops f.op)); kind = f.kind }
 
 -- where a crossing lies
 abbrev pub spot_of : Crossing → Spot

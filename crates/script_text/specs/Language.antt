@@ -26,7 +26,7 @@ use Rattle.script_text.specs.declared.raw_fault.RawFault.{RawFault}
 use Rattle.script_text.specs.declared.trees.Inner.{Inner as Extent}
 use Rattle.script_text.specs.declared.fault.ScriptFault.{ScriptFault}
 use Rattle.script_text.specs.declared.script.Script.{Script}
-use Rattle.script_text.specs.Crossings.{crossed}
+use Rattle.script_text.specs.Crossings.{crossed, is_third}
 use Rattle.script_text.specs.Drafts.{Drafted}
 use Rattle.script_text.specs.Ops.{op_in}
 use Rattle.script_text.specs.Rules.{broken_rule, request_blocks}
@@ -185,7 +185,7 @@ finished d = record {
   block = d.block;
   expect_line = d.expect_line;
   entries = d.entries;
-  faults = map (crossed d.ops) d.faults;
+  faults = map (crossed (is_third d.version) d.ops) d.faults;
   schedule = d.schedule;
   ops = d.ops;
   lines = d.fault_lines ++ d.op_lines;

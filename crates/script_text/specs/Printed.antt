@@ -23,7 +23,7 @@ use Rattle.std.specs.List.{list_any}
 use Rattle.script_lines.specs.Verbs.{is_new}
 use Rattle.script_lines.specs.declared.verb.ScriptVersion.{ScriptVersion}
 use Rattle.script_lines.specs.declared.verb.ScriptVersion.TheVariants.{One, Two, Three}
-use Rattle.script_text.specs.Bindings.{is_of_medium_line}
+use Rattle.script_text.specs.Bindings.{is_third_line}
 use Rattle.script_text.specs.declared.script.Script.{Script}
 
 -- The text of a script, line by line.
@@ -69,7 +69,7 @@ is_past_one block mask = not (eqb block 512) || not (eqb mask 0)
 
 -- the first version that can say all that a script does
 abbrev pub version_for : List FaultLine → (block mask : ℕ) → ScriptVersion
-version_for faults block mask = if list_any is_of_medium_line faults then Three else (if is_past_one block mask then Two else One)
+version_for faults block mask = if list_any is_third_line faults then Three else (if is_past_one block mask then Two else One)
 
 abbrev pub version_text : ScriptVersion → List ℕ
 version_text One = codes "dix 1\n"

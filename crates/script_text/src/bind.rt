@@ -2,14 +2,17 @@
 
 ghost use Rattle.std.specs.Prelude.{◌≡◌, ◌<◌, ◌≤◌, ◌+◌, [], Some, None, MatchResult, drop, length};
 ghost use Rattle.std.specs.List.{list_any};
-ghost use Rattle.script_text.specs.Bindings.{binding_fault, block_stays, blocks_stay, expect_fault, faults_fault, is_bad_fail, is_bad_keep, is_bad_on, is_bad_shift, names_block, op_fault, ops_fault, request_at, shifts, stored_bytes};
+ghost use Rattle.script_text.specs.Bindings.{binding_fault, block_stays, blocks_stay, expect_fault, faults_fault, is_bad_fail, is_bad_keep, is_bad_on, is_bad_shift, is_misplaced, names_block, op_fault, ops_fault, request_at, shifts};
+ghost use Rattle.script_text.specs.Crossings.{is_read};
 ghost use Rattle.volume_table.specs.Places.{volume_len};
 
 use crate::against::{Against, can_alter, is_bad_change, is_on, request, request_at};
+use crate::draft::is_read;
 use crate::kinds::{is_of_medium, is_shift};
 use crate::{Script, ScriptFault, ScriptKind};
 use fault_schedule::{Crossing, FaultKind, FaultLine};
-use pi_tuple::{PiType, TUPLE};
+use pi_tuple::PiType;
+use rig_api::stored_size;
 use stack_ops::Op;
 use volume_table::{DeviceInfo, VolumeTable};
 
@@ -51,20 +54,28 @@ pub fn is_shifted(lines: &[FaultLine], op: u32) -> bool
         .any(|line| op == line.op && is_shift(&line.kind))
 }
 
-/// Whether a shift behind these lines can't be: of another type than 1, on the medium of a write,
-/// twice on one op, or off its device.
+/// Whether a shift at this crossing is of fetched blocks, where the op fetches none.
+pub fn is_misplaced(reads: bool, at: Crossing) -> bool
+    ensures { result ≡ is_misplaced reads at }
+{
+    at == Crossing::MediumToTarget && !reads
+}
+
+/// Whether a shift behind these lines can't be: of another type than 1, of fetched blocks where the
+/// op fetches none, twice on one op, or off its device.
 fn is_bad_shift(
     against: Against,
     earlier: &[FaultLine],
     line: &FaultLine,
+    reads: bool,
     request: (u64, u32),
     by: i64,
 ) -> bool
-    ensures { result ≡ is_bad_shift against.entry.table.now against.entry.devices.now earlier.now line.now request by }
+    ensures { result ≡ is_bad_shift against.entry.table.now against.entry.devices.now earlier.now line.now reads request by }
 {
     let (v, n) = request;
     against.table.ty() != PiType::One
-        || line.at == Crossing::TargetToMedium
+        || is_misplaced(reads, line.at)
         || is_shifted(earlier, line.op)
         || !stays_on(against, v, n, by)
 }
@@ -76,23 +87,13 @@ pub fn is_named(lines: &[FaultLine], op: u32, k: u32) -> bool
     lines.iter().any(|line| op == line.op && k == line.k && is_of_medium(&line.kind))
 }
 
-/// How many bytes the medium of a unit of this type stores of a block.
-pub fn stored_bytes(ty: PiType, size: u32) -> u64
-    ensures { result ≡ stored_bytes ty size }
-{
-    match ty {
-        PiType::Zero => u64::from(size),
-        _ => u64::from(size) + TUPLE as u64,
-    }
-}
-
 /// Whether a line behind these can't lose or tear its block: of an op that isn't a write, of no
 /// less than the `stored` bytes of a block, or of a block that an earlier line loses, tears or fails.
-pub fn is_bad_keep(stored: u64, earlier: &[FaultLine], line: &FaultLine, bytes: u32) -> bool
+pub fn is_bad_keep(stored: usize, earlier: &[FaultLine], line: &FaultLine, bytes: u32) -> bool
     ensures { result ≡ is_bad_keep stored earlier.now line.now bytes }
 {
     line.at != Crossing::TargetToMedium
-        || u64::from(bytes) >= stored
+        || bytes as usize >= stored
         || is_named(earlier, line.op, line.k)
 }
 
@@ -105,7 +106,7 @@ pub fn is_bad_fail(earlier: &[FaultLine], line: &FaultLine) -> bool
 
 /// Whether a fault line behind these can't be.
 fn is_bad_fault(against: Against, earlier: &[FaultLine], line: &FaultLine, ops: &[Op]) -> bool
-    ensures { result ≡ is_bad_on against.entry.table.now against.entry.devices.now against.entry.size earlier.now line.now (request_at ops.now line.now.op) }
+    ensures { result ≡ is_bad_on against.entry.table.now against.entry.devices.now against.entry.size earlier.now line.now (is_read ops.now line.now.op) (request_at ops.now line.now.op) }
 {
     let Some((v, n)) = request_at(ops, line.op) else {
         return true;
@@ -115,9 +116,12 @@ fn is_bad_fault(against: Against, earlier: &[FaultLine], line: &FaultLine, ops: 
     }
     match line.kind {
         FaultKind::Flip { .. } => false,
-        FaultKind::Shift { by } => is_bad_shift(against, earlier, line, (v, n), by),
+        FaultKind::Shift { by } => {
+            let reads = is_read(ops, line.op);
+            is_bad_shift(against, earlier, line, reads, (v, n), by)
+        }
         FaultKind::Keep { bytes } => {
-            let stored = stored_bytes(against.table.ty(), against.size);
+            let stored = stored_size(against.table.ty(), against.size);
             is_bad_keep(stored, earlier, line, bytes)
         }
         FaultKind::Fail => is_bad_fail(earlier, line),
@@ -199,8 +203,7 @@ pub fn bind_script(
     table: &VolumeTable,
     devices: &[DeviceInfo],
 ) -> Result<(), ScriptFault>
-    requires few { length script.now.ops ≤ 1024 }
-    requires lines { length script.now.faults + length script.now.ops ≤ length script.now.lines }
+    requires { length script.now.faults + length script.now.ops ≤ length script.now.lines }
     ensures { MatchResult result (λ u. binding_fault script.now table.now devices.now ≡ None) (λ f. binding_fault script.now table.now devices.now ≡ Some f) }
 {
     let against = Against {

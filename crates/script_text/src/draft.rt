@@ -9,7 +9,7 @@ ghost use Rattle.pi_tuple.specs.declared.TheConstants.{LARGEST_BLOCK};
 ghost use Rattle.volume_table.specs.declared.TheConstants.{MOST_LENGTH};
 
 use crate::adding::add;
-use crate::crossing::crossing_of;
+use crate::crossing::{crossing_in, crossing_of, is_third};
 use crate::mode::mode_of;
 use crate::ops::{Sizes, op_of};
 use crate::raw_fault::RawFault;
@@ -293,7 +293,7 @@ impl Draft {
         ensures memory { IfErr result (λ k. k ≡ ScriptKind.Memory) }
     {
         let Draft {
-            version: _,
+            version,
             section: _,
             mode,
             app,
@@ -313,7 +313,7 @@ impl Draft {
         } = self;
         let mut lines = fault_lines;
         lines.extend_from_slice(op_lines.as_slice())?;
-        let faults = crossed(alloc, faults, ops.as_slice())?;
+        let faults = crossed(alloc, is_third(version), faults, ops.as_slice())?;
         Ok(Script {
             mode: mode_of(mode, app, mask),
             limits,
@@ -372,7 +372,7 @@ fn add_entries(alloc: Global, list: &mut Vec<Entry>, entries: &[Entry]) -> Resul
 }
 
 /// Whether the op of this number, from 1, is a read.
-fn is_read(ops: &[Op], number: u32) -> bool
+pub fn is_read(ops: &[Op], number: u32) -> bool
     ensures { result ≡ is_read ops.now number }
 {
     match ops.get(number.saturating_sub(1) as usize) {
@@ -381,15 +381,21 @@ fn is_read(ops: &[Op], number: u32) -> bool
     }
 }
 
-/// The faults with their crossings.
-fn crossed(alloc: Global, faults: Vec<RawFault>, ops: &[Op]) -> Result<Vec<FaultLine>, ScriptKind>
-    ensures value { IfOk result (λ v. v.items ≡ map (crossed ops.now) faults.items) }
+/// The faults with their crossings, in a script of version 3 or of an earlier one.
+fn crossed(
+    alloc: Global,
+    third: bool,
+    faults: Vec<RawFault>,
+    ops: &[Op],
+) -> Result<Vec<FaultLine>, ScriptKind>
+    ensures value { IfOk result (λ v. v.items ≡ map (crossed third ops.now) faults.items) }
     ensures memory { IfErr result (λ k. k ≡ ScriptKind.Memory) }
 {
     let mut lines = Vec::new(alloc);
     for fault in faults {
         let RawFault { op, k, spot, kind } = fault;
         let at = crossing_of(spot, &kind, is_read(ops, op));
+        let at = crossing_in(third, &kind, at);
         add(&mut lines, FaultLine { op, k, at, kind })?;
     }
     Ok(lines)

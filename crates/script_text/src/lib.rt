@@ -23,7 +23,8 @@ mod trees;
 
 pub use against::{Against, can_alter, is_bad_change, request_at};
 pub use big::big_script;
-pub use bind::{bind_script, is_bad_fail, is_bad_keep, is_named, is_shifted, stored_bytes};
+pub use bind::{bind_script, is_bad_fail, is_bad_keep, is_misplaced, is_named, is_shifted};
+pub use draft::is_read;
 pub use fault::ScriptFault;
 pub use print::print_script;
 pub use read::read_script;

@@ -5,12 +5,12 @@ ghost use Rattle.std.specs.List.{list_any};
 ghost use Rattle.fault_schedule.specs.declared.fault.FaultKind.{FaultKind};
 ghost use Rattle.rig_api.specs.declared.change.Change.{Change};
 ghost use Rattle.stack_ops.specs.declared.op.Op.{Op};
-ghost use Rattle.script_text.specs.Bindings.{is_of_medium_line};
+ghost use Rattle.script_text.specs.Bindings.{is_third_line};
 ghost use Rattle.volume_table.specs.declared.entry.Entry.{Entry};
 ghost use Rattle.script_text.specs.Printed.{app_text, block_text, change_text, cut_text, entries_text, entry_text, expect_text, expected_text, fail_text, fault_by, fault_text, faults_text, front_text, guard_text, is_past_one, keep_text, limits_text, mode_text, new_lines, op_text, op_words, ops_text, pages_text, pair_text, request_text, schedule_line, schedule_text, script_printed, seal_front, spot_text, tags_text, tuples_text, version_for, version_text};
 
 use crate::Script;
-use crate::kinds::is_of_medium;
+use crate::kinds::{is_of_medium, is_shift};
 use crate::text::Text;
 use block_path::Mode;
 use dix_base::ByteList;
@@ -450,11 +450,18 @@ impl Text {
     }
 }
 
-/// Whether one of these lines says what no version before 3 can.
-fn has_third(faults: &[FaultLine]) -> bool
-    ensures { result ≡ list_any is_of_medium_line faults.now }
+/// Whether a line says what no version before 3 can.
+fn is_third_line(line: &FaultLine) -> bool
+    ensures { result ≡ is_third_line line.now }
 {
-    faults.iter().any(|line| is_of_medium(&line.kind))
+    is_of_medium(&line.kind) || (is_shift(&line.kind) && line.at == Crossing::TargetToMedium)
+}
+
+/// Whether one of these lines does.
+fn has_third(faults: &[FaultLine]) -> bool
+    ensures { result ≡ list_any is_third_line faults.now }
+{
+    faults.iter().any(is_third_line)
 }
 
 /// Whether the script says what no version before 2 can.
