@@ -27,7 +27,8 @@ use Rattle.walk_laws.proofs.InSteps.{scatter_length}
 use Rattle.mirror_laws.specs.Mirror.{Mirror, accepted, all_asked, asked, asks, done, is_none, listed, marks_of, mirror_past, neither}
 use Rattle.mirror_laws.specs.declared.marks.Marks.{Marks}
 use Rattle.mirror_laws.specs.OneGood.{AllSpare, IsUnnamed, on_leg}
-use Rattle.run_laws.proofs.Along.{EndsAs, IsHanded, read_as}
+use Rattle.run_laws.proofs.Along.{read_as}
+use Rattle.run_laws.proofs.Counted.{EndsAs, IsHanded}
 use Rattle.mirror_laws.proofs.Holds.{fetched_at, last_at, last_same, no_shift, second}
 use Rattle.run_laws.proofs.Layers.{checked}
 use Rattle.mirror_laws.proofs.Steps.{AllFitMirror, FitsMirror, HasIn, Held, asks_fit, held_after, marks_long, read_fits, step_has}

@@ -1,5 +1,5 @@
 -- What holds of one block of a mirror along a script: each fresh leg has its last accepted write, and its good leg is fresh and not hit.
-use Rattle.std.proofs.Common.{◌≡◌, ◌<◌, ◌≤◌, ℕ, ◌+◌, Bool, true, false, eqb, not, if◌then◌else◌, List, [], ◌∷◌, ◌++◌, Option, Some, None, refl, sym, ap, subst, ◌∙◌, arith}
+use Rattle.std.proofs.Common.{◌≡◌, ◌<◌, ◌≤◌, ℕ, ◌+◌, Bool, true, false, eqb, ◌&&◌, ◌||◌, not, if◌then◌else◌, List, [], ◌∷◌, ◌++◌, Option, Some, None, refl, sym, ap, subst, ◌∙◌, arith}
 use Rattle.std.specs.Prelude.{pos, nat_abs, ◌+ℤ◌}
 use Rattle.std.proofs.lemmas.Bool.{eq-eqb, ne_eqb, false≢true}
 use Rattle.fault_schedule.specs.Altered.{shift_of}
@@ -12,7 +12,7 @@ use Rattle.volume_table.specs.declared.device.DeviceInfo.{DeviceInfo}
 use Rattle.block_path.specs.Acts.{State}
 use Rattle.block_path.specs.Blocks.{fetched_cell, stored_cell}
 use Rattle.block_path.specs.Routes.{medium_lba, moved, wire_lba}
-use Rattle.walk_laws.specs.FirstLayer.{has_flip, has_shift, is_hit, last_accepted}
+use Rattle.walk_laws.specs.FirstLayer.{has_flip, has_shift, is_hit, is_misdirected, is_stored_whole, last_accepted, loses, tears}
 use Rattle.walk_laws.specs.Past.{Accepted, Brought, Event, Lost, Overwritten, event_of}
 use Rattle.walk_laws.specs.Settings.{Block, Setting, route}
 use Rattle.walk_laws.specs.UnderMap.{home}
@@ -20,6 +20,7 @@ use Rattle.run_laws.specs.ShownRun.{HasCells, LiesOn, StaysNear}
 use Rattle.mirror_laws.specs.Mirror.{marked, neither, twin}
 use Rattle.mirror_laws.specs.declared.marks.Marks.{Marks}
 use Rattle.mirror_laws.specs.OneGood.{on_leg}
+use Rattle.run_laws.proofs.Along.{whole_so}
 use Rattle.run_laws.proofs.Layers.{checked, unmoved}
 
 module _ (m' : Setting) (opening : State) (half : ℕ) (count : ℕ → ℕ) (still : (at : Crossing) (op : ℕ) → shift_of m'.site.faults at op ≡ pos 0) where
@@ -47,7 +48,7 @@ module _ (m' : Setting) (opening : State) (half : ℕ) (count : ℕ → ℕ) (st
   on_wire b = unmoved m' (route m b).lba (shift_of m'.site.faults AdapterToTarget b.op) (ap nat_abs (still AdapterToTarget b.op))
 
   pub stored_at : (b : Block) → stored_cell m.site (route m b) ≡ home m b.virt
-  stored_at b = ap (m'.site.cell (route m b).dev) (on_wire b)
+  stored_at b = ap (m'.site.cell (route m b).dev) (unmoved m' (wire_lba m'.site.faults (route m b)) (shift_of m'.site.faults TargetToMedium b.op) (ap nat_abs (still TargetToMedium b.op)) ∙ on_wire b)
 
   pub on_medium : (b : Block) → medium_lba m'.site.faults (route m b) ≡ (route m b).lba
   on_medium b = unmoved m' (wire_lba m'.site.faults (route m b)) (shift_of m'.site.faults MediumToTarget b.op) (ap nat_abs (still MediumToTarget b.op)) ∙ on_wire b
@@ -86,9 +87,11 @@ module _ (m' : Setting) (opening : State) (half : ℕ) (count : ℕ → ℕ) (st
   refused_hit (Refused key asc ascq) b e cell past = refl
   refused_hit Short b e cell past = refl
 
-  hit_here : (b : Block) (e : Brought) (v : ℕ) (past : List Event) → b.virt ≡ v → has_flip m b TargetToMedium ≡ false → is_hit m (home m v) (Accepted b e ∷ past) ≡ false
-  hit_here b e v past q free =
-      ap (λ c. if c then has_flip m b TargetToMedium else is_hit m (home m v) past) (eq-eqb (stored_cell m.site (route m b)) (home m v) (stored_at b ∙ ap (home m) q)) ∙ free
+  hit_here : (b : Block) (e : Brought) (v : ℕ) (past : List Event) → b.virt ≡ v → has_flip m b TargetToMedium ≡ false → is_stored_whole m b ≡ true → is_hit m (home m v) (Accepted b e ∷ past) ≡ false
+  hit_here b e v past q free whole =
+      let w = whole_so m b whole in
+      let here = eq-eqb (stored_cell m.site (route m b)) (home m v) (stored_at b ∙ ap (home m) q) in
+      λ i. if not (w.kept i) && here i then w.direct i || (w.untorn i || free i) else is_hit m (home m v) past
 
   abbrev pub place : (leg : Bool) → ℕ → ℕ
   place leg u = on_leg leg u (half + u)
@@ -115,7 +118,12 @@ module _ (m' : Setting) (opening : State) (half : ℕ) (count : ℕ → ℕ) (st
 
     hit_miss : (b : Block) (e : Brought) (v : ℕ) (past : List Event) → b.virt < half + half → v < half + half → (b.virt ≡ v → ⊥) → is_hit m (home m v) (Accepted b e ∷ past) ≡ is_hit m (home m v) past
     hit_miss b e v past l k q =
-        ap (λ c. if c then has_flip m b TargetToMedium else is_hit m (home m v) past) (ne_eqb (stored_cell m.site (route m b)) (home m v) (λ x. apart b.virt v l k q (sym (stored_at b) ∙ x)))
+        let there = ne_eqb (stored_cell m.site (route m b)) (home m v) (λ x. apart b.virt v l k q (sym (stored_at b) ∙ x)) in
+        ap (λ c. if not (loses m b) && c then is_misdirected m b || (tears m b || has_flip m b TargetToMedium) else is_hit m (home m v) past) there ∙ by (loses m b)
+      where
+        by : (c : Bool) → (if not c && false then is_misdirected m b || (tears m b || has_flip m b TargetToMedium) else is_hit m (home m v) past) ≡ is_hit m (home m v) past
+        by true = refl
+        by false = refl
 
     same_last : (w : Option Why) (b : Block) (e : Brought) (v : ℕ) (past : List Event) → (b.virt ≡ v → ⊥) → last_at v (event_of w b e ++ past) ≡ last_at v past
     same_last None b e v past q = last_miss b e v past q
@@ -164,35 +172,35 @@ module _ (m' : Setting) (opening : State) (half : ℕ) (count : ℕ → ℕ) (st
         over : (past : List Event) → is_hit m (home m u) (Accepted (second b) e ∷ past) ≡ is_hit m (home m u) past
         over past = hit_miss (second b) e u past (omega (arith, inside)) (omega (arith, within)) far_from
 
-        pub here : (leg : Bool) (why other : Option Why) (marks : Marks) (past mirror : List Event) → Follows leg why other → has_flip m (on_leg leg b (second b)) TargetToMedium ≡ false → Has u leg marks past mirror →
+        pub here : (leg : Bool) (why other : Option Why) (marks : Marks) (past mirror : List Event) → Follows leg why other → has_flip m (on_leg leg b (second b)) TargetToMedium ≡ false → is_stored_whole m (on_leg leg b (second b)) ≡ true → Has u leg marks past mirror →
             Has u leg (marked why other marks) (event_of other (second b) e ++ (event_of why b e ++ past)) (event_of (neither why other) b e ++ mirror)
-        here false None None marks past mirror f free h = record {
+        here false None None marks past mirror f free whole h = record {
           on0 = λ _. last_miss (second b) e u (Accepted b e ∷ past) far_from ∙ last_hit b e u past q ∙ sym (last_hit b e u mirror q);
           on1 = λ _. last_hit (second b) e (half + u) (Accepted b e ∷ past) twin_at ∙ sym (last_hit b e u mirror q);
           good = refl;
-          unhit = over (Accepted b e ∷ past) ∙ hit_here b e u past q free;
+          unhit = over (Accepted b e ∷ past) ∙ hit_here b e u past q free whole;
         }
-        here true None None marks past mirror f free h = record {
+        here true None None marks past mirror f free whole h = record {
           on0 = λ _. last_miss (second b) e u (Accepted b e ∷ past) far_from ∙ last_hit b e u past q ∙ sym (last_hit b e u mirror q);
           on1 = λ _. last_hit (second b) e (half + u) (Accepted b e ∷ past) twin_at ∙ sym (last_hit b e u mirror q);
           good = refl;
-          unhit = hit_here (second b) e (half + u) (Accepted b e ∷ past) twin_at free;
+          unhit = hit_here (second b) e (half + u) (Accepted b e ∷ past) twin_at free whole;
         }
-        here false None (Some w) marks past mirror f free h = record {
+        here false None (Some w) marks past mirror f free whole h = record {
           on0 = λ _. refused_last w (second b) e u (Accepted b e ∷ past) ∙ last_hit b e u past q ∙ sym (last_hit b e u mirror q);
           on1 = λ x. absurd (false≢true x);
           good = refl;
-          unhit = refused_hit w (second b) e (home m u) (Accepted b e ∷ past) ∙ hit_here b e u past q free;
+          unhit = refused_hit w (second b) e (home m u) (Accepted b e ∷ past) ∙ hit_here b e u past q free whole;
         }
-        here true None (Some w) marks past mirror f free h = absurd (let x = f refl in cc)
-        here false (Some w) None marks past mirror f free h = absurd (let x = f refl in cc)
-        here true (Some w) None marks past mirror f free h = record {
+        here true None (Some w) marks past mirror f free whole h = absurd (let x = f refl in cc)
+        here false (Some w) None marks past mirror f free whole h = absurd (let x = f refl in cc)
+        here true (Some w) None marks past mirror f free whole h = record {
           on0 = λ x. absurd (false≢true x);
           on1 = λ _. last_hit (second b) e (half + u) (event_of (Some w) b e ++ past) twin_at ∙ sym (last_hit b e u mirror q);
           good = refl;
-          unhit = hit_here (second b) e (half + u) (event_of (Some w) b e ++ past) twin_at free;
+          unhit = hit_here (second b) e (half + u) (event_of (Some w) b e ++ past) twin_at free whole;
         }
-        here leg (Some w) (Some x) marks past mirror f free h = record {
+        here leg (Some w) (Some x) marks past mirror f free whole h = record {
           on0 = λ k. refused_last x (second b) e u (event_of (Some w) b e ++ past) ∙ refused_last w b e u past ∙ h.on0 k ∙ sym (refused_last w b e u mirror);
           on1 = λ k. refused_last x (second b) e (half + u) (event_of (Some w) b e ++ past) ∙ refused_last w b e (half + u) past ∙ h.on1 k ∙ sym (refused_last w b e u mirror);
           good = h.good;

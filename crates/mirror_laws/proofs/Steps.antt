@@ -34,7 +34,8 @@ use Rattle.run_laws.specs.ShownRun.{HasBlock, HasCells, LiesOn}
 use Rattle.mirror_laws.specs.Mirror.{Mirror, accepted, asked, asks, fresh, marked, marks_after, marks_of}
 use Rattle.mirror_laws.specs.declared.marks.Marks.{Marks}
 use Rattle.mirror_laws.specs.OneGood.{IsUnnamed, Spares, on_leg}
-use Rattle.run_laws.proofs.Along.{AllFit, Fits, Marks as Stands, marks_after as stands_after, own_bare, own_small}
+use Rattle.run_laws.proofs.Along.{Marks as Stands, marks_after as stands_after, own_bare, own_small}
+use Rattle.run_laws.proofs.Counted.{AllFit, Fits}
 use Rattle.mirror_laws.proofs.Holds.{Follows, Has, elsewhere, here, near, on_medium, on_wire, place, second}
 use Rattle.run_laws.proofs.Layers.{checked}
 use Rattle.mirror_laws.proofs.Ways.{Expects, IsStored, accepted_expects, unnamed_stores}
@@ -134,6 +135,17 @@ module _ (m' : Setting) (opening : State) (half : ℕ) (count : ℕ → ℕ) (st
         (record { guard = ap (λ (t : Tuple). t.guard) tuple_there ∙ ap (guard_of m'.mode.kind) (sym body_there); rtag = ap (λ (t : Tuple). t.rtag) tuple_there })
         (subst (λ a. as_expected m a ≡ true) (sym app_there) e) free served (on_wire m' opening half count still b))
 
+  -- where each fault of a write to both legs is shown, both blocks are stored whole
+  both_whole : (b : Block) (app : ℕ) (body : List ℕ) (s : State) → detectable m (Writes b app body ∷ Writes (twin_of b) app body ∷ []) s ≡ true → (is_stored_whole m b ≡ true) × (is_stored_whole m (twin_of b) ≡ true)
+  both_whole b app body s d =
+      let first = step_shows m (Writes b app body) s in
+      let next = act (act_of m (Writes b app body)) s in
+      let p = and_parts first (detectable m (Writes (twin_of b) app body ∷ []) next) d in
+      let q = and_parts (step_shows m (Writes (twin_of b) app body) next) true p.1 in (
+        (and_parts (is_stored_whole m b) (shows_out m b (own_frame (route m b) app (gather 0 body s.bytes))) p.0).0,
+        (and_parts (is_stored_whole m (twin_of b)) (shows_out m (twin_of b) (own_frame (route m (twin_of b)) app (gather 0 body s.bytes))) q.0).0,
+      )
+
   -- The good leg of a write accepts what the other accepts.
   follows : (leg : Bool) (b : Block) (app : ℕ) (body : List ℕ) (s : State) → FitsMirror (Writes b app body) → NoneEscapes m (Writes b app body ∷ Writes (twin_of b) app body ∷ []) s →
       detectable m (Writes b app body ∷ Writes (twin_of b) app body ∷ []) s ≡ true → IsUnnamed m (on_leg leg b (twin_of b)) →
@@ -149,17 +161,10 @@ module _ (m' : Setting) (opening : State) (half : ℕ) (count : ℕ → ℕ) (st
     next = act (act_of m (Writes b app body)) s
 
     all : (is_stored_whole m b ≡ true) × (is_stored_whole m (twin_of b) ≡ true)
-    all =
-        let first = step_shows m (Writes b app body) s in
-        let next = act (act_of m (Writes b app body)) s in
-        let p = and_parts first (detectable m (Writes (twin_of b) app body ∷ []) next) d in
-        let q = and_parts (step_shows m (Writes (twin_of b) app body) next) true p.1 in (
-          (and_parts (is_stored_whole m b) (shows_out m b (own_frame (route m b) app (gather 0 body s.bytes))) p.0).0,
-          (and_parts (is_stored_whole m (twin_of b)) (shows_out m (twin_of b) (own_frame (route m (twin_of b)) app (gather 0 body s.bytes))) q.0).0,
-        )
+    all = both_whole b app body s d
 
     served : (c : Block) → is_stored_whole m c ≡ true → is_served m c ≡ true
-    served c h = (and_parts (is_served m c) (is_all (keep_of m.site.faults (route m c).label)) h).0
+    served c h = (and_parts (is_served m c) _ h).0
 
     both : (shows_out m b (own_frame (route m b) app (gather 0 body s.bytes)) ≡ true) × (shows_out m (twin_of b) (own_frame (route m (twin_of b)) app (gather 0 body s.bytes)) ≡ true)
     both =
@@ -225,6 +230,10 @@ module _ (m' : Setting) (opening : State) (half : ℕ) (count : ℕ → ℕ) (st
     below : b.virt < length s.marks
     below = let k = f.0 in omega (arith, k, z)
 
+    whole : (leg : Bool) → is_stored_whole m (on_leg leg b (twin_of b)) ≡ true
+    whole false = (both_whole b app body s.state d).0
+    whole true = (both_whole b app body s.state d).1
+
     by : (t : Bool) → eqb b.virt u ≡ t →
         HasIn u leg (marks_of (marks_after m half count (Writes b app body) s) u) (past_after m (asks m half count (Writes b app body) s) s.state past) (accepted m half count (Writes b app body) s ++ mirror)
     by true q =
@@ -234,7 +243,7 @@ module _ (m' : Setting) (opening : State) (half : ℕ) (count : ℕ → ℕ) (st
         ap (λ i. marks_of (set s.marks b.virt (marked w0 w1 (marks_of s.marks b.virt))) i) (sym same) ∙ get_or-set_same s.marks b.virt (marked w0 w1 (marks_of s.marks b.virt)) fresh below in
         subst (λ k. HasIn u leg k (past_after m (asks m half count (Writes b app body) s) s.state past) (accepted m half count (Writes b app body) s ++ mirror)) (sym there)
         (here m' opening half count still devices lies cells long u l b (record { body = gather 0 body s.state.bytes; app = app }) f.0 same leg w0 w1 (marks_of s.marks b.virt) past mirror
-        (follows leg b app body s.state f e d free) (free TargetToMedium) (subst (λ i. HasIn u leg (marks_of s.marks i) past mirror) (sym same) h))
+        (follows leg b app body s.state f e d free) (free TargetToMedium) (whole leg) (subst (λ i. HasIn u leg (marks_of s.marks i) past mirror) (sym same) h))
     by false q =
         let apart = eqb-false b.virt u q in
         subst (λ k. HasIn u leg k (past_after m (asks m half count (Writes b app body) s) s.state past) (accepted m half count (Writes b app body) s ++ mirror))

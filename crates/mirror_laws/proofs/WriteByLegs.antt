@@ -5,7 +5,7 @@ use Rattle.std.proofs.lemmas.List.{get_or-set_other, set_comm}
 use Rattle.page_pool.specs.declared.segs.Seg.{Seg}
 use Rattle.page_pool.specs.Cells.{gather, scatter}
 use Rattle.fault_schedule.specs.Altered.{shift_of}
-use Rattle.fault_schedule.specs.declared.fault.Crossing.TheVariants.{AdapterToTarget, MediumToTarget}
+use Rattle.fault_schedule.specs.declared.fault.Crossing.TheVariants.{AdapterToTarget, MediumToTarget, TargetToMedium}
 use Rattle.range_gate.specs.Cells.{cells_of}
 use Rattle.bio_core.specs.declared.fate.Why.{Why}
 use Rattle.block_path.specs.declared.route.Route.{Route}
@@ -96,7 +96,10 @@ module _ (m : Setting) where
 
 module _ (m : Setting) (half : ℕ) (legs : HasLegs m half) where
   pub stored_home : (b : Block) → stored_cell m.site (route m b) ≡ home m b.virt
-  stored_home b = ap (m.site.cell (route m b).dev) (unmoved m (route m b).lba (shift_of m.site.faults AdapterToTarget b.op) (ap nat_abs (legs.unshifted AdapterToTarget b.op)))
+  stored_home b =
+      ap (m.site.cell (route m b).dev)
+      (unmoved m (wire_lba m.site.faults (route m b)) (shift_of m.site.faults TargetToMedium b.op) (ap nat_abs (legs.unshifted TargetToMedium b.op))
+      ∙ unmoved m (route m b).lba (shift_of m.site.faults AdapterToTarget b.op) (ap nat_abs (legs.unshifted AdapterToTarget b.op)))
 
   pub fetched_home : (b : Block) → fetched_cell m.site (route m b) ≡ home m b.virt
   fetched_home b =

@@ -4,12 +4,12 @@ use Rattle.std.specs.Prelude.{ℤ, pos, negsuc, ◌+ℤ◌}
 use Rattle.std.proofs.lemmas.Bool.{ne_eqb, or_from}
 use Rattle.std.proofs.lemmas.Int.{ints}
 use Rattle.fault_schedule.specs.Altered.{shift_of}
-use Rattle.fault_schedule.specs.declared.fault.Crossing.TheVariants.{AdapterToTarget}
+use Rattle.fault_schedule.specs.declared.fault.Crossing.TheVariants.{AdapterToTarget, TargetToMedium}
 use Rattle.page_pool.specs.declared.segs.Seg.{Seg}
 use Rattle.page_pool.specs.Cells.{share_a_cell}
 use Rattle.range_gate.specs.Cells.{cells_of}
 use Rattle.integrity_payload.specs.declared.payload.Owner.TheVariants.{Block as OfBlock, App as OfApp}
-use Rattle.walk_laws.specs.Passed.{Op, Fetch, FetchPi, Fill, Overwrite, Put, Seal, Show, Wait, Write, WritePi, Act, conflict, ActAnswer, stored_cell, wire_lba, place_in, volume_len, DeviceInfo}
+use Rattle.walk_laws.specs.Passed.{Op, Fetch, FetchPi, Fill, Overwrite, Put, Seal, Show, Wait, Write, WritePi, Act, conflict, ActAnswer, stored_cell, stored_lba, place_in, volume_len, DeviceInfo}
 use Rattle.walk_laws.proofs.Passed.{AllBelow, below, distinct, share_back}
 use Rattle.walk_laws.specs.Settings.{Block, Setting, block_of, route}
 use Rattle.walk_laws.specs.Steps.{Reads, Step, Writes, WritesPi, body_of, each_from, frame_at}
@@ -196,20 +196,23 @@ still_apart m i v n one s w j k l u e =
     omega (arith, x)
 
 -- nor are two of a request that is shifted and stays on its devices
-same_lba : (a b w : ℕ) (z : ℤ) → pos w ≡ pos a +ℤ z → pos w ≡ pos b +ℤ z → a ≡ b
-same_lba a b w (pos n) e f = omega (arith, ints, e, f)
-same_lba a b w (negsuc n) e f = omega (arith, ints, e, f)
+same_lba : (a b w : ℕ) (y z : ℤ) → pos w ≡ (pos a +ℤ y) +ℤ z → pos w ≡ (pos b +ℤ y) +ℤ z → a ≡ b
+same_lba a b w (pos n) (pos k) e f = omega (arith, ints, e, f)
+same_lba a b w (pos n) (negsuc k) e f = omega (arith, ints, e, f)
+same_lba a b w (negsuc n) (pos k) e f = omega (arith, ints, e, f)
+same_lba a b w (negsuc n) (negsuc k) e f = omega (arith, ints, e, f)
 
 pub shifted_apart : (m : Setting) (devices : List DeviceInfo) (image : List (List ℕ)) (i v n : ℕ) → LiesOn m devices → HasCells m devices image → v + n ≤ volume_len m.entries →
-    ((k : ℕ) → k < n → let r = route m (block_of i v k) in (pos (wire_lba m.site.faults r) ≡ pos r.lba +ℤ shift_of m.site.faults AdapterToTarget i) × HasBlock m devices r.dev (wire_lba m.site.faults r)) →
+    ((k : ℕ) → k < n → let r = route m (block_of i v k) in
+    (pos (stored_lba m.site.faults r) ≡ (pos r.lba +ℤ shift_of m.site.faults AdapterToTarget i) +ℤ shift_of m.site.faults TargetToMedium i) × HasBlock m devices r.dev (stored_lba m.site.faults r)) →
     (j k : ℕ) → j < n → k < n → stored_cell m.site (route m (block_of i v j)) ≡ stored_cell m.site (route m (block_of i v k)) → j ≡ k
 shifted_apart m devices image i v n lies cells w on j k l u e =
     let p = on j l in
     let q = on k u in
     let r = route m (block_of i v j) in
     let t = route m (block_of i v k) in
-    let same = cells.apart r.dev (wire_lba m.site.faults r) t.dev (wire_lba m.site.faults t) p.1 q.1 e in
-    let lba = same_lba r.lba t.lba (wire_lba m.site.faults t) (shift_of m.site.faults AdapterToTarget i) (sym (ap pos same.1) ∙ p.0) q.0 in
+    let same = cells.apart r.dev (stored_lba m.site.faults r) t.dev (stored_lba m.site.faults t) p.1 q.1 e in
+    let lba = same_lba r.lba t.lba (stored_lba m.site.faults t) (shift_of m.site.faults AdapterToTarget i) (shift_of m.site.faults TargetToMedium i) (sym (ap pos same.1) ∙ p.0) q.0 in
     let place : place_in m.entries (v + j) ≡ place_in m.entries (v + k) = λ x. (same.0 x, lba x) in
     let alone = lies.alone (v + j) (v + k) (omega (arith, w, l)) (omega (arith, w, u)) place in
     omega (arith, alone)

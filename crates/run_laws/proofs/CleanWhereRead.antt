@@ -15,8 +15,12 @@ module _ (m : Setting) (devices : List DeviceInfo) (image : List (List ℕ)) whe
   pub on_clean_devices : DevicesAreClean m devices image → AreCleanWhereRead m devices image
   on_clean_devices clean b l on = clean b.virt (medium_lba m.site.faults (route m b)) l on
 
-  pub on_clean_volume : is_zero m.ty ≡ false → ((at : Crossing) (op : ℕ) → shift_of m.site.faults at op ≡ pos 0) → AreClean m image → AreCleanWhereRead m devices image
-  on_clean_volume tuples still clean b l on =
-      let wire = unmoved m (route m b).lba (shift_of m.site.faults AdapterToTarget b.op) (ap nat_abs (still AdapterToTarget b.op)) in
-      let home = unmoved m (wire_lba m.site.faults (route m b)) (shift_of m.site.faults MediumToTarget b.op) (ap nat_abs (still MediumToTarget b.op)) ∙ wire in
+  -- no shift of what is read
+  pub on_read_volume : is_zero m.ty ≡ false → ((op : ℕ) → shift_of m.site.faults AdapterToTarget op ≡ pos 0) → ((op : ℕ) → shift_of m.site.faults MediumToTarget op ≡ pos 0) → AreClean m image → AreCleanWhereRead m devices image
+  on_read_volume tuples sent fetched clean b l on =
+      let wire = unmoved m (route m b).lba (shift_of m.site.faults AdapterToTarget b.op) (ap nat_abs (sent b.op)) in
+      let home = unmoved m (wire_lba m.site.faults (route m b)) (shift_of m.site.faults MediumToTarget b.op) (ap nat_abs (fetched b.op)) ∙ wire in
       subst (λ (a : ℕ). IsClean m a (get_or image (m.site.cell (route m b).dev a) [])) (sym home) (clean b.virt l tuples)
+
+  pub on_clean_volume : is_zero m.ty ≡ false → ((at : Crossing) (op : ℕ) → shift_of m.site.faults at op ≡ pos 0) → AreClean m image → AreCleanWhereRead m devices image
+  on_clean_volume tuples still clean = on_read_volume tuples (still AdapterToTarget) (still MediumToTarget) clean

@@ -25,7 +25,7 @@ use Rattle.walk_laws.specs.Settings.{Block, Setting, route}
 use Rattle.walk_laws.specs.Steps.{Alters, Reads, Seals, Sets, Shows, Step, Writes, WritesPi, steps_of}
 use Rattle.walk_laws.specs.UnderMap.{AreClean, IsClean, home}
 use Rattle.walk_laws.proofs.CalmRuns.{op_meets, silent_form}
-use Rattle.walk_laws.proofs.CalmWays.{is_right, quiet, read_same, wire_same}
+use Rattle.walk_laws.proofs.CalmWays.{is_right, quiet, read_same}
 use Rattle.walk_laws.proofs.PlainSteps.{AllMeet, Meets}
 use Rattle.walk_laws.proofs.TupleFrames.{Small, data_is, tuple_is}
 use Rattle.run_laws.specs.StoreFaults.{IsFallingRun, IsServed, LandsAs, events_when, failing, fallen, falling_past, falling_walk, is_lost, leaving, may_fall, or_fallen, over_failing}
@@ -70,7 +70,7 @@ module _ (m' : Setting) (opening : State) (falls : Block → Option (List ℕ)) 
     kept : (a : Block) → a.virt < count → is_lost a past ≡ false → KeptAt a (get_or blocks (place a) []) (last_accepted m opening a past)
 
   its_place : (b : Block) → goes_to b ≡ place b
-  its_place b = ap (m'.site.cell (route m b).dev) (wire_same m' b protect m'.mode.dix m'.mode.dif m'.ty)
+  its_place b = ap (m'.site.cell (route m b).dev) (read_same m' b protect m'.mode.dix m'.mode.dif m'.ty)
 
   same_home : (a b : Block) → b.virt ≡ a.virt → place b ≡ place a
   same_home a b e = ap (home m) e

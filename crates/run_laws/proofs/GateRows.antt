@@ -6,10 +6,10 @@ use Rattle.std.proofs.lemmas.List.Elements.{All-nil}
 use Rattle.pi_tuple.specs.declared.checks.PiType.TheVariants.{One}
 use Rattle.page_pool.specs.Places.{run}
 use Rattle.fault_schedule.specs.Altered.{shift_of}
-use Rattle.fault_schedule.specs.declared.fault.Crossing.TheVariants.{AdapterToTarget}
+use Rattle.fault_schedule.specs.declared.fault.Crossing.TheVariants.{AdapterToTarget, TargetToMedium}
 use Rattle.range_gate.specs.declared.footprint.Reach.{Reach}
 use Rattle.range_gate.specs.declared.footprint.Touch.{Touch}
-use Rattle.walk_laws.specs.Passed.{Op, Write, wire_lba, place_in, DeviceInfo}
+use Rattle.walk_laws.specs.Passed.{Op, Write, stored_lba, place_in, DeviceInfo}
 use Rattle.walk_laws.specs.Settings.{Setting, block_of, route}
 use Rattle.walk_laws.specs.UnderMap.{home}
 use Rattle.walk_laws.proofs.ScriptRows.{faulty, opening, seg, shift}
@@ -139,7 +139,7 @@ cells = record {
   size = λ dev lba h. sizes lba (below_five dev lba h).1;
 }
 
-leads_inside : (k : ℕ) → k < 2 → let r = route shifted (block_of 1 0 k) in (pos (wire_lba shifted.site.faults r) ≡ pos r.lba +ℤ shift_of shifted.site.faults AdapterToTarget 1) × HasBlock shifted devices r.dev (wire_lba shifted.site.faults r)
+leads_inside : (k : ℕ) → k < 2 → let r = route shifted (block_of 1 0 k) in (pos (stored_lba shifted.site.faults r) ≡ (pos r.lba +ℤ shift_of shifted.site.faults AdapterToTarget 1) +ℤ shift_of shifted.site.faults TargetToMedium 1) × HasBlock shifted devices r.dev (stored_lba shifted.site.faults r)
 leads_inside zero l = (refl, at_lba 3 (omega arith))
 leads_inside (suc zero) l = (refl, at_lba 4 (omega arith))
 leads_inside (suc (suc k)) l = absurd (omega (arith, l))

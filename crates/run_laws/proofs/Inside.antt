@@ -4,12 +4,12 @@ use Rattle.std.specs.Prelude.{pos, negsuc, ℤ, nat_abs}
 use Rattle.std.proofs.lemmas.Bool.{eqb-true, false≢true, not-false, or_parts}
 use Rattle.std.proofs.lemmas.List.{append-nil, drop_at}
 use Rattle.fault_schedule.specs.Altered.{shift_of}
-use Rattle.fault_schedule.specs.declared.fault.Crossing.TheVariants.{AdapterToTarget, MediumToTarget}
+use Rattle.fault_schedule.specs.declared.fault.Crossing.TheVariants.{AdapterToTarget, MediumToTarget, TargetToMedium}
 use Rattle.page_pool.specs.declared.segs.Seg.{Seg}
 use Rattle.page_pool.specs.Cells.{is_in}
 use Rattle.range_gate.specs.Cells.{Cells, block_cells, cells_of, in_turn}
 use Rattle.integrity_payload.specs.declared.payload.Owner.TheVariants.{Block as OfBlock, App as OfApp}
-use Rattle.walk_laws.specs.Passed.{Op, Fetch, FetchPi, Fill, Overwrite, Put, Seal, Show, Wait, Write, WritePi, cells_touched, is_alone, put_seg, reach_of, fetched_cell, stored_cell, moved, wire_lba}
+use Rattle.walk_laws.specs.Passed.{Op, Fetch, FetchPi, Fill, Overwrite, Put, Seal, Show, Wait, Write, WritePi, cells_touched, is_alone, put_seg, reach_of, fetched_cell, stored_cell, moved, stored_lba, wire_lba}
 use Rattle.walk_laws.specs.Settings.{Block, Setting, block_of, route}
 use Rattle.walk_laws.specs.Steps.{Reads, Seals, Step, Writes, WritesPi, body_of, each_from, frame_at, tuple_of}
 use Rattle.walk_laws.specs.UnderMap.{home}
@@ -37,13 +37,19 @@ module _ (m : Setting) (b : Block) (h : is_shifted m b.op ≡ false) where
   wire_still = still_is (shift_of m.site.faults AdapterToTarget b.op) (or_parts _ _ h).0
 
   medium_still : shift_of m.site.faults MediumToTarget b.op ≡ pos 0
-  medium_still = still_is (shift_of m.site.faults MediumToTarget b.op) (or_parts _ _ h).1
+  medium_still = still_is (shift_of m.site.faults MediumToTarget b.op) (or_parts _ _ (or_parts _ _ h).1).0
+
+  store_still : shift_of m.site.faults TargetToMedium b.op ≡ pos 0
+  store_still = still_is (shift_of m.site.faults TargetToMedium b.op) (or_parts _ _ (or_parts _ _ h).1).1
 
   wire_is : wire_lba m.site.faults (route m b) ≡ (route m b).lba
   wire_is = ap (moved (route m b).lba) wire_still ∙ unmoved (route m b).lba
 
+  stored_is : stored_lba m.site.faults (route m b) ≡ (route m b).lba
+  stored_is = ap (λ a. moved a (shift_of m.site.faults TargetToMedium b.op)) wire_is ∙ ap (moved (route m b).lba) store_still ∙ unmoved (route m b).lba
+
   pub stored_home : stored_cell m.site (route m b) ≡ home m b.virt
-  stored_home = ap (m.site.cell (route m b).dev) wire_is
+  stored_home = ap (m.site.cell (route m b).dev) stored_is
 
   pub fetched_home : fetched_cell m.site (route m b) ≡ home m b.virt
   fetched_home =

@@ -18,7 +18,7 @@ use Rattle.fault_schedule.specs.declared.fault.Crossing.{Crossing}
 use Rattle.fault_schedule.specs.declared.fault.Crossing.TheVariants.{AdapterToHost, AdapterToTarget, HostToAdapter, MediumToTarget, TargetToAdapter, TargetToMedium}
 use Rattle.integrity_payload.specs.Payloads.{all_asked}
 use Rattle.integrity_payload.specs.declared.payload.Owner.{Owner}
-use Rattle.walk_laws.specs.Passed.{data_of, tuple_of, found_in, from_medium, then_crossed, to_medium, unless, by_target, converted, is_crc, medium_lba, moved, passage, sends_unless, target, wire_lba, with_guard, Delivers, Spoils, Stops, WayIn, at_host, delivered_unless, from_device, from_wire, mapped_back, owner_says, received, verified, way_in, Fails, Refuses, Stores, WayOut, adapter_finds_out, at_device, from_adapter, mapped_out, sent, to_wire, way_out, Why, Adapter, Target}
+use Rattle.walk_laws.specs.Passed.{data_of, tuple_of, found_in, from_medium, then_crossed, to_medium, unless, by_target, converted, is_crc, medium_lba, moved, passage, sends_unless, stored_lba, target, wire_lba, with_guard, Delivers, Spoils, Stops, WayIn, at_host, delivered_unless, from_device, from_wire, mapped_back, owner_says, received, verified, way_in, Fails, Refuses, Stores, WayOut, adapter_finds_out, at_device, from_adapter, mapped_out, sent, to_wire, way_out, Why, Adapter, TheVariantsMedium as OfMedium, Target}
 use Rattle.walk_laws.proofs.Passed.{altered_length, as_crc, as_ip, stored_or}
 use Rattle.walk_laws.specs.Detectable.{arrives, asks_app, bears, bears_some, crossed, found, guard_at, if_passed, is_foreign, is_not_meant, shows, shows_at_medium, shows_in, shows_on_wire, shows_out}
 use Rattle.walk_laws.specs.FirstLayer.{AtAdapter, AtOwner, AtTarget, Layer, has_flip, has_shift, is_served}
@@ -47,11 +47,11 @@ pub same_brought : {x y : List ℕ} {n k : ℕ} → x ≡ y → n ≡ k → ◌�
 same_brought p q = cc
 
 -- an address after a shift of 0 is the same; after another one it has another tag
-shifted : (w a : ℕ) (z : ℤ) → nat_abs z ≤ 64 → pos w ≡ pos a +ℤ z → (nat_abs z ≡ 0 → w ≡ a) × (ref_tag w ≡ ref_tag a → nat_abs z ≡ 0)
+pub shifted : (w a : ℕ) (z : ℤ) → nat_abs z ≤ 64 → pos w ≡ pos a +ℤ z → (nat_abs z ≡ 0 → w ≡ a) × (ref_tag w ≡ ref_tag a → nat_abs z ≡ 0)
 shifted w a (pos n) near above = let e : w ≡ a + n = omega (arith, ints, above) in ((λ h. omega (arith, e, h)), (λ h. omega (arith, e, h, near)))
 shifted w a (negsuc n) near above = let e : w + suc n ≡ a = omega (arith, ints, above) in ((λ h. omega (arith, h)), (λ h. omega (arith, e, h, near)))
 
-must : (c r : Bool) → (not c || r) ≡ true → c ≡ true → r ≡ true
+pub must : (c r : Bool) → (not c || r) ≡ true → c ≡ true → r ≡ true
 must true r d h = d
 must false r d h = absurd (false≢true h)
 
@@ -194,6 +194,14 @@ module _ (m' : Setting) where
   wire_is : (b : Block) → StaysNear m b → has_shift m b AdapterToTarget ≡ false → wire b ≡ lba b
   wire_is b r h = (shifted (wire b) (lba b) (shift_of m'.site.faults AdapterToTarget b.op) r.near r.above).0 (no_shift_is b AdapterToTarget h)
 
+  pub unmoved : (a : ℕ) (z : ℤ) → nat_abs z ≡ 0 → moved a z ≡ a
+  unmoved a (pos k) h = omega (arith, h)
+  unmoved a (negsuc k) h = absurd (omega (arith, h))
+
+  -- where a write whose address stays on the wire is stored
+  pub stored_is : (b : Block) → wire b ≡ lba b → has_shift m b TargetToMedium ≡ false → stored_lba m'.site.faults (route m b) ≡ lba b
+  stored_is b e h = unmoved (wire b) (shift_of m'.site.faults TargetToMedium b.op) (no_shift_is b TargetToMedium h) ∙ e
+
   wire_by_tag : (b : Block) → StaysNear m b → ref_tag (wire b) ≡ ref_tag (lba b) → wire b ≡ lba b
   wire_by_tag b r h = let s = shifted (wire b) (lba b) (shift_of m'.site.faults AdapterToTarget b.op) r.near r.above in s.0 (s.1 h)
 
@@ -282,6 +290,12 @@ module _ (m' : Setting) where
       let came = by_target (from_medium m'.site.faults (passage m'.site.faults (route m b)) stored) in
       ap (λ c. verified (route m b) owner (from_device m'.site.faults (route m b) (sends_unless c came))) (not-true (fails_of m'.site.faults (route m b).label) h)
 
+  -- and one that a line says it does
+  pub unserved : (b : Block) (owner : Owner) (stored : List ℕ) → is_served m b ≡ false → go_in b owner stored ≡ Stops OfMedium
+  unserved b owner stored h =
+      let came = by_target (from_medium m'.site.faults (passage m'.site.faults (route m b)) stored) in
+      ap (λ c. verified (route m b) owner (from_device m'.site.faults (route m b) (sends_unless c came))) (not-false (fails_of m'.site.faults (route m b).label) h)
+
   stops_at_target : (b : Block) (owner : Owner) (stored : List ℕ) → is_served m b ≡ true → (h : IsFound (found m b stored AtTarget)) → go_in b owner stored ≡ Stops (Target h.check)
   unfolding from_medium
   stops_at_target b owner stored k h = served b owner stored k ∙ ap (λ o. came_in b owner stored (unless o (arrives m b stored AtTarget))) h.is
@@ -320,10 +334,6 @@ module _ (m' : Setting) where
   fetched_escape : (b : Block) (hit : Bool) (stored : List ℕ) → Fetched b hit stored → is_escaped One (tuple_of n stored) ≡ false
   fetched_escape b true stored h = (h.spoilt refl).escape
   fetched_escape b false stored h = (h.sound refl).bare.escape
-
-  pub unmoved : (a : ℕ) (z : ℤ) → nat_abs z ≡ 0 → moved a z ≡ a
-  unmoved a (pos k) h = omega (arith, h)
-  unmoved a (negsuc k) h = absurd (omega (arith, h))
 
   read_is : (b : Block) → has_shift m b MediumToTarget ≡ false → medium b ≡ wire b
   read_is b h = unmoved (wire b) (shift_of m'.site.faults MediumToTarget b.op) (no_shift_is b MediumToTarget h)

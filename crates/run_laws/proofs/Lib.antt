@@ -5,6 +5,7 @@ pub mod Behind
 pub mod Between
 pub mod BlocksApart
 pub mod CleanWhereRead
+pub mod Counted
 mod Does
 mod Earlier
 mod FallRows
@@ -28,6 +29,7 @@ pub mod OwnRecord
 pub mod Parts
 pub mod Passed
 pub mod Passing
+mod Placing
 mod QuietWays
 mod Reach
 pub mod Reading

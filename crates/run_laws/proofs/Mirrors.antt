@@ -8,7 +8,7 @@ use Rattle.fault_schedule.specs.declared.fault.Crossing.TheVariants.{AdapterToHo
 use Rattle.fault_schedule.specs.declared.fault.FaultLine.{FaultLine}
 use Rattle.integrity_payload.specs.declared.payload.Owner.{Owner}
 use Rattle.integrity_payload.specs.declared.payload.Owner.TheVariants.{Block as OfBlock, App as OfApp}
-use Rattle.walk_laws.specs.Passed.{Reply, then_crossed, unless, Act, Effect, State, act, effect, seen, tell, ActAnswer, Sent, own_frame, read_block, read_by, stored_over, tuple_after, write_block, write_block_of_app, written_by, Route, medium_lba, told_by, wire_lba, Delivers, Spoils, Stops, WayIn, adapter_finds_in, at_host, delivered_unless, from_device, from_wire, owner_finds, owner_says, received, verified, way_in, Stores, WayOut, adapter_finds_out, from_adapter, goes_out, mapped_out, to_wire, Why, Adapter}
+use Rattle.walk_laws.specs.Passed.{Reply, then_crossed, unless, Act, Effect, State, act, effect, seen, tell, ActAnswer, Sent, own_frame, read_block, read_by, stored_over, tuple_after, write_block, write_block_of_app, written_by, Route, medium_lba, told_by, stored_lba, Delivers, Spoils, Stops, WayIn, adapter_finds_in, at_host, delivered_unless, from_device, from_wire, owner_finds, owner_says, received, verified, way_in, Stores, WayOut, adapter_finds_out, from_adapter, goes_out, mapped_out, to_wire, Why, Adapter}
 use Rattle.walk_laws.proofs.Passed.{over_whole}
 use Rattle.walk_laws.specs.ScriptWalk.{act_of}
 use Rattle.walk_laws.specs.Settings.{Setting, route}
@@ -253,14 +253,14 @@ module _ (m : Setting) (es : List Sent) where
       let frame = own_frame r app (gather 0 body s.bytes) in
       let log = get_or s.logs (m.site.cell r.dev r.lba) [] in
       by_effects m es a (λ seen. written_by r (taken_out m.site.faults r (listed_in reply b.k) (own_frame r app seen.bytes)) [] (get_or seen.logs 0 [])) s
-      (subst (λ why. Mirrors m es (effect a s) (written_by r (taken_out m.site.faults r why frame) [] log)) (sym says) (over_mirrors m es r (get_or s.blocks (m.site.cell r.dev (wire_lba m.site.faults r)) []) frame [] log f))
+      (subst (λ why. Mirrors m es (effect a s) (written_by r (taken_out m.site.faults r why frame) [] log)) (sym says) (over_mirrors m es r (get_or s.blocks (m.site.cell r.dev (stored_lba m.site.faults r)) []) frame [] log f))
   mirrored reply (WritesPi b at) s f says =
       let r = route m b in
       let a = write_block_of_app (told m es).site r at in
       let frame = gather 0 at s.bytes in
       let log = get_or s.logs (m.site.cell r.dev r.lba) [] in
       by_effects m es a (λ seen. written_by r (taken_out m.site.faults r (listed_in reply b.k) seen.bytes) (tuple_after r (drop m.size seen.bytes)) (get_or seen.logs 0 [])) s
-      (subst (λ why. Mirrors m es (effect a s) (written_by r (taken_out m.site.faults r why frame) (tuple_after r (drop m.size frame)) log)) (sym says) (over_mirrors m es r (get_or s.blocks (m.site.cell r.dev (wire_lba m.site.faults r)) []) frame (tuple_after r (drop m.size frame)) log f))
+      (subst (λ why. Mirrors m es (effect a s) (written_by r (taken_out m.site.faults r why frame) (tuple_after r (drop m.size frame)) log)) (sym says) (over_mirrors m es r (get_or s.blocks (m.site.cell r.dev (stored_lba m.site.faults r)) []) frame (tuple_after r (drop m.size frame)) log f))
   mirrored reply (Reads b owner to) s f says =
       let r = route m b in
       let a = read_block (told m es).site r owner to in

@@ -1,26 +1,27 @@
 -- From blocks to ops: what a reply lists, and what a read leaves in the pages.
-use Rattle.std.proofs.Common.{◌≡◌, ◌<◌, ◌≤◌, ℕ, zero, suc, ◌+◌, ◌-◌, ◌*◌, ◌%◌, ◌^◌, true, List, [], ◌∷◌, ◌++◌, length, map, get_or, take, Option, Some, None, refl, sym, ap, subst, ◌∙◌, arith}
-use Rattle.std.proofs.lemmas.Bool.{false≢true}
+use Rattle.std.proofs.Common.{◌≡◌, ◌<◌, ◌≤◌, ℕ, zero, suc, ◌+◌, ◌-◌, ◌*◌, ◌%◌, ◌^◌, Bool, true, false, ◌&&◌, List, [], ◌∷◌, ◌++◌, length, map, get_or, take, Option, Some, None, refl, sym, ap, subst, ◌∙◌, arith}
+use Rattle.std.proofs.lemmas.Bool.{and_parts, false≢true}
 use Rattle.std.proofs.lemmas.List.{append_assoc, append-nil, take-take, take_all}
 use Rattle.page_pool.specs.declared.segs.Seg.{Seg}
 use Rattle.page_pool.specs.Cells.{gather, scatter}
 use Rattle.page_pool.specs.Places.{total}
 use Rattle.integrity_payload.specs.declared.payload.Owner.{Owner}
 use Rattle.integrity_payload.specs.declared.payload.Owner.TheVariants.{Block as OfBlock, App as OfApp}
-use Rattle.walk_laws.specs.Passed.{Op, Fetch, FetchPi, Fill, Overwrite, Put, Seal, Show, Wait, Write, WritePi, Silent, data_of, tuple_of as tuple_in_frame, State, act, tell, ActAnswer, fetched_cell, plain, plain_tells, DeviceInfo}
+use Rattle.walk_laws.specs.Passed.{Why, Op, Fetch, FetchPi, Fill, Overwrite, Put, Seal, Show, Wait, Write, WritePi, Silent, data_of, tuple_of as tuple_in_frame, State, act, tell, ActAnswer, fetched_cell, plain, plain_tells, DeviceInfo}
 use Rattle.range_gate.specs.Cells.{cells_of}
 use Rattle.walk_laws.proofs.Passed.{AllBelow, Distinct, below, distinct}
-use Rattle.walk_laws.specs.Detectable.{detectable, found}
-use Rattle.walk_laws.specs.FirstLayer.{Layer, first_layer, last_accepted}
+use Rattle.walk_laws.specs.Detectable.{accounted, detectable, found, shows_in, step_shows}
+use Rattle.walk_laws.specs.FirstLayer.{Layer, first_layer, is_at_home, is_served, last_counted}
 use Rattle.walk_laws.specs.Past.{Event, events_of, past_after, steps_from}
 use Rattle.walk_laws.specs.ScriptWalk.{act_of, acts_of, replies_from, reply_of, request_reply, script_replies, script_walk, walk_from}
 use Rattle.walk_laws.specs.Settings.{Block, Setting, block_of, route}
 use Rattle.walk_laws.specs.Steps.{Reads, Seals, Step, Writes, WritesPi, body_of, each_from, frame_at, steps_of, tuple_of}
 use Rattle.walk_laws.specs.UnderMap.{NoEscape, NoneEscapes}
 use Rattle.walk_laws.proofs.CalmRuns.{frame_length, part_length}
-use Rattle.walk_laws.specs.ReadsAs.{ReadsAs, ReadsRightly, landing, listed_in, read_op, takes_tuples}
-use Rattle.run_laws.specs.ShownRun.{AllBind, Binds, IsChecked, IsShownRun}
-use Rattle.run_laws.proofs.Along.{AllFit, EndsAs, Fits, reads_after}
+use Rattle.walk_laws.specs.ReadsAs.{ReadsAs, ReadsRightly, ReadsStored, ReadsWhereServed, landing, listed_in, read_op, takes_tuples}
+use Rattle.run_laws.specs.ShownRun.{AllBind, AreCleanWhereRead, Binds, HasCells, IsAccountedRun, IsChecked, IsShownRun, LiesOn}
+use Rattle.run_laws.proofs.Placing.{all_accounted, all_placed, ops_placed}
+use Rattle.run_laws.proofs.Counted.{AllFit, AllPlaced, EndsAs, EndsWhereServed, Fits, reads_after}
 use Rattle.run_laws.proofs.Layers.{checked}
 use Rattle.run_laws.proofs.Parts.{block_below, block_distinct, block_fits, blocks_apart, landed, lists_of}
 use Rattle.walk_laws.proofs.InSteps.{acts_stepped, each_length, each_split, is_listed, later_blocks, read_reply, read_steps, same_pages, stepped, stepped_append, steps_split, tells_at}
@@ -152,7 +153,7 @@ module _ (m : Setting) (devices : List DeviceInfo) where
   }
 
 module _ (m' : Setting) (devices : List DeviceInfo) (before after : List Op) (owner : Owner) (v n k : ℕ) (body tuples : List Seg) (opening : State) (l : k < n)
-    (run : IsShownRun (checked m') devices (before ++ (read_op owner v n body tuples ∷ after)) opening) where
+    (counts : Block → Bool) (lies : LiesOn (checked m') devices) (cells : HasCells (checked m') devices opening.blocks) (bind : AllBind (checked m') devices (length opening.bytes) 1 (before ++ (read_op owner v n body tuples ∷ after))) where
   abbrev m : Setting
   m = checked m'
 
@@ -223,7 +224,7 @@ module _ (m' : Setting) (devices : List DeviceInfo) (before after : List Op) (ow
       ∙ ap (λ (a : ActAnswer). a.why) (tells_at (act_of m) (each_from 0 k f) (f k) later s k (each_length 0 k f))
 
   read_lands : Lands m devices (length opening.bytes) owner n body tuples
-  read_lands = lands m devices (length opening.bytes) (1 + length before) owner v n body tuples (bind_at m devices (length opening.bytes) 1 before op after run.bind)
+  read_lands = lands m devices (length opening.bytes) (1 + length before) owner v n body tuples (bind_at m devices (length opening.bytes) 1 before op after bind)
 
   -- what stands in the pages where a frame landed
   arrived : (frame : List ℕ) → length frame ≡ m.size + 8 → (act (act_of m (f k)) here).bytes ≡ scatter to frame here.bytes → gather 0 to (script_walk m (before ++ (op ∷ [])) opening).bytes ≡ take (length to) frame
@@ -236,23 +237,36 @@ module _ (m' : Setting) (devices : List DeviceInfo) (before after : List Op) (ow
       (subst (λ p. AllBelow p to) (sym pages) (block_below m.size body tuples owner (length opening.bytes) k read_lands.below_end))
       (let t = block_fits m.size owner body tuples k in omega (arith, t, size))
 
-  reads_so : EndsAs m b owner to (first_layer m past b) (last_accepted m opening b past) here
-  reads_so =
+  abbrev ops : List Op
+  ops = before ++ (op ∷ after)
+
+  -- what each block of a write has, and what is asked of the run
+  abbrev pub Lasts : List Step → Type 0
+  Lasts steps = AllPlaced m' devices lies opening cells counts steps
+
+  reads_so : Lasts (steps_from m 1 ops) → NoEscape m 1 ops opening → accounted m (steps_from m 1 ops) opening ≡ true → AreCleanWhereRead m devices opening.blocks →
+      EndsWhereServed m' devices lies opening cells counts (is_served m b) b owner to past here
+  reads_so placed no_escape all clean =
       let rest = later ++ steps_from m (suc (1 + length before)) after in
-      let ops = before ++ (op ∷ after) in
-      let known = reads_after m' devices run.lies opening run.cells earlier rest b owner to
-      (subst (AllFit m devices) at_block (ops_fit m devices (length opening.bytes) 1 ops run.bind))
-      (subst (λ steps. NoneEscapes m steps opening) at_block (none_escapes m 1 ops opening run.no_escape))
-      (subst (λ steps. detectable m steps opening ≡ true) at_block run.shown)
-      run.clean in
-      subst (λ c. EndsAs m b owner to (first_layer m past b) (last_accepted m opening b past) c) walked
-      (subst (λ p. EndsAs m b owner to (first_layer m p b) (last_accepted m opening b p) (steps_walk m earlier opening)) happened known)
+      let known = reads_after m' devices lies opening cells counts earlier rest b owner to
+      (subst (AllFit m devices) at_block (ops_fit m devices (length opening.bytes) 1 ops bind))
+      (subst Lasts at_block placed)
+      (subst (λ steps. NoneEscapes m steps opening) at_block (none_escapes m 1 ops opening no_escape))
+      (subst (λ steps. accounted m steps opening ≡ true) at_block all)
+      clean in
+      subst (λ c. EndsWhereServed m' devices lies opening cells counts (is_served m b) b owner to past c) walked
+      (subst (λ p. EndsWhereServed m' devices lies opening cells counts (is_served m b) b owner to p (steps_walk m earlier opening)) happened known)
+
+  abbrev listed : Option Why
+  listed = listed_in (get_or (script_replies m ops opening) (length before) Silent) k
+
+  abbrev landed_there : List ℕ
+  landed_there = gather 0 to (script_walk m (before ++ (op ∷ [])) opening).bytes
 
   abbrev Result : Option Layer → Type 0
-  Result o = ReadsAs m b owner o (last_accepted m opening b past) s.blocks (listed_in (get_or (script_replies m (before ++ (op ∷ after)) opening) (length before) Silent) k)
-      (gather 0 to (script_walk m (before ++ (op ∷ [])) opening).bytes)
+  Result o = ReadsAs m b owner o (last_counted counts m opening b past) s.blocks listed landed_there
 
-  convert : (o : Option Layer) → EndsAs m b owner to o (last_accepted m opening b past) here → Result o
+  convert : (o : Option Layer) → EndsAs m b owner to o (last_counted counts m opening b past) here → Result o
   convert (Some layer) r = record {
     check = r.check;
     is_found = ap (λ blocks. found m b (get_or blocks (fetched_cell m.site (route m b)) []) layer) (sym same_blocks) ∙ r.is_found;
@@ -271,12 +285,36 @@ module _ (m' : Setting) (devices : List DeviceInfo) (before after : List Op) (ow
       takes_all OfBlock h lands = absurd (false≢true h)
       takes_all OfApp h lands = let p = frame_length m.size body tuples k n lands.long (lands.tuples_long refl) l in omega (arith, p)
 
-  pub reads_rightly : ReadsRightly m before owner v n body tuples after opening k
-  reads_rightly = convert (first_layer m past b) reads_so
+  pub served_reads : (served : Bool) → EndsWhereServed m' devices lies opening cells counts served b owner to past here → ReadsWhereServed served m b owner (first_layer m past b) (last_counted counts m opening b past) s.blocks listed landed_there
+  served_reads true r = convert (first_layer m past b) r
+  served_reads false r = why_is ∙ r
+
+  -- where each fault can be shown, each read is served
+  step_is : detectable m (steps_from m 1 ops) opening ≡ true → is_served m b ≡ true
+  step_is shown = at_step earlier opening (subst (λ steps. detectable m steps opening ≡ true) at_block shown) where
+    at_step : (earlier : List Step) (s : State) → detectable m (earlier ++ (f k ∷ (later ++ steps_from m (suc (1 + length before)) after))) s ≡ true → is_served m b ≡ true
+    at_step [] s h =
+        (and_parts (is_served m b) (shows_in m b (get_or s.blocks (fetched_cell m.site (route m b)) []))
+        (and_parts (step_shows m (f k) s) (detectable m (later ++ steps_from m (suc (1 + length before)) after) (act (act_of m (f k)) s)) h).0).0
+    at_step (step ∷ steps) s h =
+        at_step steps (act (act_of m step) s) (and_parts (step_shows m step s) (detectable m (steps ++ (f k ∷ (later ++ steps_from m (suc (1 + length before)) after))) (act (act_of m step) s)) h).1
 
 -- a setting in which each fault can be shown is its own form
 pub checked_form : (m : Setting) → IsChecked m → m ≡ checked m
 checked_form m c = λ i. record m { mode = record m.mode { dix = c.dix i; dif = c.dif i; protect = c.protect i }; ty = c.ty i; site = record m.site { device = c.device i } }
+
+reads_rightly : (m' : Setting) (devices : List DeviceInfo) (before after : List Op) (owner : Owner) (v n k : ℕ) (body tuples : List Seg) (opening : State) → k < n →
+    IsShownRun (checked m') devices (before ++ (read_op owner v n body tuples ∷ after)) opening → ReadsRightly (checked m') before owner v n body tuples after opening k
+reads_rightly m' devices before after owner v n k body tuples opening l run =
+    let m = checked m' in
+    let b = block_of (suc (length before)) v k in
+    let steps = steps_from m 1 (before ++ (read_op owner v n body tuples ∷ after)) in
+    let ends = reads_so m' devices before after owner v n k body tuples opening l (λ a. true) run.lies run.cells run.bind
+    (all_placed m' devices run.lies opening run.cells steps opening run.shown) run.no_escape (all_accounted m' devices run.lies opening run.cells steps opening run.shown) run.clean in
+    let e = step_is m' devices before after owner v n k body tuples opening l (λ a. true) run.lies run.cells run.bind run.shown in
+    served_reads m' devices before after owner v n k body tuples opening l (λ a. true) run.lies run.cells run.bind true
+    (subst (λ t. EndsWhereServed m' devices run.lies opening run.cells (λ a. true) t b owner (landing m.size owner body tuples k) (past_after m (steps_from m 1 before) opening [])
+    (steps_walk m (each_from 0 k (λ k. Reads (block_of (suc (length before)) v k) owner (landing m.size owner body tuples k))) (script_walk m before opening))) e ends)
 
 pub last_write_or_first_layer : (m : Setting) (devices : List DeviceInfo) (before after : List Op) (owner : Owner) (v n k : ℕ) (body tuples : List Seg) (opening : State) →
     IsShownRun m devices (before ++ (read_op owner v n body tuples ∷ after)) opening → k < n → ReadsRightly m before owner v n body tuples after opening k
@@ -284,3 +322,19 @@ last_write_or_first_layer m devices before after owner v n k body tuples opening
     let e = checked_form m run.checked in
     subst (λ x. ReadsRightly x before owner v n body tuples after opening k) (sym e)
     (reads_rightly m devices before after owner v n k body tuples opening l (subst (λ x. IsShownRun x devices (before ++ (read_op owner v n body tuples ∷ after)) opening) e run))
+
+reads_stored : (m' : Setting) (devices : List DeviceInfo) (before after : List Op) (owner : Owner) (v n k : ℕ) (body tuples : List Seg) (opening : State) → k < n →
+    IsAccountedRun (checked m') devices (before ++ (read_op owner v n body tuples ∷ after)) opening → ReadsStored (checked m') before owner v n body tuples after opening k
+reads_stored m' devices before after owner v n k body tuples opening l run =
+    let m = checked m' in
+    let b = block_of (suc (length before)) v k in
+    served_reads m' devices before after owner v n k body tuples opening l (is_at_home m) run.lies run.cells run.bind (is_served m b)
+    (reads_so m' devices before after owner v n k body tuples opening l (is_at_home m) run.lies run.cells run.bind
+    (ops_placed m' devices run.lies opening run.cells 1 (before ++ (read_op owner v n body tuples ∷ after)) run.land) run.no_escape run.accounted run.clean)
+
+pub last_stored_or_first_layer : (m : Setting) (devices : List DeviceInfo) (before after : List Op) (owner : Owner) (v n k : ℕ) (body tuples : List Seg) (opening : State) →
+    IsAccountedRun m devices (before ++ (read_op owner v n body tuples ∷ after)) opening → k < n → ReadsStored m before owner v n body tuples after opening k
+last_stored_or_first_layer m devices before after owner v n k body tuples opening run l =
+    let e = checked_form m run.checked in
+    subst (λ x. ReadsStored x before owner v n body tuples after opening k) (sym e)
+    (reads_stored m devices before after owner v n k body tuples opening l (subst (λ x. IsAccountedRun x devices (before ++ (read_op owner v n body tuples ∷ after)) opening) e run))

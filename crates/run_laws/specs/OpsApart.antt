@@ -1,7 +1,7 @@
 use Rattle.std.specs.Prelude.{ℕ, ◌≡◌, ◌*◌, ◌<◌, Bool, ◌||◌, not, eqb, nat_eq, List, [], ◌∷◌, ◌++◌, nat_abs}
 use Rattle.std.specs.List.{All, IsDistinct}
 use Rattle.fault_schedule.specs.Altered.{shift_of}
-use Rattle.fault_schedule.specs.declared.fault.Crossing.TheVariants.{AdapterToTarget, MediumToTarget}
+use Rattle.fault_schedule.specs.declared.fault.Crossing.TheVariants.{AdapterToTarget, MediumToTarget, TargetToMedium}
 use Rattle.page_pool.specs.Places.{total}
 use Rattle.range_gate.specs.Cells.{AllInPages, cells_of}
 use Rattle.range_gate.specs.Conflicts.{Conflict}
@@ -15,7 +15,9 @@ use Rattle.pi_tuple.specs.declared.TheConstants.{TUPLE}
 
 -- Some line shifts the addresses of op i.
 abbrev pub is_shifted : Setting → (i : ℕ) → Bool
-is_shifted m i = not (eqb (nat_abs (shift_of m.site.faults AdapterToTarget i)) 0) || not (eqb (nat_abs (shift_of m.site.faults MediumToTarget i)) 0)
+is_shifted m i =
+    not (eqb (nat_abs (shift_of m.site.faults AdapterToTarget i)) 0)
+    || (not (eqb (nat_abs (shift_of m.site.faults MediumToTarget i)) 0) || not (eqb (nat_abs (shift_of m.site.faults TargetToMedium i)) 0))
 
 -- Op i and op j conflict, by what they touch.
 abbrev pub OpsConflict : Setting → (i : ℕ) → Op → (j : ℕ) → Op → Type 0

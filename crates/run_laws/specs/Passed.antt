@@ -1,7 +1,7 @@
 -- Words of the crates below, for the crates above that stand on this one alone.
 pub use Rattle.walk_laws.specs.CalmRun.{AllFit, AreVolumeBlocks, Fits, IsCalm, IsCalmRun, LiesInImage}
-pub use Rattle.walk_laws.specs.Detectable.{arrives, asks_app, bears, bears_some, crossed, detectable, found, guard_at, if_passed, is_foreign, shows, shows_at_medium, shows_in, shows_on_wire, shows_out, step_shows}
-pub use Rattle.walk_laws.specs.FirstLayer.{AtAdapter, AtTarget, has_flip, has_shift, is_all, is_flip, is_served, is_stored_whole, last_accepted}
+pub use Rattle.walk_laws.specs.Detectable.{accounted, accounts_out, arrives, asks_app, bears, bears_some, crossed, detectable, found, guard_at, if_passed, is_foreign, is_in_doubt, is_left_spoilt, shows, shows_at_medium, shows_in, shows_on_wire, shows_out, step_accounts, step_shows}
+pub use Rattle.walk_laws.specs.FirstLayer.{AtAdapter, AtTarget, has_flip, has_shift, is_all, is_flip, is_misdirected, is_served, is_stored_whole, last_accepted, last_stored, loses, tears}
 pub use Rattle.walk_laws.specs.Passed.{Bad, BadBlock, Fetch, FetchPi, Fill, Medium, Op, Overwrite, Put, Reply, Seal, Show, Shown, Silent, Wait, Whole, Write, WritePi, first_virt, footprint, is_overwrite, put_seg, touches}
 pub use Rattle.walk_laws.specs.Past.{steps_from}
 pub use Rattle.walk_laws.specs.PlainMap.{MapEntry, Plain, all_pass, as_expected, entry_of, finds_of_app, finds_plainly, kept_unless, own_in, plain_from, plain_map, plain_step, tag_of}

@@ -1,12 +1,13 @@
 use Rattle.std.specs.Prelude.{ℕ, ◌≡◌, ◌*◌, ◌<◌, ◌≤◌, ◌^◌, true, List, [], ◌∷◌, ◌++◌, length, get_or, nat_abs, pos, ◌+ℤ◌, suc}
 use Rattle.pi_tuple.specs.declared.checks.PiType.TheVariants.{One}
 use Rattle.fault_schedule.specs.Altered.{shift_of}
-use Rattle.fault_schedule.specs.declared.fault.Crossing.TheVariants.{AdapterToTarget}
+use Rattle.fault_schedule.specs.declared.fault.Crossing.TheVariants.{AdapterToTarget, TargetToMedium}
 use Rattle.page_pool.specs.Places.{total}
 use Rattle.range_gate.specs.Cells.{cells_of}
-use Rattle.walk_laws.specs.Passed.{Op, Fetch, FetchPi, Fill, Overwrite, Put, Seal, Show, Wait, Write, WritePi, stored_size, State, AreCells, medium_lba, target, wire_lba, place_in, volume_len, IsOn, DeviceInfo}
+use Rattle.walk_laws.specs.Passed.{Op, Fetch, FetchPi, Fill, Overwrite, Put, Seal, Show, Wait, Write, WritePi, stored_size, State, AreCells, medium_lba, stored_lba, target, wire_lba, place_in, volume_len, IsOn, DeviceInfo}
 use Rattle.walk_laws.specs.CalmRun.{AreVolumeBlocks}
-use Rattle.walk_laws.specs.Detectable.{detectable}
+use Rattle.walk_laws.specs.Detectable.{accounted, detectable}
+use Rattle.walk_laws.specs.FirstLayer.{is_misdirected}
 use Rattle.walk_laws.specs.Past.{steps_from}
 use Rattle.walk_laws.specs.Settings.{Block, Setting, block_of, route}
 use Rattle.walk_laws.specs.UnderMap.{IsClean, NoEscape}
@@ -56,6 +57,32 @@ pub record StaysNear (m : Setting) (b : Block) : Type 0 where
 abbrev pub AllStayNear : Setting → (i v n : ℕ) → Type 0
 AllStayNear m i v n = (k : ℕ) → k < n → StaysNear m (block_of i v k)
 
+-- Where the disk misdirects a block of a write, its device has a block at most 64 addresses from the one that the target was told.
+pub record LandsNear (m : Setting) (devices : List DeviceInfo) (b : Block) : Type 0 where
+  pub near : nat_abs (shift_of m.site.faults TargetToMedium b.op) ≤ 64
+  pub above : pos (stored_lba m.site.faults (route m b)) ≡ pos (wire_lba m.site.faults (route m b)) +ℤ shift_of m.site.faults TargetToMedium b.op
+  pub there : HasBlock m devices (route m b).dev (stored_lba m.site.faults (route m b))
+
+abbrev pub AllLandNear : Setting → List DeviceInfo → (i v n : ℕ) → Type 0
+AllLandNear m devices i v n = (k : ℕ) → k < n → is_misdirected m (block_of i v k) ≡ true → LandsNear m devices (block_of i v k)
+
+-- So it is for each write of the ops from op i on.
+abbrev pub Lands : Setting → List DeviceInfo → (i : ℕ) → Op → Type 0
+Lands m devices i (Fill seg byte) = Unit {0}
+Lands m devices i (Put page off values) = Unit {0}
+Lands m devices i (Show seg) = Unit {0}
+Lands m devices i (Seal n body tuples app rtag) = Unit {0}
+Lands m devices i (Write v n body app) = AllLandNear m devices i v n
+Lands m devices i (Fetch v n body) = Unit {0}
+Lands m devices i (WritePi v n body tuples) = AllLandNear m devices i v n
+Lands m devices i (FetchPi v n body tuples) = Unit {0}
+Lands m devices i (Overwrite dev lba change) = Unit {0}
+Lands m devices i Wait = Unit {0}
+
+abbrev pub AllLand : Setting → List DeviceInfo → (i : ℕ) → List Op → Type 0
+AllLand m devices i [] = Unit {0}
+AllLand m devices i (op ∷ ops) = Lands m devices i op × AllLand m devices (suc i) ops
+
 -- Where a read looks for them, the device has a block.
 abbrev pub AllAreFetched : Setting → List DeviceInfo → (i v n : ℕ) → Type 0
 AllAreFetched m devices i v n = (k : ℕ) → k < n → HasBlock m devices (route m (block_of i v k)).dev (medium_lba m.site.faults (route m (block_of i v k)))
@@ -87,3 +114,14 @@ pub record IsShownRun (m : Setting) (devices : List DeviceInfo) (ops : List Op) 
   pub bind : AllBind m devices (length opening.bytes) 1 ops
   pub no_escape : NoEscape m 1 ops opening
   pub shown : detectable m (steps_from m 1 ops) opening ≡ true
+
+-- A run over such blocks, each of whose faults can be shown, or is of a block that the medium fails, loses or misdirects.
+pub record IsAccountedRun (m : Setting) (devices : List DeviceInfo) (ops : List Op) (opening : State) : Type 0 where
+  pub checked : IsChecked m
+  pub lies : LiesOn m devices
+  pub cells : HasCells m devices opening.blocks
+  pub clean : AreCleanWhereRead m devices opening.blocks
+  pub bind : AllBind m devices (length opening.bytes) 1 ops
+  pub land : AllLand m devices 1 ops
+  pub no_escape : NoEscape m 1 ops opening
+  pub accounted : accounted m (steps_from m 1 ops) opening ≡ true

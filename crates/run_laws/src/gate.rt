@@ -2,8 +2,8 @@
 
 ghost use Rattle.std.specs.Prelude.{◌≡◌, ◌+◌, ℕ, ◌<◌, ◌≤◌, false, List, ◌∷◌, ◌++◌, pos, ◌+ℤ◌};
 ghost use Rattle.fault_schedule.specs.Altered.{shift_of};
-ghost use Rattle.fault_schedule.specs.declared.fault.Crossing.TheVariants.{AdapterToTarget};
-ghost use Rattle.walk_laws.specs.Passed.{Op as AnyOp, conflict, wire_lba, volume_len, DeviceInfo as AnyDevice};
+ghost use Rattle.fault_schedule.specs.declared.fault.Crossing.TheVariants.{AdapterToTarget, TargetToMedium};
+ghost use Rattle.walk_laws.specs.Passed.{Op as AnyOp, conflict, stored_lba, volume_len, DeviceInfo as AnyDevice};
 ghost use Rattle.walk_laws.specs.Settings.{Setting, block_of, route};
 ghost use Rattle.run_laws.specs.ShownRun.{HasBlock, HasCells, LiesOn};
 ghost use Rattle.run_laws.specs.OpsApart.{AreStoredApart, IsPlaced, IsSpread, NoneMeet, OneCellEach, OpsConflict, is_shifted};
@@ -29,7 +29,8 @@ pub fn blocks_of_a_request_have_no_moves_that_conflict()
 pub fn blocks_of_a_request_are_stored_apart()
     ensures still { (m : Setting) (i v n : ℕ) → OneCellEach m → is_shifted m i ≡ false → v + n ≤ volume_len m.entries → AreStoredApart m i v n }
     ensures shifted { (m : Setting) (devices : List AnyDevice) (image : List (List ℕ)) (i v n : ℕ) → LiesOn m devices → HasCells m devices image → v + n ≤ volume_len m.entries
-        → ((k : ℕ) → k < n → let r = route m (block_of i v k) in (pos (wire_lba m.site.faults r) ≡ pos r.lba +ℤ shift_of m.site.faults AdapterToTarget i)
-        × HasBlock m devices r.dev (wire_lba m.site.faults r))
+        → ((k : ℕ) → k < n → let r = route m (block_of i v k) in
+        (pos (stored_lba m.site.faults r) ≡ (pos r.lba +ℤ shift_of m.site.faults AdapterToTarget i) +ℤ shift_of m.site.faults TargetToMedium i)
+        × HasBlock m devices r.dev (stored_lba m.site.faults r))
         → AreStoredApart m i v n }
 {}

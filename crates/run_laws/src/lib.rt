@@ -8,7 +8,10 @@ mod record;
 mod store_faults;
 mod suits;
 
-pub use detection::a_read_is_the_last_write_or_names_the_first_layer;
+pub use detection::{
+    a_read_is_the_last_stored_write_or_names_who_ends_it,
+    a_read_is_the_last_write_or_names_the_first_layer,
+};
 pub use gate::{
     blocks_of_a_request_are_stored_apart, blocks_of_a_request_have_no_moves_that_conflict,
     ops_without_conflict_have_no_moves_with_one,

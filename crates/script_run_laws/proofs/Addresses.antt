@@ -4,8 +4,9 @@ use Rattle.std.specs.Prelude.{nat_le, nat_lt, eqb, slice_get}
 use Rattle.std.proofs.lemmas.Bool.{and_parts, eqb-true, leb-true, ltb-true, or_parts, not-false}
 use Rattle.pi_tuple.specs.declared.checks.PiType.{PiType}
 use Rattle.pi_tuple.specs.declared.checks.PiType.TheVariants.{Zero as TypeZero, One as TypeOne, Two as TypeTwo, Three as TypeThree}
-use Rattle.fault_schedule.specs.Altered.{shift_of}
-use Rattle.fault_schedule.specs.declared.fault.Crossing.TheVariants.{AdapterToTarget, MediumToTarget}
+use Rattle.fault_schedule.specs.Altered.{is_same, shift_of}
+use Rattle.fault_schedule.specs.declared.fault.Crossing.{Crossing}
+use Rattle.fault_schedule.specs.declared.fault.Crossing.TheVariants.{AdapterToTarget, MediumToTarget, TargetToMedium}
 use Rattle.stack_walk_laws.specs.Passed.{moved}
 use Rattle.rig_discovery.specs.Passed.{Change, Copy}
 use Rattle.run_laws.specs.Passed.{Overwrite}
@@ -39,10 +40,11 @@ led-twice devices ty size dev lba a b c x y =
       | inr e ↦ subst (λ (z : ℤ). IsLed devices ty size dev (moved lba a) z) (sym e) (led-nowhere devices ty size dev (moved lba a) x.on)
     ]
 
--- where the shifts of op i lead the blocks of its request: the command on the wire, and from there on the medium
+-- where the shifts of op i lead the blocks of its request: the command on the wire, and from there on the medium, for a read and for a write
 pub record AreLed (t : Table) (devices : List DeviceInfo) (s : Script) (i v n : ℕ) : Type 0 where
   pub wire : (j : ℕ) → j < n → IsLed devices t.ty s.block (place_in t.entries (v + j)).0 (place_in t.entries (v + j)).1 (shift_of s.faults AdapterToTarget i)
   pub medium : (j : ℕ) → j < n → IsLed devices t.ty s.block (place_in t.entries (v + j)).0 (moved (place_in t.entries (v + j)).1 (shift_of s.faults AdapterToTarget i)) (shift_of s.faults MediumToTarget i)
+  pub stored : (j : ℕ) → j < n → IsLed devices t.ty s.block (place_in t.entries (v + j)).0 (moved (place_in t.entries (v + j)).1 (shift_of s.faults AdapterToTarget i)) (shift_of s.faults TargetToMedium i)
 
 led-block : (t : Table) (devices : List DeviceInfo) (size v n : ℕ) (by : ℤ) → MadeFor t devices size → Stays t devices v n by → v + n ≤ volume_len t.entries → (j : ℕ) → j < n → IsLed devices t.ty size (place_in t.entries (v + j)).0 (place_in t.entries (v + j)).1 by
 led-block t devices size v n by made c w j l =
@@ -50,15 +52,13 @@ led-block t devices size v n by made c w j l =
 
 pub all-led : (s : Script) (t : Table) (devices : List DeviceInfo) → MadeFor t devices s.block → length s.faults ≤ length s.lines → faults_fault t devices s.block s.ops [] s.faults s.lines ≡ None → (i v n : ℕ) → request_at s.ops i ≡ Some (v, n) → v + n ≤ volume_len t.entries → AreLed t devices s i v n
 all-led s t devices made few good i v n r w =
+    let stays = λ (at : Crossing). shift-stays t devices s.block s.ops i v n r at [] s.faults s.lines few good in
     let a = shift_of s.faults AdapterToTarget i in
-    let b = shift_of s.faults MediumToTarget i in
-    let on-wire = led-block t devices s.block v n a made (shift-stays t devices s.block s.ops i v n r AdapterToTarget [] s.faults s.lines few good) w in
-    let on-medium = led-block t devices s.block v n b made (shift-stays t devices s.block s.ops i v n r MediumToTarget [] s.faults s.lines few good) w in
-    let one = one-shift t devices s.block s.ops i v n r [] s.faults s.lines few good in
-    record {
-      wire = on-wire;
-      medium = λ j l. led-twice devices t.ty s.block (place_in t.entries (v + j)).0 (place_in t.entries (v + j)).1 a b one (on-wire j l) (on-medium j l);
-    }
+    let on = λ (at : Crossing). led-block t devices s.block v n (shift_of s.faults at i) made (stays at) w in
+    let one = λ (at : Crossing) (far : is_same AdapterToTarget at ≡ false). one-shift t devices s.block s.ops i v n r at far [] s.faults s.lines few good in
+    let twice = λ (at : Crossing) (far : is_same AdapterToTarget at ≡ false) (j : ℕ) (l : j < n).
+    led-twice devices t.ty s.block (place_in t.entries (v + j)).0 (place_in t.entries (v + j)).1 a (shift_of s.faults at i) (one at far) (on AdapterToTarget j l) (on at j l) in
+    record { wire = on AdapterToTarget; medium = twice MediumToTarget refl; stored = twice TargetToMedium refl }
 
 -- ---- of an overwrite
 

@@ -4,7 +4,7 @@ use Rattle.std.proofs.lemmas.Bool.{eq-eqb}
 use Rattle.std.proofs.lemmas.List.{length-drop}
 use Rattle.pi_tuple.specs.declared.checks.PiType.{PiType}
 use Rattle.fault_schedule.specs.Altered.{byte_at, shift_of}
-use Rattle.fault_schedule.specs.declared.fault.Crossing.TheVariants.{AdapterToTarget, MediumToTarget}
+use Rattle.fault_schedule.specs.declared.fault.Crossing.TheVariants.{AdapterToTarget, MediumToTarget, TargetToMedium}
 use Rattle.fault_schedule.specs.declared.fault.FaultLine.{FaultLine}
 use Rattle.fault_schedule.proofs.Xored.{length-xored}
 use Rattle.rig_api.specs.Frames.{stored_size}
@@ -30,7 +30,7 @@ use Rattle.script_run_laws.specs.Units.{AreStored}
 use Rattle.script_run_laws.proofs.Addresses.{AreLed, all-led, good-change}
 use Rattle.script_run_laws.proofs.BoundRuns.{OpSuits, bound-all, suits-all}
 use Rattle.script_run_laws.proofs.Ops.{at-least-one, in-range, no-fault}
-use Rattle.script_run_laws.proofs.Shifts.{stored-at}
+use Rattle.script_run_laws.proofs.Shifts.{fetched-at, stored-at}
 use Rattle.script_run_laws.proofs.Spreads.{asked-by}
 use Rattle.script_run_laws.proofs.Standing.{bound}
 
@@ -89,13 +89,6 @@ op-suits m t devices size blocks i Wait long h suit = tt
 
 -- ---- blocks
 
--- where a read fetches a block, by the volume's own entries and the script's own faults
-fetched-at : (m : Setting) (s : Script) (t : Table) (i v : ℕ) → m.entries ≡ t.entries → m.site.faults ≡ s.faults → (j : ℕ) →
-    fetched_cell m.site (route m (block_of i v j)) ≡ m.site.cell (place_in t.entries (v + j)).0 (moved (moved (place_in t.entries (v + j)).1 (shift_of s.faults AdapterToTarget i)) (shift_of s.faults MediumToTarget i))
-fetched-at m s t i v e f j =
-    ap (λ (es : List Entry). m.site.cell (place_in es (v + j)).0 (moved (moved (place_in es (v + j)).1 (shift_of m.site.faults AdapterToTarget i)) (shift_of m.site.faults MediumToTarget i))) e
-    ∙ ap (λ (fs : List FaultLine). m.site.cell (place_in t.entries (v + j)).0 (moved (moved (place_in t.entries (v + j)).1 (shift_of fs AdapterToTarget i)) (shift_of fs MediumToTarget i))) f
-
 -- What a target does to a block, as a law of a crate below says.
 abbrev pub TargetSuits : Type 0
 TargetSuits = (m : Setting) (opening : List (List ℕ)) (b : Block) → IsAtTarget m opening b → Suits m (keeps_size opening) b
@@ -109,7 +102,7 @@ module _ (law : TargetSuits) (m : Setting) (s : Script) (t : Table) (devices : L
       law m blocks (block_of i v j) (record {
         device = at;
         protect = subst (λ (x : Mode). 0 < x.protect) (sym is.mode) least;
-        stored = ap (λ c. length (get_or blocks c [])) (stored-at m s t i v is.entries is.faults j) ∙ long place.0 wire (a.wire j l).on;
+        stored = ap (λ c. length (get_or blocks c [])) (stored-at m s t i v is.entries is.faults j) ∙ long place.0 (moved wire (shift_of s.faults TargetToMedium i)) (a.stored j l).on;
         fetched = ap (λ c. length (get_or blocks c [])) (fetched-at m s t i v is.entries is.faults j) ∙ long place.0 (moved wire (shift_of s.faults MediumToTarget i)) (a.medium j l).on;
       })
 

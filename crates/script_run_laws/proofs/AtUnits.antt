@@ -5,7 +5,8 @@ use Rattle.std.proofs.lemmas.Bool.{and_from, le-leb}
 use Rattle.std.proofs.lemmas.List.{length-drop}
 use Rattle.pi_tuple.specs.declared.checks.PiType.{PiType}
 use Rattle.fault_schedule.specs.Altered.{shift_of}
-use Rattle.fault_schedule.specs.declared.fault.Crossing.TheVariants.{AdapterToTarget, MediumToTarget}
+use Rattle.fault_schedule.specs.declared.fault.Crossing.{Crossing}
+use Rattle.fault_schedule.specs.declared.fault.Crossing.TheVariants.{AdapterToTarget, MediumToTarget, TargetToMedium}
 use Rattle.fault_schedule.specs.declared.fault.FaultLine.{FaultLine}
 use Rattle.rig_api.specs.Target.{has_blocks}
 use Rattle.rig_api.specs.declared.units.UnitSpec.{UnitSpec}
@@ -88,11 +89,11 @@ module _ (m : Setting) (s : Script) (t : Table) (units : List UnitSpec) (logs : 
       subst (λ (es : List Entry). IsAtUnit m units (place_in es (v + k)).0 (pos (place_in es (v + k)).1 +ℤ shift_of m.site.faults AdapterToTarget i)) (sym is.entries)
       (subst (λ (fs : List FaultLine). IsAtUnit m units (place_in t.entries (v + k)).0 (pos (place_in t.entries (v + k)).1 +ℤ shift_of fs AdapterToTarget i)) (sym is.faults) h)
 
-  fetched-of : (i v k : ℕ) → IsAtUnit m units (place_in t.entries (v + k)).0 ((pos (place_in t.entries (v + k)).1 +ℤ shift_of s.faults AdapterToTarget i) +ℤ shift_of s.faults MediumToTarget i) →
-      IsAtUnit m units (place_in m.entries (v + k)).0 ((pos (place_in m.entries (v + k)).1 +ℤ shift_of m.site.faults AdapterToTarget i) +ℤ shift_of m.site.faults MediumToTarget i)
-  fetched-of i v k h =
-      subst (λ (es : List Entry). IsAtUnit m units (place_in es (v + k)).0 ((pos (place_in es (v + k)).1 +ℤ shift_of m.site.faults AdapterToTarget i) +ℤ shift_of m.site.faults MediumToTarget i)) (sym is.entries)
-      (subst (λ (fs : List FaultLine). IsAtUnit m units (place_in t.entries (v + k)).0 ((pos (place_in t.entries (v + k)).1 +ℤ shift_of fs AdapterToTarget i) +ℤ shift_of fs MediumToTarget i)) (sym is.faults) h)
+  on-medium-of : (at : Crossing) (i v k : ℕ) → IsAtUnit m units (place_in t.entries (v + k)).0 ((pos (place_in t.entries (v + k)).1 +ℤ shift_of s.faults AdapterToTarget i) +ℤ shift_of s.faults at i) →
+      IsAtUnit m units (place_in m.entries (v + k)).0 ((pos (place_in m.entries (v + k)).1 +ℤ shift_of m.site.faults AdapterToTarget i) +ℤ shift_of m.site.faults at i)
+  on-medium-of at i v k h =
+      subst (λ (es : List Entry). IsAtUnit m units (place_in es (v + k)).0 ((pos (place_in es (v + k)).1 +ℤ shift_of m.site.faults AdapterToTarget i) +ℤ shift_of m.site.faults at i)) (sym is.entries)
+      (subst (λ (fs : List FaultLine). IsAtUnit m units (place_in t.entries (v + k)).0 ((pos (place_in t.entries (v + k)).1 +ℤ shift_of fs AdapterToTarget i) +ℤ shift_of fs at i)) (sym is.faults) h)
 
   pub lies-at-units : length s.lines ≡ length s.faults + length s.ops → MadeFor t (map info_of units) s.block → binding_fault s t (map info_of units) ≡ None → AreAtUnits m units s.ops
   lies-at-units n made h =
@@ -111,5 +112,9 @@ module _ (m : Setting) (s : Script) (t : Table) (units : List UnitSpec) (logs : 
         fetched = λ i k l j.
             let v = first_virt (op_at s.ops i) in
             let a = led i l (omega arith) in
-            fetched-of (suc i) v k (twice-led m units t.ty s.block (place_in t.entries (v + k)).0 (place_in t.entries (v + k)).1 (shift_of s.faults AdapterToTarget (suc i)) (shift_of s.faults MediumToTarget (suc i)) is.ty is.size (a.wire k j) (a.medium k j));
+            on-medium-of MediumToTarget (suc i) v k (twice-led m units t.ty s.block (place_in t.entries (v + k)).0 (place_in t.entries (v + k)).1 (shift_of s.faults AdapterToTarget (suc i)) (shift_of s.faults MediumToTarget (suc i)) is.ty is.size (a.wire k j) (a.medium k j));
+        stored = λ i k l j.
+            let v = first_virt (op_at s.ops i) in
+            let a = led i l (omega arith) in
+            on-medium-of TargetToMedium (suc i) v k (twice-led m units t.ty s.block (place_in t.entries (v + k)).0 (place_in t.entries (v + k)).1 (shift_of s.faults AdapterToTarget (suc i)) (shift_of s.faults TargetToMedium (suc i)) is.ty is.size (a.wire k j) (a.stored k j));
       }

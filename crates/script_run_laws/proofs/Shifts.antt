@@ -11,7 +11,7 @@ use Rattle.fault_schedule.specs.declared.fault.Crossing.TheVariants.{AdapterToHo
 use Rattle.fault_schedule.specs.declared.fault.FaultKind.{FaultKind}
 use Rattle.fault_schedule.specs.declared.fault.FaultKind.TheVariants.{Flip as FlipKind, Shift as ShiftKind, Keep as KeepKind, Fail as FailKind}
 use Rattle.fault_schedule.specs.declared.fault.FaultLine.{FaultLine}
-use Rattle.stack_walk_laws.specs.Passed.{stored_cell, moved}
+use Rattle.stack_walk_laws.specs.Passed.{fetched_cell, stored_cell, moved}
 use Rattle.volume_table.specs.declared.device.DeviceInfo.{DeviceInfo}
 use Rattle.volume_table.specs.declared.entry.Entry.{Entry}
 use Rattle.volume_table.specs.Faults.{device}
@@ -19,7 +19,7 @@ use Rattle.volume_table.specs.Places.{place_in, volume_len}
 use Rattle.volume_table.specs.Tables.{MadeFor, Table}
 use Rattle.run_laws.specs.Passed.{Setting, block_of, route, Op}
 use Rattle.run_laws.specs.OpsApart.{AreStoredApart}
-use Rattle.script_laws.specs.Passed.{Script, block_stays, blocks_stay, faults_fault, is_at_medium, is_bad_kind, is_bad_on, is_first_type, is_on, is_on_known, is_shift, request_at, shifts}
+use Rattle.script_laws.specs.Passed.{Script, block_stays, blocks_stay, faults_fault, is_bad_kind, is_bad_on, is_first_type, is_misplaced, is_on, is_on_known, is_read, is_shift, request_at, shifts}
 use Rattle.script_laws.proofs.Passed.{not_behind}
 use Rattle.script_run_laws.specs.Bound.{IsAddress, IsSettingOf}
 use Rattle.script_run_laws.proofs.Bodies.{if-none}
@@ -59,6 +59,14 @@ pub record Lands (devices : List DeviceInfo) (dev lba : ℕ) (by : ℤ) : Type 0
 
 still : (devices : List DeviceInfo) (dev lba : ℕ) → IsAddress devices dev lba → Lands devices dev lba (pos 0)
 still devices dev lba h = record { there = subst (λ (a : ℕ). IsAddress devices dev a) (stays-put lba) h; clear = tt }
+
+-- two shifts one after the other, of which one is none
+lands-twice : (devices : List DeviceInfo) (dev lba : ℕ) (a b : ℤ) → (a ≡ pos 0) ⊎ (b ≡ pos 0) → Lands devices dev lba a → Lands devices dev lba b → Lands devices dev (moved lba a) b
+lands-twice devices dev lba a b c x y =
+    elim c [
+      | inl e ↦ subst (λ (p : ℕ). Lands devices dev p b) (stays-put lba ∙ ap (moved lba) (sym e)) y
+      | inr e ↦ subst (λ (z : ℤ). Lands devices dev (moved lba a) z) (sym e) (still devices dev (moved lba a) x.there)
+    ]
 
 record IsWithin (d : DeviceInfo) (lba : ℕ) (by : ℤ) : Type 0 where
   begins : d.first ≤ moved lba by
@@ -140,13 +148,13 @@ record IsGood (t : Table) (devices : List DeviceInfo) (was : Bool) (v n : ℕ) (
   first : was ≡ false
   stays : blocks_stay t devices by v n ≡ true
 
-good-shift : (t : Table) (devices : List DeviceInfo) (size : ℕ) (earlier : List FaultLine) (f : FaultLine) (v n : ℕ) (by : ℤ) → is_bad_on t devices size earlier f (Some (v, n)) ≡ false → f.kind ≡ ShiftKind by → IsGood t devices (list_any (shifts f.op) earlier) v n by
-good-shift t devices size earlier f v n by h k =
+good-shift : (t : Table) (devices : List DeviceInfo) (size : ℕ) (earlier : List FaultLine) (f : FaultLine) (reads : Bool) (v n : ℕ) (by : ℤ) → is_bad_on t devices size earlier f reads (Some (v, n)) ≡ false → f.kind ≡ ShiftKind by → IsGood t devices (list_any (shifts f.op) earlier) v n by
+good-shift t devices size earlier f reads v n by h k =
     let was : Bool = list_any (shifts f.op) earlier in
-    let a = or_parts (not (nat_lt f.k n)) (is_bad_kind t devices size earlier f (v, n) f.kind) h in
-    let b = subst (λ (kind : FaultKind). is_bad_kind t devices size earlier f (v, n) kind ≡ false) k a.1 in
-    let c = or_parts (not (is_first_type t.ty)) (is_at_medium f.at || (was || not (blocks_stay t devices by v n))) b in
-    let d = or_parts (is_at_medium f.at) (was || not (blocks_stay t devices by v n)) c.1 in
+    let a = or_parts (not (nat_lt f.k n)) (is_bad_kind t devices size earlier f reads (v, n) f.kind) h in
+    let b = subst (λ (kind : FaultKind). is_bad_kind t devices size earlier f reads (v, n) kind ≡ false) k a.1 in
+    let c = or_parts (not (is_first_type t.ty)) (is_misplaced reads f.at || (was || not (blocks_stay t devices by v n))) b in
+    let d = or_parts (is_misplaced reads f.at) (was || not (blocks_stay t devices by v n)) c.1 in
     let e = or_parts was (not (blocks_stay t devices by v n)) d.1 in
     record { first = e.0; stays = not-false (blocks_stay t devices by v n) e.1 }
 
@@ -165,28 +173,29 @@ first-shift true FailKind rest = inl refl
 first-shift true (ShiftKind by) rest = inr (record { by = by; here = refl; kind_is = refl; same = refl })
 
 -- such a line isn't at fault on its request
-good-line : (t : Table) (devices : List DeviceInfo) (size : ℕ) (ops : List Op) (i v n : ℕ) (earlier : List FaultLine) (f : FaultLine) (by : ℤ) → is_bad_on t devices size earlier f (request_at ops f.op) ≡ false → f.op ≡ i → request_at ops i ≡ Some (v, n) → f.kind ≡ ShiftKind by →
+good-line : (t : Table) (devices : List DeviceInfo) (size : ℕ) (ops : List Op) (i v n : ℕ) (earlier : List FaultLine) (f : FaultLine) (by : ℤ) → is_bad_on t devices size earlier f (is_read ops f.op) (request_at ops f.op) ≡ false → f.op ≡ i → request_at ops i ≡ Some (v, n) → f.kind ≡ ShiftKind by →
     IsGood t devices (list_any (shifts i) earlier) v n by
 good-line t devices size ops i v n earlier f by h mine r k =
     let asked : request_at ops f.op ≡ Some (v, n) = ap (request_at ops) mine ∙ r in
-    let good = subst (λ (o : Option (ℕ × ℕ)). is_bad_on t devices size earlier f o ≡ false) asked h in
-    let g = good-shift t devices size earlier f v n by good k in
+    let good = subst (λ (o : Option (ℕ × ℕ)). is_bad_on t devices size earlier f (is_read ops f.op) o ≡ false) asked h in
+    let g = good-shift t devices size earlier f (is_read ops f.op) v n by good k in
     record { first = ap (λ (op : ℕ). list_any (shifts op) earlier) (sym mine) ∙ g.first; stays = g.stays }
 
-two-crossings : (at : Crossing) → is_same at AdapterToTarget ≡ true → is_same at MediumToTarget ≡ true → ⊥
-two-crossings HostToAdapter a b = true≢false (sym a)
-two-crossings AdapterToTarget a b = true≢false (sym b)
-two-crossings TargetToMedium a b = true≢false (sym a)
-two-crossings MediumToTarget a b = true≢false (sym a)
-two-crossings TargetToAdapter a b = true≢false (sym a)
-two-crossings AdapterToHost a b = true≢false (sym a)
+-- no line is at the wire to the target and at another crossing too
+two-crossings : (at other : Crossing) → is_same AdapterToTarget other ≡ false → is_same at AdapterToTarget ≡ true → is_same at other ≡ true → ⊥
+two-crossings HostToAdapter other d a b = true≢false (sym a)
+two-crossings AdapterToTarget other d a b = true≢false (sym b ∙ d)
+two-crossings TargetToMedium other d a b = true≢false (sym a)
+two-crossings MediumToTarget other d a b = true≢false (sym a)
+two-crossings TargetToAdapter other d a b = true≢false (sym a)
+two-crossings AdapterToHost other d a b = true≢false (sym a)
 
 module _ (t : Table) (devices : List DeviceInfo) (size : ℕ) (ops : List Op) (i v n : ℕ) (r : request_at ops i ≡ Some (v, n)) where
   pub shift-stays : (at : Crossing) (earlier faults : List FaultLine) (lines : List ℕ) → length faults ≤ length lines → faults_fault t devices size ops earlier faults lines ≡ None → Stays t devices v n (shift_of faults at i)
   shift-stays at earlier [] lines l h = inl refl
   shift-stays at earlier (f ∷ faults) [] l h = absurd (omega arith)
   shift-stays at earlier (f ∷ faults) (line ∷ lines) l h =
-      let p = if-none (is_bad_on t devices size earlier f (request_at ops f.op)) _ _ h in
+      let p = if-none (is_bad_on t devices size earlier f (is_read ops f.op) (request_at ops f.op)) _ _ h in
       let rest = shift-stays at (earlier ++ (f ∷ [])) faults lines (omega arith) p.1 in
       elim (first-shift (is_same f.at at && eqb f.op i) f.kind (shift_of faults at i)) [
         | inl e ↦ elim rest [ inl z ↦ inl (e ∙ z) | inr b ↦ inr (ap (λ (by : ℤ). blocks_stay t devices by v n) e ∙ b) ]
@@ -200,7 +209,7 @@ module _ (t : Table) (devices : List DeviceInfo) (size : ℕ) (ops : List Op) (i
   no-later at earlier [] lines l h was = refl
   no-later at earlier (f ∷ faults) [] l h was = absurd (omega arith)
   no-later at earlier (f ∷ faults) (line ∷ lines) l h was =
-      let p = if-none (is_bad_on t devices size earlier f (request_at ops f.op)) _ _ h in
+      let p = if-none (is_bad_on t devices size earlier f (is_read ops f.op) (request_at ops f.op)) _ _ h in
       elim (first-shift (is_same f.at at && eqb f.op i) f.kind (shift_of faults at i)) [
         | inl e ↦ e ∙ no-later at (earlier ++ (f ∷ [])) faults lines (omega arith) p.1 (list_any-append (shifts i) earlier (f ∷ []) ∙ or_left (list_any (shifts i) earlier) (list_any (shifts i) (f ∷ [])) was)
         | inr s ↦
@@ -215,44 +224,57 @@ module _ (t : Table) (devices : List DeviceInfo) (size : ℕ) (ops : List Op) (i
       no-later at (earlier ++ (f ∷ [])) faults lines l h
       (list_any-append (shifts i) earlier (f ∷ []) ∙ or_right (list_any (shifts i) earlier) (list_any (shifts i) (f ∷ [])) (or_left (shifts i f) false here))
 
-  -- so at one of two crossings none does
-  pub one-shift : (earlier faults : List FaultLine) (lines : List ℕ) → length faults ≤ length lines → faults_fault t devices size ops earlier faults lines ≡ None → (shift_of faults AdapterToTarget i ≡ pos 0) ⊎ (shift_of faults MediumToTarget i ≡ pos 0)
-  one-shift earlier [] lines l h = inl refl
-  one-shift earlier (f ∷ faults) [] l h = absurd (omega arith)
-  one-shift earlier (f ∷ faults) (line ∷ lines) l h =
-      let p = if-none (is_bad_on t devices size earlier f (request_at ops f.op)) _ _ h in
-      let rest = one-shift (earlier ++ (f ∷ [])) faults lines (omega arith) p.1 in
+  -- so at the wire to the target none does, or none at another crossing
+  pub one-shift : (other : Crossing) → is_same AdapterToTarget other ≡ false → (earlier faults : List FaultLine) (lines : List ℕ) → length faults ≤ length lines → faults_fault t devices size ops earlier faults lines ≡ None → (shift_of faults AdapterToTarget i ≡ pos 0) ⊎ (shift_of faults other i ≡ pos 0)
+  one-shift other far earlier [] lines l h = inl refl
+  one-shift other far earlier (f ∷ faults) [] l h = absurd (omega arith)
+  one-shift other far earlier (f ∷ faults) (line ∷ lines) l h =
+      let p = if-none (is_bad_on t devices size earlier f (is_read ops f.op) (request_at ops f.op)) _ _ h in
+      let rest = one-shift other far (earlier ++ (f ∷ [])) faults lines (omega arith) p.1 in
       let none : (at : Crossing) (by : ℤ) → eqb f.op i ≡ true → f.kind ≡ ShiftKind by → shift_of faults at i ≡ pos 0 = λ at by mine k. behind-one at earlier faults f lines by (omega arith) p.1 mine k in
       elim (first-shift (is_same f.at AdapterToTarget && eqb f.op i) f.kind (shift_of faults AdapterToTarget i)) [
-        | inl e ↦ elim (first-shift (is_same f.at MediumToTarget && eqb f.op i) f.kind (shift_of faults MediumToTarget i)) [
+        | inl e ↦ elim (first-shift (is_same f.at other && eqb f.op i) f.kind (shift_of faults other i)) [
           | inl d ↦ elim rest [ inl z ↦ inl (e ∙ z) | inr z ↦ inr (d ∙ z) ]
-          | inr s ↦ inl (e ∙ none AdapterToTarget s.by (and_parts (is_same f.at MediumToTarget) (eqb f.op i) s.here).1 s.kind_is)
+          | inr s ↦ inl (e ∙ none AdapterToTarget s.by (and_parts (is_same f.at other) (eqb f.op i) s.here).1 s.kind_is)
         ]
-        | inr s ↦ elim (first-shift (is_same f.at MediumToTarget && eqb f.op i) f.kind (shift_of faults MediumToTarget i)) [
-          | inl d ↦ inr (d ∙ none MediumToTarget s.by (and_parts (is_same f.at AdapterToTarget) (eqb f.op i) s.here).1 s.kind_is)
-          | inr o ↦ absurd (two-crossings f.at (and_parts (is_same f.at AdapterToTarget) (eqb f.op i) s.here).0 (and_parts (is_same f.at MediumToTarget) (eqb f.op i) o.here).0)
+        | inr s ↦ elim (first-shift (is_same f.at other && eqb f.op i) f.kind (shift_of faults other i)) [
+          | inl d ↦ inr (d ∙ none other s.by (and_parts (is_same f.at AdapterToTarget) (eqb f.op i) s.here).1 s.kind_is)
+          | inr o ↦ absurd (two-crossings f.at other far (and_parts (is_same f.at AdapterToTarget) (eqb f.op i) s.here).0 (and_parts (is_same f.at other) (eqb f.op i) o.here).0)
         ]
       ]
 
 -- ---- where blocks are stored
 
--- by the volume's own entries, and the script's own faults
+-- moved on the wire and at the medium, by the volume's own entries, and the script's own faults
+moved-at : (m : Setting) (s : Script) (t : Table) (i v : ℕ) (at : Crossing) → m.entries ≡ t.entries → m.site.faults ≡ s.faults → (j : ℕ) →
+    let r = route m (block_of i v j) in
+    m.site.cell r.dev (moved (moved r.lba (shift_of m.site.faults AdapterToTarget i)) (shift_of m.site.faults at i)) ≡ m.site.cell (place_in t.entries (v + j)).0 (moved (moved (place_in t.entries (v + j)).1 (shift_of s.faults AdapterToTarget i)) (shift_of s.faults at i))
+moved-at m s t i v at e f j =
+    ap (λ (es : List Entry). m.site.cell (place_in es (v + j)).0 (moved (moved (place_in es (v + j)).1 (shift_of m.site.faults AdapterToTarget i)) (shift_of m.site.faults at i))) e
+    ∙ ap (λ (fs : List FaultLine). m.site.cell (place_in t.entries (v + j)).0 (moved (moved (place_in t.entries (v + j)).1 (shift_of fs AdapterToTarget i)) (shift_of fs at i))) f
+
 pub stored-at : (m : Setting) (s : Script) (t : Table) (i v : ℕ) → m.entries ≡ t.entries → m.site.faults ≡ s.faults → (j : ℕ) →
-    stored_cell m.site (route m (block_of i v j)) ≡ m.site.cell (place_in t.entries (v + j)).0 (moved (place_in t.entries (v + j)).1 (shift_of s.faults AdapterToTarget i))
-stored-at m s t i v e f j =
-    ap (λ (es : List Entry). m.site.cell (place_in es (v + j)).0 (moved (place_in es (v + j)).1 (shift_of m.site.faults AdapterToTarget i))) e
-    ∙ ap (λ (fs : List FaultLine). m.site.cell (place_in t.entries (v + j)).0 (moved (place_in t.entries (v + j)).1 (shift_of fs AdapterToTarget i))) f
+    stored_cell m.site (route m (block_of i v j)) ≡ m.site.cell (place_in t.entries (v + j)).0 (moved (moved (place_in t.entries (v + j)).1 (shift_of s.faults AdapterToTarget i)) (shift_of s.faults TargetToMedium i))
+stored-at m s t i v e f j = moved-at m s t i v TargetToMedium e f j
+
+pub fetched-at : (m : Setting) (s : Script) (t : Table) (i v : ℕ) → m.entries ≡ t.entries → m.site.faults ≡ s.faults → (j : ℕ) →
+    fetched_cell m.site (route m (block_of i v j)) ≡ m.site.cell (place_in t.entries (v + j)).0 (moved (moved (place_in t.entries (v + j)).1 (shift_of s.faults AdapterToTarget i)) (shift_of s.faults MediumToTarget i))
+fetched-at m s t i v e f j = moved-at m s t i v MediumToTarget e f j
 
 pub stored-apart : (m : Setting) (s : Script) (t : Table) (devices : List DeviceInfo) (logs : ℕ) → MadeFor t devices s.block → IsSettingOf m s t devices logs → length s.faults ≤ length s.lines → faults_fault t devices s.block s.ops [] s.faults s.lines ≡ None →
     (i v n : ℕ) → request_at s.ops i ≡ Some (v, n) → v + n ≤ volume_len t.entries → AreStoredApart m i v n
 stored-apart m s t devices logs made is few good i v n r w j k lj lk same =
     let by = shift_of s.faults AdapterToTarget i in
-    let c = shift-stays t devices s.block s.ops i v n r AdapterToTarget [] s.faults s.lines few good in
+    let on = shift_of s.faults TargetToMedium i in
+    let one = one-shift t devices s.block s.ops i v n r TargetToMedium refl [] s.faults s.lines few good in
+    let stays = λ (at : Crossing). shift-stays t devices s.block s.ops i v n r at [] s.faults s.lines few good in
     let p = place_in t.entries (v + j) in
     let q = place_in t.entries (v + k) in
-    let a = landed t devices s.block v n by made c w j lj in
-    let b = landed t devices s.block v n by made c w k lk in
-    let at = is.apart p.0 (moved p.1 by) q.0 (moved q.1 by) a.there b.there (sym (stored-at m s t i v is.entries is.faults j) ∙ same ∙ stored-at m s t i v is.entries is.faults k) in
-    let lba = back p.1 q.1 by a.clear b.clear at.1 in
-    let one : v + j ≡ v + k = made.alone (v + j) (v + k) (omega arith) (omega arith) (same-pair p q at.0 lba) in
+    let a = landed t devices s.block v n by made (stays AdapterToTarget) w j lj in
+    let b = landed t devices s.block v n by made (stays AdapterToTarget) w k lk in
+    let c = lands-twice devices p.0 p.1 by on one a (landed t devices s.block v n on made (stays TargetToMedium) w j lj) in
+    let d = lands-twice devices q.0 q.1 by on one b (landed t devices s.block v n on made (stays TargetToMedium) w k lk) in
+    let at = is.apart p.0 (moved (moved p.1 by) on) q.0 (moved (moved q.1 by) on) c.there d.there (sym (stored-at m s t i v is.entries is.faults j) ∙ same ∙ stored-at m s t i v is.entries is.faults k) in
+    let lba = back p.1 q.1 by a.clear b.clear (back (moved p.1 by) (moved q.1 by) on c.clear d.clear at.1) in
+    let block : v + j ≡ v + k = made.alone (v + j) (v + k) (omega arith) (omega arith) (same-pair p q at.0 lba) in
     omega arith

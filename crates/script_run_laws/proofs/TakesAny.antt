@@ -3,7 +3,7 @@ use Rattle.std.proofs.Common.{◌≡◌, ◌<◌, ◌≤◌, ℕ, suc, ◌+◌, 
 use Rattle.std.proofs.lemmas.Bool.{eq-eqb}
 use Rattle.std.proofs.lemmas.List.{length-drop}
 use Rattle.fault_schedule.specs.Altered.{shift_of}
-use Rattle.fault_schedule.specs.declared.fault.Crossing.TheVariants.{AdapterToTarget}
+use Rattle.fault_schedule.specs.declared.fault.Crossing.TheVariants.{AdapterToTarget, TargetToMedium}
 use Rattle.rig_api.specs.Target.{Stored}
 use Rattle.rig_api.specs.declared.units.UnitSpec.{UnitSpec}
 use Rattle.rig_discovery.specs.Discovery.{info_of}
@@ -38,7 +38,7 @@ module _ (m : Setting) (s : Script) (t : Table) (devices : List DeviceInfo) (log
   block-takes i v n a j l left e =
       let place = place_in t.entries (v + j) in
       let wire = moved place.1 (shift_of s.faults AdapterToTarget i) in
-      let stored = ap (λ c. length (get_or blocks c [])) (stored-at m s t i v is.entries is.faults j) ∙ long place.0 wire (a.wire j l).on in
+      let stored = ap (λ c. length (get_or blocks c [])) (stored-at m s t i v is.entries is.faults j) ∙ long place.0 (moved wire (shift_of s.faults TargetToMedium i)) (a.stored j l).on in
       eq-eqb (length left) (length (get_or blocks (stored_cell m.site (route m (block_of i v j))) [])) (e ∙ sym stored)
 
   op-takes : (i : ℕ) (op : Op) → op_fault t devices s.block op ≡ None → ((v n : ℕ) → request_of op ≡ Some (v, n) → v + n ≤ volume_len t.entries → TakesAny m (keeps_size blocks) i v n) → OpTakesAny m (keeps_size blocks) i op

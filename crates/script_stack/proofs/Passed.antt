@@ -11,7 +11,7 @@ pub use Rattle.script_run_laws.proofs.Passed.{found_inside, no_fault, tag_twice}
 pub use Rattle.script_run_laws.proofs.Places.{one-each, place-there}
 pub use Rattle.script_run_laws.proofs.Rooms.{body-cells}
 pub use Rattle.script_run_laws.proofs.Segments.{all-lie, distinct-body, lies, once-both, one-stands, stands}
-pub use Rattle.script_run_laws.proofs.Shown.{has-cells, lies-on, shown-run}
+pub use Rattle.script_run_laws.proofs.Shown.{accounted-run, has-cells, lies-on, shown-run}
 pub use Rattle.script_run_laws.proofs.Standing.{bound, or-none}
 pub use Rattle.script_run_laws.proofs.Suits.{stack-op, suits}
 pub use Rattle.script_run_laws.proofs.Units.{over-units}

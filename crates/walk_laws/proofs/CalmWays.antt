@@ -26,7 +26,7 @@ use Rattle.fault_schedule.proofs.Unaltered.{altered_none}
 use Rattle.stack_ops.specs.Passed.{Adapter, is_two}
 use Rattle.block_path.specs.Passed.{data_of, frame_of, tuple_of, accepted, asked_of as checked_of, found_in, from_medium, released, then_crossed, to_medium, unless, wanted_of, all_asked, Owner}
 use Rattle.block_path.specs.declared.route.Route.{Route}
-use Rattle.block_path.specs.Routes.{by_target, converted, host_type, is_crc, passage, passes_tuples, target, with_guard, wire_lba, medium_lba}
+use Rattle.block_path.specs.Routes.{by_target, converted, host_type, is_crc, passage, passes_tuples, stored_lba, target, with_guard, wire_lba, medium_lba}
 use Rattle.block_path.specs.WayIn.{Delivers, adapter_finds_in, at_host, from_device, from_wire, mapped_back, owner_finds, received, delivered_unless, verified, way_in}
 use Rattle.block_path.specs.WayOut.{Fails, Stores, WayOut, adapter_finds_out, at_device, checked_out, from_adapter, goes_out, mapped_out, sent, to_wire, way_out}
 use Rattle.block_path.proofs.Cells.{AllBelow}
@@ -227,6 +227,9 @@ module _ (m : Setting) (b : Block) (protect : 0 < m.mode.protect) where
 
   pub read_same : (dix dif : Bool) (ty : PiType) → medium_lba [] (route (quiet m dix dif ty) b) ≡ here
   read_same dix dif ty = omega arith
+
+  pub stored_same : (dix dif : Bool) (ty : PiType) → stored_lba [] (route (quiet m dix dif ty) b) ≡ here
+  stored_same dix dif ty = omega arith
 
   -- a frame under the guard of its data passes each check that wants its tags
   good : (kind : GuardKind) (ty : PiType) (what : Checks) (want : ℕ) (body : List ℕ) (app rtag : ℕ) → length body ≡ m.size → app < 2 ^ 16 → rtag < 2 ^ 32 →

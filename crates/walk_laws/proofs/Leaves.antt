@@ -11,4 +11,4 @@ all_none None e = refl
 all_none (Some n) e = absurd (false≢true e)
 
 pub leaves_whole : (m : Setting) (b : Block) → is_stored_whole m b ≡ true → (old frame : List ℕ) → kept m.site.faults (route m b).label old frame ≡ frame
-leaves_whole m b e old frame = leaves_all m.site.faults (route m b).label old frame (all_none (keep_of m.site.faults (route m b).label) (and_parts (is_served m b) _ e).1)
+leaves_whole m b e old frame = leaves_all m.site.faults (route m b).label old frame (all_none (keep_of m.site.faults (route m b).label) (and_parts _ _ (and_parts (is_served m b) _ e).1).0)

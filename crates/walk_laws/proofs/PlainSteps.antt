@@ -30,7 +30,7 @@ use Rattle.walk_laws.specs.ScriptWalk.{act_of, bad_from, reply_of, shown_reply, 
 use Rattle.walk_laws.specs.Settings.{Block, Setting, route}
 use Rattle.walk_laws.specs.Steps.{Alters, Reads, Seals, Sets, Shows, Step, Writes, WritesPi}
 use Rattle.walk_laws.specs.UnderMap.{IsUnder, NoneEscapes, SuppliesNoEscape, address_of, home, stored_as, under}
-use Rattle.walk_laws.proofs.CalmWays.{IsProper, comes_home, goes, goes_bare, goes_on, is_right, loud, proper_entry, quiet, read_same, unmasked, wire_same}
+use Rattle.walk_laws.proofs.CalmWays.{IsProper, comes_home, goes, goes_bare, goes_on, is_right, loud, proper_entry, quiet, read_same, stored_same, unmasked}
 use Rattle.walk_laws.proofs.MapUnder.{AllProper, proper_at, proper_set, put_unless, under_accepted, under_at}
 use Rattle.walk_laws.proofs.TupleFrames.{below_append, below_drop, below_gather, below_scatter, below_take, four_below, frame_is, frame_small, tuple_below}
 use Rattle.small_laws.proofs.Tests.{never}
@@ -219,7 +219,7 @@ module _ (m' : Setting) (n : ℕ) (image : List (List ℕ)) (protect : 0 < m'.mo
           under = record {
             bytes = refl;
             blocks = ap (λ w. scatter (cell ∷ []) (map (λ frame. frame) (written_by (route m b) w [] log).written.blocks) image') way
-                ∙ placed m b o [] log e cell image' (ap (m.site.cell (route m b).dev) (wire_same m' b protect m'.mode.dix m'.mode.dif m'.ty))
+                ∙ placed m b o [] log e cell image' (ap (m.site.cell (route m b).dev) (stored_same m' b protect m'.mode.dix m'.mode.dif m'.ty))
                 ∙ sym (under_accepted m n image lies s.map o b.virt e h.size meets.0);
           };
           same = subst (λ w. Same (written_by (route m b) w [] log).answer (listed_by o)) (sym way) (told m b o [] log e);
@@ -253,7 +253,7 @@ module _ (m' : Setting) (n : ℕ) (image : List (List ℕ)) (protect : 0 < m'.mo
           under = record {
             bytes = ap (λ w. scatter tuple (written_by (route m b) w back log).written.bytes s.bytes) way ∙ ap (λ xs. scatter tuple xs s.bytes) (left m b o back log e);
             blocks = ap (λ w. scatter (cell ∷ []) (map (λ frame. frame) (written_by (route m b) w back log).written.blocks) image') way
-                ∙ placed m b o back log e cell image' (ap (m.site.cell (route m b).dev) (wire_same m' b protect m'.mode.dix m'.mode.dif m'.ty))
+                ∙ placed m b o back log e cell image' (ap (m.site.cell (route m b).dev) (stored_same m' b protect m'.mode.dix m'.mode.dif m'.ty))
                 ∙ sym (under_accepted m n image lies s.map o b.virt e h.size meets.0);
           };
           same = subst (λ w. Same (written_by (route m b) w back log).answer (listed_by o)) (sym way) (told m b o back log e);

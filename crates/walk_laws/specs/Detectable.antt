@@ -10,17 +10,17 @@ use Rattle.fault_schedule.specs.declared.fault.Crossing.{Crossing}
 use Rattle.fault_schedule.specs.declared.fault.Crossing.TheVariants.{AdapterToHost, AdapterToTarget, HostToAdapter, MediumToTarget, TargetToAdapter, TargetToMedium}
 use Rattle.block_path.specs.Passed.{data_of, tuple_of, found_in}
 use Rattle.block_path.specs.Acts.{State, act}
-use Rattle.block_path.specs.Blocks.{fetched_cell, own_frame}
-use Rattle.block_path.specs.Routes.{host_type, passage, wire_lba}
+use Rattle.block_path.specs.Blocks.{fetched_cell, own_frame, stored_cell}
+use Rattle.block_path.specs.Routes.{host_type, passage, stored_lba, wire_lba}
 use Rattle.block_path.specs.WayIn.{adapter_finds_in, mapped_back, owner_finds, received}
-use Rattle.block_path.specs.WayOut.{adapter_finds_out, mapped_out, sent}
-use Rattle.walk_laws.specs.FirstLayer.{AtAdapter, AtOwner, AtTarget, Layer, has_flip, has_shift, is_served, is_stored_whole}
+use Rattle.block_path.specs.WayOut.{Fails, Refuses, Stores, WayOut, adapter_finds_out, mapped_out, sent, way_out}
+use Rattle.walk_laws.specs.FirstLayer.{AtAdapter, AtOwner, AtTarget, Layer, has_flip, has_shift, is_misdirected, is_served, is_stored_whole, loses, tears}
 use Rattle.walk_laws.specs.PlainMap.{as_expected}
 use Rattle.walk_laws.specs.ScriptWalk.{act_of}
 use Rattle.walk_laws.specs.Settings.{Block, Setting, route}
 use Rattle.walk_laws.specs.Steps.{Alters, Reads, Seals, Sets, Shows, Step, Writes, WritesPi}
 
--- Which faults tuples can show: in type 1 with tuples that are passed and protect field 001b. Two flips that cancel each other, an application tag altered alone where nobody asks for it, a copy of a block onto itself, and a write of which the medium stores nothing can't be shown. One of which it stores a part, and a block that the medium fails, are left out here.
+-- Which faults tuples can show: in type 1 with tuples that are passed and protect field 001b. Two flips that cancel each other, an application tag altered alone where nobody asks for it, a copy of a block onto itself, and a write of which the medium stores nothing can't be shown. One of which it stores a part, or which it stores elsewhere, and a block that it fails, are left out here.
 
 -- the frame after a crossing
 abbrev pub crossed : Setting → Block → Crossing → List ℕ → List ℕ
@@ -118,3 +118,33 @@ step_shows m (Alters dev lba change) s = is_spoilt m lba (get_or (act (act_of m 
 abbrev pub detectable : Setting → List Step → State → Bool
 detectable m [] s = true
 detectable m (step ∷ steps) s = step_shows m step s && detectable m steps (act (act_of m step) s)
+
+-- ---- Runs in which the medium fails too, or lies about a write: it loses or misdirects blocks, which no tuple shows before they are read.
+
+-- The frame is spoilt that a stored block leaves at an address.
+abbrev pub is_left_spoilt : Setting → Block → (old : List ℕ) → WayOut → Bool
+is_left_spoilt m b old (Fails why) = true
+is_left_spoilt m b old (Refuses why) = true
+is_left_spoilt m b old (Stores carried stored) = is_spoilt m (stored_lba m.site.faults (route m b)) (m.site.device.leaves (route m b) old stored)
+
+-- A block of which a part is stored can be right by chance, and so can one that is misdirected and altered.
+abbrev pub is_in_doubt : Setting → Block → Bool
+is_in_doubt m b = not (loses m b) && (tears m b || (is_misdirected m b && has_flip m b TargetToMedium))
+
+-- of a frame that a write supplies, over this old block
+abbrev pub accounts_out : Setting → Block → (old frame : List ℕ) → Bool
+accounts_out m b old frame = shows_out m b frame && (not (is_in_doubt m b) || is_left_spoilt m b old (way_out m.site.faults m.site.device (route m b) frame))
+
+abbrev pub step_accounts : Setting → Step → State → Bool
+step_accounts m (Sets at values) s = true
+step_accounts m (Shows at) s = true
+step_accounts m (Seals body tuple app rtag) s = true
+step_accounts m (Writes b app body) s = accounts_out m b (get_or s.blocks (stored_cell m.site (route m b)) []) (own_frame (route m b) app (gather 0 body s.bytes))
+step_accounts m (WritesPi b frame) s = accounts_out m b (get_or s.blocks (stored_cell m.site (route m b)) []) (gather 0 frame s.bytes)
+step_accounts m (Reads b owner to) s = not (is_served m b) || shows_in m b (get_or s.blocks (fetched_cell m.site (route m b)) [])
+step_accounts m (Alters dev lba change) s = step_shows m (Alters dev lba change) s
+
+-- Each fault of the walk can be shown, or is of a block that the medium fails, loses or misdirects.
+abbrev pub accounted : Setting → List Step → State → Bool
+accounted m [] s = true
+accounted m (step ∷ steps) s = step_accounts m step s && accounted m steps (act (act_of m step) s)

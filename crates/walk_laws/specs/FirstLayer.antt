@@ -1,4 +1,4 @@
-use Rattle.std.specs.Prelude.{ℕ, Bool, true, false, ◌&&◌, ◌||◌, not, eqb, if◌then◌else◌, List, [], ◌∷◌, get_or, nat_abs, Option, Some, None}
+use Rattle.std.specs.Prelude.{ℕ, zero, suc, Bool, true, false, ◌&&◌, ◌||◌, not, eqb, if◌then◌else◌, List, [], ◌∷◌, get_or, nat_abs, Option, Some, None}
 use Rattle.std.specs.List.{list_any}
 use Rattle.fault_schedule.specs.Altered.{fails_of, is_line_of, keep_of, shift_of}
 use Rattle.fault_schedule.specs.declared.fault.Crossing.{Crossing}
@@ -39,14 +39,40 @@ is_all (Some n) = false
 abbrev pub is_served : Setting → Block → Bool
 is_served m b = not (fails_of m.site.faults (route m b).label)
 
--- Nor does one let it store but a part of the block.
+-- Nor does one let it store but a part of the block, or store it elsewhere.
 abbrev pub is_stored_whole : Setting → Block → Bool
-is_stored_whole m b = is_served m b && is_all (keep_of m.site.faults (route m b).label)
+is_stored_whole m b = is_served m b && (is_all (keep_of m.site.faults (route m b).label) && not (has_shift m b TargetToMedium))
 
--- A cell is hit where, since the last block that was accepted and stored there, an overwrite altered it, or that block had a flip on its way to the medium.
+abbrev pub keeps_none : Option ℕ → Bool
+keeps_none None = false
+keeps_none (Some zero) = true
+keeps_none (Some (suc n)) = false
+
+abbrev pub keeps_part : Option ℕ → Bool
+keeps_part None = false
+keeps_part (Some zero) = false
+keeps_part (Some (suc n)) = true
+
+-- What a disk does to a write that it acknowledges: it loses the block, or stores a part of it, or stores it elsewhere.
+abbrev pub loses : Setting → Block → Bool
+loses m b = keeps_none (keep_of m.site.faults (route m b).label)
+
+abbrev pub tears : Setting → Block → Bool
+tears m b = keeps_part (keep_of m.site.faults (route m b).label)
+
+abbrev pub is_misdirected : Setting → Block → Bool
+is_misdirected m b = has_shift m b TargetToMedium
+
+-- It does neither the first nor the last: the block's own cell has what comes of it.
+abbrev pub is_at_home : Setting → Block → Bool
+is_at_home m b = not (loses m b) && not (is_misdirected m b)
+
+-- A cell is hit where, since the last block that was accepted and stored there, an overwrite altered it, or that block was torn, had a flip on its way to the medium, or belongs elsewhere. A lost block is stored nowhere.
 abbrev pub is_hit : Setting → (cell : ℕ) → List Event → Bool
 is_hit m cell [] = false
-is_hit m cell (Accepted b e ∷ past) = if eqb (stored_cell m.site (route m b)) cell then has_flip m b TargetToMedium else is_hit m cell past
+is_hit m cell (Accepted b e ∷ past) =
+    if not (loses m b) && eqb (stored_cell m.site (route m b)) cell then is_misdirected m b || (tears m b || has_flip m b TargetToMedium)
+    else is_hit m cell past
 is_hit m cell (Lost b ∷ past) = is_hit m cell past
 is_hit m cell (Overwritten other ∷ past) = eqb other cell || is_hit m cell past
 
@@ -58,9 +84,17 @@ first_layer m past b =
     else if has_flip m b AdapterToHost then Some AtOwner
     else None
 
--- what the newest accepted write of the virtual block brought, else what the opening image has at its place
+-- what the newest accepted write of the virtual block brought, of those that count, else what the opening image has at its place
+abbrev pub last_counted : (counts : Block → Bool) → Setting → (opening : State) → Block → List Event → Brought
+last_counted counts m opening b [] = brought_by m.size (get_or opening.blocks (own_cell m.site (route m b)) [])
+last_counted counts m opening b (Accepted a e ∷ past) = if counts a && eqb a.virt b.virt then e else last_counted counts m opening b past
+last_counted counts m opening b (Lost a ∷ past) = last_counted counts m opening b past
+last_counted counts m opening b (Overwritten cell ∷ past) = last_counted counts m opening b past
+
+-- the last accepted write: what the host was promised
 abbrev pub last_accepted : Setting → (opening : State) → Block → List Event → Brought
-last_accepted m opening b [] = brought_by m.size (get_or opening.blocks (own_cell m.site (route m b)) [])
-last_accepted m opening b (Accepted a e ∷ past) = if eqb a.virt b.virt then e else last_accepted m opening b past
-last_accepted m opening b (Lost a ∷ past) = last_accepted m opening b past
-last_accepted m opening b (Overwritten cell ∷ past) = last_accepted m opening b past
+last_accepted m opening b past = last_counted (λ a. true) m opening b past
+
+-- the last that was stored at home: what the disk has
+abbrev pub last_stored : Setting → (opening : State) → Block → List Event → Brought
+last_stored m opening b past = last_counted (is_at_home m) m opening b past

@@ -5,7 +5,7 @@ pub use Rattle.block_path.specs.Moves.{AreCells, FrameAt, IsOne, carry_in, carry
 pub use Rattle.block_path.specs.Operations.{handed_on, operation}
 pub use Rattle.block_path.specs.Passed.{Passage, Read, ReadCapacity, Request, Sense, Verify, Write as TheVariantsWrite, accepted, asked_of, crossed, data_of, frame_of, frames_of, joined, released, remapped_bytes, request_of, sent_size, stored_size, then_crossed, tuple_of, unless, wanted_of, with_own_tuple}
 unfoldable pub use Rattle.block_path.specs.Passed.{found_in, from_medium, to_medium}
-pub use Rattle.block_path.specs.Routes.{Device, by_target, converted, host_size, host_type, is_crc, medium_lba, moved, passage, passes_tuples, sends_unless, stores_unless, target, told_by, wire_lba, wire_size, with_guard}
+pub use Rattle.block_path.specs.Routes.{Device, by_target, converted, host_size, host_type, is_crc, medium_lba, moved, passage, passes_tuples, sends_unless, stores_unless, target, stored_lba, told_by, wire_lba, wire_size, with_guard}
 pub use Rattle.block_path.specs.Senses.{why_ended}
 pub use Rattle.block_path.specs.Serial.{Apart, Leads, all_done, none_done, plain, plain_tells}
 pub use Rattle.block_path.specs.WayIn.{Delivers, Spoils, Stops, WayIn, adapter_finds_in, at_host, delivered_unless, from_device, mapped_back, owner_finds, owner_says, received, verified, way_in}

@@ -2,7 +2,7 @@ use Rattle.std.specs.Prelude.{ℕ, ◌≡◌, suc, Bool, true, false, eqb, if◌
 use Rattle.pi_tuple.specs.declared.checks.Check.{Check}
 use Rattle.page_pool.specs.declared.segs.Seg.{Seg}
 use Rattle.page_pool.specs.Cells.{gather}
-use Rattle.stack_ops.specs.Passed.{Why, Adapter, Target}
+use Rattle.stack_ops.specs.Passed.{Why, Adapter, Medium as OfMedium, Target}
 use Rattle.stack_ops.specs.declared.op.Op.{Op}
 use Rattle.stack_ops.specs.declared.op.Op.TheVariants.{Fetch, FetchPi}
 use Rattle.stack_ops.specs.declared.reply.BadBlock.{BadBlock}
@@ -13,8 +13,8 @@ use Rattle.block_path.specs.Acts.{State}
 use Rattle.block_path.specs.Blocks.{fetched_cell, own_tuple}
 use Rattle.block_path.specs.WayIn.{owner_says}
 use Rattle.walk_laws.specs.Detectable.{found}
-use Rattle.walk_laws.specs.FirstLayer.{AtAdapter, AtOwner, AtTarget, Layer, first_layer, last_accepted}
-use Rattle.walk_laws.specs.Past.{Brought, past_after, steps_from}
+use Rattle.walk_laws.specs.FirstLayer.{AtAdapter, AtOwner, AtTarget, Layer, first_layer, is_served, last_accepted, last_stored}
+use Rattle.walk_laws.specs.Past.{Brought, Event, past_after, steps_from}
 use Rattle.walk_laws.specs.ScriptWalk.{script_replies, script_walk}
 use Rattle.walk_laws.specs.Settings.{Block, Setting, block_of, route}
 use Rattle.walk_laws.specs.Steps.{body_of, frame_at}
@@ -72,11 +72,24 @@ abbrev pub landing : (size : ℕ) → Owner → (body tuples : List Seg) → ℕ
 landing size OfBlock body tuples k = body_of size body k
 landing size OfApp body tuples k = frame_at size body tuples k
 
--- Block k of the op that follows `before`, a read, is listed exactly where there is a first layer, and else it lands as the last accepted write, by what is past and stored when the op begins.
-abbrev pub ReadsRightly : Setting → (before : List Op) → Owner → (v n : ℕ) → (body tuples : List Seg) → (after : List Op) → State → (k : ℕ) → Type 0
-ReadsRightly m before owner v n body tuples after opening k =
+-- A block that the medium fails is listed with it, whatever else befalls it.
+abbrev pub ReadsWhereServed : (served : Bool) → Setting → Block → Owner → Option Layer → Brought → List (List ℕ) → Option Why → List ℕ → Type 0
+ReadsWhereServed false m b owner layer e blocks listed landed = listed ≡ Some OfMedium
+ReadsWhereServed true m b owner layer e blocks listed landed = ReadsAs m b owner layer e blocks listed landed
+
+-- Block k of the op that follows `before`, a read, by what is past and stored when the op begins: by which blocks are served, and by what is the last that was written.
+abbrev pub ReadsBy : (served : Setting → Block → Bool) → (last : Setting → State → Block → List Event → Brought) → Setting → (before : List Op) → Owner → (v n : ℕ) → (body tuples : List Seg) → (after : List Op) → State → (k : ℕ) → Type 0
+ReadsBy served last m before owner v n body tuples after opening k =
     let b = block_of (suc (length before)) v k in
     let past = past_after m (steps_from m 1 before) opening [] in
-    ReadsAs m b owner (first_layer m past b) (last_accepted m opening b past) (script_walk m before opening).blocks
+    ReadsWhereServed (served m b) m b owner (first_layer m past b) (last m opening b past) (script_walk m before opening).blocks
     (listed_in (get_or (script_replies m (before ++ (read_op owner v n body tuples ∷ after)) opening) (length before) Silent) k)
     (gather 0 (landing m.size owner body tuples k) (script_walk m (before ++ (read_op owner v n body tuples ∷ [])) opening).bytes)
+
+-- Each block is served: it is listed exactly where there is a first layer, and else it lands as the last accepted write.
+abbrev pub ReadsRightly : Setting → (before : List Op) → Owner → (v n : ℕ) → (body tuples : List Seg) → (after : List Op) → State → (k : ℕ) → Type 0
+ReadsRightly m before owner v n body tuples after opening k = ReadsBy (λ m b. true) last_accepted m before owner v n body tuples after opening k
+
+-- It is listed with the medium exactly where a line says that this fails it, else with the first layer where there is one, and else it lands as the last write that was accepted and stored at its place.
+abbrev pub ReadsStored : Setting → (before : List Op) → Owner → (v n : ℕ) → (body tuples : List Seg) → (after : List Op) → State → (k : ℕ) → Type 0
+ReadsStored m before owner v n body tuples after opening k = ReadsBy is_served last_stored m before owner v n body tuples after opening k
