@@ -31,7 +31,8 @@ use Rattle.run_premises.specs.Forms.{is_good_line, is_shown_line, op_of}
 use Rattle.run_premises.specs.FormedRun.{IsOfBytes}
 use Rattle.run_premises.proofs.Lines.{IsLineOf, line_of, none_of, pick}
 use Rattle.run_premises.proofs.Runs.{if_all}
-use Rattle.run_premises.proofs.Shown.{AllSuit, Suits, all_shown, begins, both_suit}
+use Rattle.run_premises.proofs.Accounts.{AllSuit, Suits, both_suit}
+use Rattle.run_premises.proofs.Shown.{all_shown, begins}
 use Rattle.volume_table.specs.declared.device.DeviceInfo.{DeviceInfo}
 use Rattle.mirror_laws.specs.Mirror.{Mirror, all_asked, asked, asks, blocks_in, count_of, done, mirror_opened, twin}
 use Rattle.mirror_laws.specs.OneGood.{AllBind, Binds, script_asks}

@@ -78,7 +78,7 @@ module _ (m' : Setting) (p : ℕ) (some : eqb p 0 ≡ false) (half : ℕ) (count
   AllFit (step ∷ steps) = Fits step × AllFit steps
 
   home-cell : (b : Block) → stored_cell m1.site (route m1 b) ≡ home m' b.virt
-  home-cell b = ap (m'.site.cell (route m' b).dev) (unmoved m' (route m' b).lba (pos 0) refl)
+  home-cell b = ap (m'.site.cell (route m' b).dev) (unmoved m' (moved (route m' b).lba (pos 0)) (pos 0) refl ∙ unmoved m' (route m' b).lba (pos 0) refl)
 
   record Same (step : Step) (s : State) : Type 0 where
     state : act (act_of mp step) s ≡ act (act_of m1 step) s

@@ -9,7 +9,8 @@ use Rattle.stack_ops.specs.declared.op.Op.{Op}
 use Rattle.volume_table.specs.Places.{volume_len}
 use Rattle.volume_table.specs.Tables.{Table}
 use Rattle.volume_table.specs.declared.device.DeviceInfo.{DeviceInfo}
-use Rattle.script_text.specs.Bindings.{is_shift, or_else, request_at, stored_bytes}
+use Rattle.script_text.specs.Bindings.{is_shift, or_else, request_at}
+use Rattle.rig_api.specs.Frames.{stored_size}
 use Rattle.script_text.specs.declared.fault.ScriptFault.{ScriptFault}
 use Rattle.script_text.specs.declared.script.Script.{Script}
 use Rattle.script_stack.specs.Passed.{Each, Keeps}
@@ -41,13 +42,13 @@ all_fit protect stored ops earlier (f ∷ faults) (line ∷ lines) l h =
 pub asked : (s : Script) (t : Table) (devices : List DeviceInfo) → Keeps s → length s.lines ≡ length s.faults + length s.ops → mirror_fault s t devices ≡ None → IsMirrorScript s t (volume_len t.entries / 2)
 asked s t devices k l h =
     let ops = ops_fault s.mode.protect t devices s.block s.ops (drop (length s.faults) s.lines) in
-    let faults = faults_fault s.mode.protect (stored_bytes t.ty s.block) s.ops [] s.faults s.lines in
+    let faults = faults_fault s.mode.protect (stored_size t.ty s.block) s.ops [] s.faults s.lines in
     let a = or-none (mode_fault s.mode t.ty) (or_else (length_fault (volume_len t.entries)) (or_else faults ops)) h in
     let b = or-none (length_fault (volume_len t.entries)) (or_else faults ops) a.1 in
     let c = or-none faults ops b.1 in
     let d = and_parts s.mode.dix (s.mode.dif && names_blocks t.ty) (none_when (s.mode.dix && (s.mode.dif && names_blocks t.ty)) _ a.0) in
     let e = and_parts s.mode.dif (names_blocks t.ty) d.1 in
-    let fit = all_fit s.mode.protect (stored_bytes t.ty s.block) s.ops [] s.faults s.lines (omega arith) c.0 in
+    let fit = all_fit s.mode.protect (stored_size t.ty s.block) s.ops [] s.faults s.lines (omega arith) c.0 in
     let even = eqb-true (volume_len t.entries % 2) 0 (none_when (eqb (volume_len t.entries % 2) 0) _ b.0) in
     record {
       protect_is = k.mode_is.protect_is;

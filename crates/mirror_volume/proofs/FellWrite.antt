@@ -4,7 +4,8 @@ use Rattle.std.specs.Prelude.{nat_abs}
 use Rattle.std.proofs.lemmas.List.{length-replicate}
 use Rattle.page_pool.specs.declared.segs.Seg.{Seg}
 use Rattle.page_pool.specs.Cells.{flat, gather}
-use Rattle.fault_schedule.specs.declared.fault.Crossing.TheVariants.{AdapterToTarget}
+use Rattle.fault_schedule.specs.declared.fault.Crossing.{Crossing}
+use Rattle.fault_schedule.specs.declared.fault.Crossing.TheVariants.{AdapterToTarget, TargetToMedium}
 use Rattle.fault_schedule.specs.Altered.{shift_of}
 use Rattle.bio_core.specs.declared.fate.Why.{Why}
 use Rattle.rig_api.specs.Log.{LogEntry}
@@ -15,6 +16,7 @@ use Rattle.dix_adapter.specs.Ways.{blocks_told, cell_in, shapes_of}
 use Rattle.block_path.specs.Acts.{State}
 use Rattle.block_path.specs.Blocks.{stored_cell}
 use Rattle.block_path.specs.Moves.{hidden}
+use Rattle.block_path.specs.Routes.{moved}
 use Rattle.stack_ops.specs.declared.op.Op.{Op}
 use Rattle.stack_ops.specs.declared.op.Op.TheVariants.{Write}
 use Rattle.stack_ops.specs.declared.reply.Reply.{Reply}
@@ -72,7 +74,12 @@ module _ (s : Script) (t : Table) (half : ℕ) (p : Piece) (is : IsMirrorScript 
   there k = record { op = p.op; k = first_label p + k; virt = v + k }
 
   pub at-home : (k : ℕ) → stored_cell m.site (route m (there k)) ≡ home m (v + k)
-  at-home k = ap (cell_in (shapes_of us) (place_in t.entries (v + k)).0) (unmoved m (place_in t.entries (v + k)).1 (shift_of s.faults AdapterToTarget p.op) (ap nat_abs (still s.faults is.flips AdapterToTarget p.op)))
+  at-home k =
+      let lba = (place_in t.entries (v + k)).1 in
+      let wire = moved lba (shift_of s.faults AdapterToTarget p.op) in
+      let stays = λ (at : Crossing). ap nat_abs (still s.faults is.flips at p.op) in
+      ap (cell_in (shapes_of us) (place_in t.entries (v + k)).0)
+      (unmoved m wire (shift_of s.faults TargetToMedium p.op) (stays TargetToMedium) ∙ unmoved m lba (shift_of s.faults AdapterToTarget p.op) (stays AdapterToTarget))
 
   -- ---- a write
 

@@ -8,7 +8,7 @@ use Rattle.page_pool.specs.Cells.{flat, gather}
 use Rattle.range_gate.specs.Cells.{in_turn}
 use Rattle.fault_schedule.specs.Altered.{shift_of}
 use Rattle.fault_schedule.specs.declared.fault.Crossing.{Crossing}
-use Rattle.fault_schedule.specs.declared.fault.Crossing.TheVariants.{AdapterToTarget, MediumToTarget}
+use Rattle.fault_schedule.specs.declared.fault.Crossing.TheVariants.{AdapterToTarget, MediumToTarget, TargetToMedium}
 use Rattle.fault_schedule.specs.declared.Label.{Label}
 use Rattle.fault_schedule.specs.declared.fault.FaultLine.{FaultLine}
 use Rattle.pi_tuple.specs.declared.checks.Check.{Check}
@@ -26,7 +26,7 @@ use Rattle.volume_table.specs.Places.{place_in}
 use Rattle.volume_table.specs.Tables.{MadeFor, Table}
 use Rattle.block_path.specs.Acts.{State}
 use Rattle.block_path.specs.Blocks.{fetched_cell, own_frame}
-use Rattle.block_path.specs.Routes.{host_size, medium_lba, target, wire_lba, wire_size}
+use Rattle.block_path.specs.Routes.{host_size, moved, target, wire_lba, wire_size}
 use Rattle.block_path.specs.WayIn.{at_host, delivered_of, delivered_unless, from_device, from_wire, mapped_back, owner_finds, verified, way_in}
 use Rattle.block_path.specs.WayOut.{stored_of}
 use Rattle.block_path.specs.declared.route.Route.{Route}
@@ -49,7 +49,7 @@ use Rattle.mirror_volume.specs.Legs.{ReadOnLeg, WroteOnLeg, blocks_of, mirror_se
 use Rattle.mirror_volume.specs.MirrorScript.{IsMirrorScript, IsPiece}
 use Rattle.mirror_volume.proofs.Blocks.{Alike, AreRead, AreWritten, all_read, all_written}
 use Rattle.mirror_volume.proofs.Puts.{puts_walk, replies_puts, walk_puts}
-use Rattle.mirror_volume.proofs.Renumbered.{altered_same, fails_same, in_same, kept_same, medium_same, out_same, own_flips, still, wire_same}
+use Rattle.mirror_volume.proofs.Renumbered.{altered_same, fails_same, in_same, kept_same, medium_same, out_same, own_flips, still, stored_same}
 use Rattle.mirror_volume.proofs.Turns.{body_cells, gathered}
 
 -- ---- pages for so many bytes
@@ -132,7 +132,7 @@ module _ (s : Script) (t : Table) (half : ℕ) (p : Piece) (is : IsMirrorScript 
         let r : Label = record { op = p.op; k = first_label p + k } in
         let dev = (place_in t.entries (v + k)).0 in
         let lba = (place_in t.entries (v + k)).1 in
-        let wire = wire_same faults s.faults q r (v + k) dev lba t.ty s.block s.mode a unshifted fails in
+        let stored = stored_same faults s.faults q r (v + k) dev lba t.ty s.block s.mode a unshifted fails in
         let medium = medium_same faults s.faults q r (v + k) dev lba t.ty s.block s.mode a unshifted fails in
         let cell = cell_in (shapes_of us) in
         record {
@@ -140,7 +140,7 @@ module _ (s : Script) (t : Table) (half : ℕ) (p : Piece) (is : IsMirrorScript 
           reads = λ blocks.
               ap (λ at. delivered_of (way_in faults (target faults) (route own (block_of request v k)) OfBlock (get_or blocks (cell dev at) []))) medium
               ∙ ap delivered_of (in_same faults s.faults q r (v + k) dev lba t.ty s.block s.mode a unshifted fails OfBlock (get_or blocks (fetched_cell m.site (route m (there k))) []));
-          stored = ap (cell dev) wire;
+          stored = ap (cell dev) stored;
           leaves = λ old frame. kept_same p request s.faults k l old frame;
         }
 
@@ -216,9 +216,9 @@ module _ (s : Script) (t : Table) (half : ℕ) (p : Piece) (is : IsMirrorScript 
       on_wire : wire_lba s.faults (route m (there k)) ≡ lba_at
       on_wire = unmoved m lba_at (shift_of s.faults AdapterToTarget p.op) (ap nat_abs (still s.faults is.flips AdapterToTarget p.op))
 
-      on_medium : medium_lba s.faults (route m (there k)) ≡ lba_at
-      on_medium =
-          unmoved m (wire_lba s.faults (route m (there k))) (shift_of s.faults MediumToTarget p.op) (ap nat_abs (still s.faults is.flips MediumToTarget p.op)) ∙ on_wire
+      -- moved on the wire and at the medium
+      on_medium : (at : Crossing) → moved (wire_lba s.faults (route m (there k))) (shift_of s.faults at p.op) ≡ lba_at
+      on_medium at = unmoved m (wire_lba s.faults (route m (there k))) (shift_of s.faults at p.op) (ap nat_abs (still s.faults is.flips at p.op)) ∙ on_wire
 
       long_there : length (get_or (blocks_told us) (cell_in (shapes_of us) dev_at lba_at) []) ≡ stored_size t.ty s.block
       long_there =
@@ -230,8 +230,8 @@ module _ (s : Script) (t : Table) (half : ℕ) (p : Piece) (is : IsMirrorScript 
       at_target = record {
         device = refl;
         protect = (let g = is.protect_is.range.low_is in omega (arith, g));
-        stored = ap (λ a. length (get_or (blocks_told us) (cell_in (shapes_of us) dev_at a) [])) on_wire ∙ long_there;
-        fetched = ap (λ a. length (get_or (blocks_told us) (cell_in (shapes_of us) dev_at a) [])) on_medium ∙ long_there;
+        stored = ap (λ a. length (get_or (blocks_told us) (cell_in (shapes_of us) dev_at a) [])) (on_medium TargetToMedium) ∙ long_there;
+        fetched = ap (λ a. length (get_or (blocks_told us) (cell_in (shapes_of us) dev_at a) [])) (on_medium MediumToTarget) ∙ long_there;
       }
 
       pub delivers : (P : ℕ → Type 0) → P (host_size (route m (there k))) → IfOk (reading m (there k) (blocks_told us)) (λ f. P (length f))

@@ -13,7 +13,8 @@ use Rattle.volume_table.specs.Places.{volume_len}
 use Rattle.volume_table.specs.Tables.{Table}
 use Rattle.walk_laws.specs.Settings.{Setting}
 use Rattle.run_laws.specs.ShownRun.{HasCells, IsChecked, LiesOn}
-use Rattle.script_text.specs.Bindings.{or_else, stored_bytes}
+use Rattle.script_text.specs.Bindings.{or_else}
+use Rattle.rig_api.specs.Frames.{stored_size}
 use Rattle.script_text.specs.Ops.{data_fault}
 use Rattle.script_text.specs.declared.script.Script.{Script}
 use Rattle.script_laws.specs.Keeping.{IsOp as KeepsRules}
@@ -83,7 +84,7 @@ module _ (s : Script) (devices : List DeviceInfo) (us : List Stored) (is : IsMir
   -- tuples pass between adapter and target
   pub dif-on : s.mode.dif ≡ true
   dif-on =
-      let a = or-none (mode_fault s.mode t.ty) (or_else (length_fault (volume_len t.entries)) (or_else (faults_fault s.mode.protect (stored_bytes t.ty s.block) s.ops [] s.faults s.lines) _)) is.bound.bound in
+      let a = or-none (mode_fault s.mode t.ty) (or_else (length_fault (volume_len t.entries)) (or_else (faults_fault s.mode.protect (stored_size t.ty s.block) s.ops [] s.faults s.lines) _)) is.bound.bound in
       (and_parts s.mode.dif (names_blocks t.ty) (and_parts s.mode.dix (s.mode.dif && names_blocks t.ty) (none_when (s.mode.dix && (s.mode.dif && names_blocks t.ty)) _ a.0)).1).0
 
   pub checked-over : t.ty ≡ One → s.mode.protect ≡ 1 → IsChecked m

@@ -18,7 +18,8 @@ use Rattle.block_path.specs.WayIn.{delivered_of, way_in}
 use Rattle.block_path.specs.WayOut.{stored_of}
 use Rattle.walk_laws.specs.Past.{Brought}
 use Rattle.walk_laws.specs.Settings.{Block, Setting, route}
-use Rattle.script_text.specs.Bindings.{or_else, request_at, stored_bytes}
+use Rattle.script_text.specs.Bindings.{or_else, request_at}
+use Rattle.rig_api.specs.Frames.{stored_size}
 use Rattle.script_text.specs.declared.script.Script.{Script}
 use Rattle.mirror_volume.proofs.LegsPassed.{if-none, or-none}
 use Rattle.mirror_volume.specs.LegsPassed.{faults_fault, is_bad_kind, is_bad_line, is_past, length_fault, mirror_fault, mode_fault, ops_fault, Each}
@@ -47,11 +48,11 @@ none-named protect stored ops earlier (f ∷ faults) (line ∷ lines) l h =
 pub none-of-zero : (s : Script) (t : Table) (devices : List DeviceInfo) → length s.lines ≡ length s.faults + length s.ops → mirror_fault s t devices ≡ None → NoneOfZero s.faults
 none-of-zero s t devices l h =
     let ops = ops_fault s.mode.protect t devices s.block s.ops (drop (length s.faults) s.lines) in
-    let faults = faults_fault s.mode.protect (stored_bytes t.ty s.block) s.ops [] s.faults s.lines in
+    let faults = faults_fault s.mode.protect (stored_size t.ty s.block) s.ops [] s.faults s.lines in
     let a = or-none (mode_fault s.mode t.ty) (or_else (length_fault (volume_len t.entries)) (or_else faults ops)) h in
     let b = or-none (length_fault (volume_len t.entries)) (or_else faults ops) a.1 in
     let c = or-none faults ops b.1 in
-    none-named s.mode.protect (stored_bytes t.ty s.block) s.ops [] s.faults s.lines (omega (arith, l)) c.0
+    none-named s.mode.protect (stored_size t.ty s.block) s.ops [] s.faults s.lines (omega (arith, l)) c.0
 
 none-own : (p : Piece) (request : ℕ) (faults : List FaultLine) → p.op ≡ 0 → NoneOfZero faults → own_faults p request faults ≡ []
 none-own p request [] e h = refl

@@ -22,7 +22,7 @@ use Rattle.block_path.specs.declared.operation.Operation.{Operation}
 use Rattle.block_path.specs.declared.operation.Operation.TheVariants.{Normal, ReadInsert, ReadPass, ReadStrip, WriteInsert, WritePass, WriteStrip}
 use Rattle.block_path.specs.declared.route.Route.{Route}
 use Rattle.block_path.specs.Operations.{handed_on, operation_of}
-use Rattle.block_path.specs.Routes.{by_target, medium_lba, moved, passage, sends_unless, stores_unless, target, wire_lba}
+use Rattle.block_path.specs.Routes.{by_target, medium_lba, moved, passage, sends_unless, stored_lba, stores_unless, target, wire_lba}
 use Rattle.block_path.specs.WayIn.{Delivers, Spoils, Stops, WayIn, adapter_finds_in, at_host, from_device, from_wire, received, verified, way_in}
 use Rattle.block_path.specs.WayOut.{adapter_finds_out, at_device, checked_out, from_adapter, mapped_out, to_wire, way_out}
 use Rattle.script_text.specs.Bindings.{is_shift}
@@ -150,11 +150,14 @@ module _ (F G : List FaultLine) (l q : Label) (virt dev lba : ℕ) (ty : PiType)
   abbrev w : Route
   w = record { label = q; virt = virt; dev = dev; lba = lba; ty = ty; size = size; mode = mode }
 
-  pub wire_same : wire_lba F r ≡ wire_lba G w
+  wire_same : wire_lba F r ≡ wire_lba G w
   wire_same = ap (moved lba) (shift AdapterToTarget)
 
   pub medium_same : medium_lba F r ≡ medium_lba G w
   medium_same = λ i. moved (wire_same i) (shift MediumToTarget i)
+
+  pub stored_same : stored_lba F r ≡ stored_lba G w
+  stored_same = λ i. moved (wire_same i) (shift TargetToMedium i)
 
   then_same : (at : Crossing) (came : Result (List ℕ) Check) → then_crossed F (Some l) at came ≡ then_crossed G (Some q) at came
   then_same at (Ok x) = λ i. Ok (same at x i)

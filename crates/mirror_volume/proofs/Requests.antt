@@ -18,7 +18,8 @@ use Rattle.volume_table.specs.declared.device.DeviceInfo.{DeviceInfo}
 use Rattle.volume_table.specs.Places.{volume_len}
 use Rattle.volume_table.specs.Tables.{Table}
 use Rattle.script_lines.specs.declared.kind.ScriptKind.TheVariants.{BadFault, BadRange}
-use Rattle.script_text.specs.Bindings.{is_alterable, is_bad_change, or_else, stored_bytes}
+use Rattle.script_text.specs.Bindings.{is_alterable, is_bad_change, or_else}
+use Rattle.rig_api.specs.Frames.{stored_size}
 use Rattle.script_text.specs.declared.script.Script.{Script}
 use Rattle.script_text.specs.Ops.{data_fault}
 use Rattle.mirror_volume.proofs.LegsPassed.{IsChange, good-change, alone-of, if-none, op-keeps, distinct-body, stands, or-none, stack-op, line-none}
@@ -41,7 +42,7 @@ pub op-fits : (s : Script) (devices : List DeviceInfo) (k : ℕ) → IsBoundMirr
 op-fits s devices k is l =
     let t = table_of s devices in
     let ops = ops_fault s.mode.protect t devices s.block s.ops (drop (length s.faults) s.lines) in
-    let faults = faults_fault s.mode.protect (stored_bytes t.ty s.block) s.ops [] s.faults s.lines in
+    let faults = faults_fault s.mode.protect (stored_size t.ty s.block) s.ops [] s.faults s.lines in
     let a = or-none (mode_fault s.mode t.ty) (or_else (length_fault (volume_len t.entries)) (or_else faults ops)) is.bound in
     let b = or-none (length_fault (volume_len t.entries)) (or_else faults ops) a.1 in
     let c = or-none faults ops b.1 in

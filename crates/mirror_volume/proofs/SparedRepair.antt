@@ -1,12 +1,12 @@
 -- The repair of a mirror where store calls may fail: a leg's block that no request names is left as it is.
 use Rattle.std.proofs.Common.{◌≡◌, ◌<◌, ◌≤◌, inl, inr, ℕ, zero, suc, ◌+◌, ◌-◌, ◌*◌, Bool, true, false, ◌&&◌, ◌||◌, eqb, if◌then◌else◌, List, [], ◌∷◌, ◌++◌, length, min, get_or, replicate, take, drop, Option, None, refl, sym, ap, subst, ◌∙◌, arith}
-use Rattle.std.specs.Prelude.{Ok, is_some, not}
+use Rattle.std.specs.Prelude.{Ok, ℤ, is_some, nat_abs, not, pos, unwrap_or}
 use Rattle.std.specs.List.{list_any}
 use Rattle.std.proofs.lemmas.Bool.{and_from, and_parts, eqb-true, false≢true, or_from, or_parts}
 use Rattle.std.proofs.lemmas.List.{get_or-drop, get_or-map, get_or-replicate, get_or-take, length-drop, length-map, length-replicate, length-take-le}
 use Rattle.pi_guard.specs.Guards.{crc}
 use Rattle.pi_tuple.proofs.TupleLaws.{same_fields}
-use Rattle.fault_schedule.specs.Altered.{fails_by, fails_of, is_fail, is_line_of, is_same, keep_of, keep_or, kept_bytes}
+use Rattle.fault_schedule.specs.Altered.{fails_by, fails_of, is_fail, is_line_of, is_same, keep_of, keep_or, kept_bytes, moved_by, shift_of}
 use Rattle.fault_schedule.specs.declared.fault.Crossing.{Crossing}
 use Rattle.fault_schedule.specs.declared.fault.Crossing.TheVariants.{TargetToMedium}
 use Rattle.fault_schedule.specs.declared.fault.FaultLine.{FaultLine}
@@ -16,7 +16,7 @@ use Rattle.rig_api.specs.Target.{Stored}
 use Rattle.volume_table.specs.Tables.{Table}
 use Rattle.volume_table.specs.declared.device.DeviceInfo.{DeviceInfo}
 use Rattle.dix_adapter.specs.Ways.{blocks_told, shapes_of}
-use Rattle.walk_laws.specs.FirstLayer.{is_all, is_flip, is_served, is_stored_whole}
+use Rattle.walk_laws.specs.FirstLayer.{has_shift, is_all, is_flip, is_served, is_stored_whole}
 use Rattle.walk_laws.specs.Past.{Brought}
 use Rattle.walk_laws.specs.Settings.{Block, Setting}
 use Rattle.walk_laws.specs.UnderMap.{home}
@@ -69,6 +69,14 @@ none-keeps (f ∷ faults) label e h = by (is_line_of f TargetToMedium label) ref
       absurd (h.0 (eqb-true f.op label.op (and_parts (eqb f.op label.op) (eqb f.k label.k) (and_parts (is_same f.at TargetToMedium) (eqb f.op label.op && eqb f.k label.k) k).1).0 ∙ e))
   by false k rest = rest
 
+-- nor moves it
+none-moves : (faults : List FaultLine) (at : Crossing) (op : ℕ) → op ≡ 0 → NoneOfZero faults → shift_of faults at op ≡ pos 0
+none-moves [] at op e h = refl
+none-moves (f ∷ faults) at op e h = by (is_same f.at at && eqb f.op op) refl (none-moves faults at op e h.1) where
+  by : (c : Bool) → (is_same f.at at && eqb f.op op) ≡ c → shift_of faults at op ≡ pos 0 → unwrap_or (if c then moved_by f.kind else None) (shift_of faults at op) ≡ pos 0
+  by true k rest = absurd (h.0 (eqb-true f.op op (and_parts (is_same f.at at) (eqb f.op op) k).1 ∙ e))
+  by false k rest = rest
+
 none-fails : (faults : List FaultLine) (label : Label) → label.op ≡ 0 → NoneOfZero faults → fails_of faults label ≡ false
 none-fails [] label e h = refl
 none-fails (f ∷ faults) label e h = or_from (fails_by f label) (fails_of faults label) (one (is_fail f.kind) (eqb f.op label.op) refl) (none-fails faults label e h.1) where
@@ -100,7 +108,10 @@ module _ (s : Script) (devices : List DeviceInfo) (us : List Stored) (over : IsM
   whole-zero : (b : Block) → b.op ≡ 0 → is_stored_whole m b ≡ true
   whole-zero b z =
       let none = none-of-zero s t devices over.bound.lines over.bound.bound in
-      and_from (is_served m b) (is_all (keep_of s.faults (record { op = b.op; k = b.k }))) (ap not (none-fails s.faults (record { op = b.op; k = b.k }) z none)) (ap is_all (none-keeps s.faults (record { op = b.op; k = b.k }) z none))
+      let label : Label = record { op = b.op; k = b.k } in
+      let stays = ap (λ (by : ℤ). not (eqb (nat_abs by) 0)) (none-moves s.faults TargetToMedium b.op z none) in
+      and_from (is_served m b) (is_all (keep_of s.faults label) && not (has_shift m b TargetToMedium)) (ap not (none-fails s.faults label z none))
+      (and_from (is_all (keep_of s.faults label)) (not (has_shift m b TargetToMedium)) (ap is_all (none-keeps s.faults label z none)) (ap not stays))
 
   -- The leg is fresh, and has what the block was last written with.
   pub record Good (now : List Stored) (marks : List Marks) : Type 0 where

@@ -20,7 +20,9 @@ use Rattle.volume_table.specs.Places.{volume_len}
 use Rattle.volume_table.specs.Tables.{Table}
 use Rattle.volume_table.specs.declared.device.DeviceInfo.{DeviceInfo}
 use Rattle.script_lines.specs.declared.kind.ScriptKind.TheVariants.{BadFault, BadRange, BadSegments, SegOverlap, TooMany, NoIntegrity}
-use Rattle.script_text.specs.Bindings.{at_line, expect_fault, faults_fault, has_no_tuples, is_at_medium, is_bad_kind, is_bad_on, is_of_medium, is_shift, names_block, ops_fault, or_else, range_fault, request_at, request_by, stored_bytes}
+use Rattle.script_text.specs.Bindings.{at_line, expect_fault, faults_fault, has_no_tuples, is_at_medium, is_bad_kind, is_bad_on, is_of_medium, is_shift, names_block, ops_fault, or_else, range_fault, request_at, request_by}
+use Rattle.script_text.specs.Crossings.{is_read}
+use Rattle.rig_api.specs.Frames.{stored_size}
 use Rattle.script_text.specs.Ops.{are_tuples, both_fault, data_fault, is_body, unless, where_inside}
 use Rattle.script_text.specs.Rules.{is_count}
 use Rattle.script_text.specs.Segments.{any_share, are_few_each, are_inside, are_whole_tuples, do_overlap, few_from, is_inside, is_whole}
@@ -276,16 +278,16 @@ expects s ty h = by (Some (record { line = s.expect_line; kind = NoIntegrity }))
   by fault true b e = ap (λ (c : Bool). if c then fault else None) e
   by fault false b e = refl
 
-good_kind : (t : Table) (devices : List DeviceInfo) (size : ℕ) (earlier : List FaultLine) (f : FaultLine) (request : ℕ × ℕ) (kind : FaultKind) → is_shift kind ≡ false → is_unfit (stored_bytes t.ty size) earlier f kind ≡ false →
-    is_bad_kind t devices size earlier f request kind ≡ false
-good_kind t devices size earlier f request (Flip off bytes) h k = refl
-good_kind t devices size earlier f request (Shift moves) h k = absurd (cc)
-good_kind t devices size earlier f request (Keep bytes) h k = k
-good_kind t devices size earlier f request Fail h k = k
+good_kind : (t : Table) (devices : List DeviceInfo) (size : ℕ) (earlier : List FaultLine) (f : FaultLine) (reads : Bool) (request : ℕ × ℕ) (kind : FaultKind) → is_shift kind ≡ false → is_unfit (stored_size t.ty size) earlier f kind ≡ false →
+    is_bad_kind t devices size earlier f reads request kind ≡ false
+good_kind t devices size earlier f reads request (Flip off bytes) h k = refl
+good_kind t devices size earlier f reads request (Shift moves) h k = absurd (cc)
+good_kind t devices size earlier f reads request (Keep bytes) h k = k
+good_kind t devices size earlier f reads request Fail h k = k
 
-good_line : (t : Table) (devices : List DeviceInfo) (size : ℕ) (earlier : List FaultLine) (f : FaultLine) (v n : ℕ) → f.k < n → is_shift f.kind ≡ false → is_unfit (stored_bytes t.ty size) earlier f f.kind ≡ false →
-    is_bad_on t devices size earlier f (Some (v, n)) ≡ false
-good_line t devices size earlier f v n l h k = ap (λ (c : Bool). not c || is_bad_kind t devices size earlier f (v, n) f.kind) (lt-ltb f.k n l) ∙ good_kind t devices size earlier f (v, n) f.kind h k
+good_line : (t : Table) (devices : List DeviceInfo) (size : ℕ) (earlier : List FaultLine) (f : FaultLine) (reads : Bool) (v n : ℕ) → f.k < n → is_shift f.kind ≡ false → is_unfit (stored_size t.ty size) earlier f f.kind ≡ false →
+    is_bad_on t devices size earlier f reads (Some (v, n)) ≡ false
+good_line t devices size earlier f reads v n l h k = ap (λ (c : Bool). not c || is_bad_kind t devices size earlier f reads (v, n) f.kind) (lt-ltb f.k n l) ∙ good_kind t devices size earlier f reads (v, n) f.kind h k
 
 module _ (p : Piece) (request : ℕ) where
   record IsIn (f : FaultLine) : Type 0 where
@@ -343,7 +345,7 @@ module _ (p : Piece) (request : ℕ) where
     by false rest = rest
 
 module _ (t : Table) (devices : List DeviceInfo) (size : ℕ) (ops : List Op) (p : Piece) (request v : ℕ) (there : request_at ops request ≡ Some (v, p.n)) where
-  own_fine : (faults : List FaultLine) → Each (λ f. is_shift f.kind ≡ false) faults → (earlier : List FaultLine) → AllFit (stored_bytes t.ty size) earlier faults → (lines : List ℕ) →
+  own_fine : (faults : List FaultLine) → Each (λ f. is_shift f.kind ≡ false) faults → (earlier : List FaultLine) → AllFit (stored_size t.ty size) earlier faults → (lines : List ℕ) →
       faults_fault t devices size ops (own_faults p request earlier) (own_faults p request faults) lines ≡ None
   own_fine [] h earlier k lines = refl
   own_fine (f ∷ faults) h earlier k lines = by (is_own p request f) refl (own_fine faults h.1 (earlier ++ (f ∷ [])) k.1) lines where
@@ -362,8 +364,8 @@ module _ (t : Table) (devices : List DeviceInfo) (size : ℕ) (ops : List Op) (p
         let its = in_piece p request f e in
         let low = its.low in
         let high = its.high in
-        let good : is_bad_on t devices size was mine (request_at ops request) ≡ false =
-        ap (is_bad_on t devices size was mine) there ∙ good_line t devices size was mine v p.n (omega arith) h.0 (own_fit p request (stored_bytes t.ty size) f its earlier f.kind k.0) in
+        let good : is_bad_on t devices size was mine (is_read ops request) (request_at ops request) ≡ false =
+        ap (is_bad_on t devices size was mine (is_read ops request)) there ∙ good_line t devices size was mine (is_read ops request) v p.n (omega arith) h.0 (own_fit p request (stored_size t.ty size) f its earlier f.kind k.0) in
         ap (λ (c : Bool). if c then Some (record { line = line; kind = BadFault }) else faults_fault t devices size ops (was ++ (mine ∷ [])) (own_faults p request faults) lines) good
         ∙ ap (λ (xs : List FaultLine). faults_fault t devices size ops xs (own_faults p request faults) lines) (sym (next true e)) ∙ rest lines
     by false e rest lines =

@@ -5,7 +5,8 @@ use Rattle.volume_table.specs.Tables.{Table}
 use Rattle.fault_schedule.specs.declared.fault.FaultKind.{FaultKind}
 use Rattle.fault_schedule.specs.declared.fault.FaultKind.TheVariants.{Flip, Shift, Keep, Fail}
 use Rattle.fault_schedule.specs.declared.fault.FaultLine.{FaultLine}
-use Rattle.script_text.specs.Bindings.{is_bad_fail, is_bad_keep, is_shift, stored_bytes}
+use Rattle.script_text.specs.Bindings.{is_bad_fail, is_bad_keep, is_shift}
+use Rattle.rig_api.specs.Frames.{stored_size}
 use Rattle.script_text.specs.declared.script.Script.{Script}
 use Rattle.script_stack.specs.Passed.{Each, IsProtect, IsWithin}
 use Rattle.mirror_script.specs.MirrorFaults.{names_blocks}
@@ -35,7 +36,7 @@ pub record IsMirrorScript (s : Script) (t : Table) (half : ℕ) : Type 0 where
   pub type_is : names_blocks t.ty ≡ true
   pub long : volume_len t.entries ≡ half + half
   pub flips : Each (λ f. is_shift f.kind ≡ false) s.faults
-  pub keeps : AllFit (stored_bytes t.ty s.block) [] s.faults
+  pub keeps : AllFit (stored_size t.ty s.block) [] s.faults
 
 -- The piece has blocks, they lie on the mirror, and their data have room in 256 pages.
 pub record IsPiece (size half : ℕ) (p : Piece) : Type 0 where

@@ -22,7 +22,7 @@ use Rattle.block_path.proofs.Cells.{below}
 use Rattle.run_laws.specs.Passed.{AllFit, IsCalmRun, LiesInImage, MapEntry, Plain, all_pass, as_expected, entry_of, finds_of_app, finds_plainly, kept_unless, own_in, plain_from, plain_map, plain_step, tag_of, act_of, acts_of, script_walk, walk_from, Setting, route, Alters, Reads, Seals, Sets, Shows, Step, Writes, WritesPi, steps_of, AreClean, IsClean, IsUnder, NoEscape, NoneEscapes, SuppliesNoEscape, address_of, held, home, map_from, opened, stored_as, under}
 use Rattle.run_laws.proofs.Passed.{op_meets, silent_form, IsProper, quiet, rtag_below, AllProper, map_length, proper_opened, under_opened, under_length, AllMeet, Stands, all_steps, Small, data_is, tuple_is, tag_right}
 use Rattle.run_laws.specs.ShownRun.{DevicesAreClean, HasCells, LiesOn}
-use Rattle.run_laws.proofs.Along.{set_cases}
+use Rattle.run_laws.proofs.Counted.{set_cases}
 use Rattle.run_laws.proofs.Passing.{host_same}
 
 -- ---- entries that are no escape

@@ -20,8 +20,8 @@ use Rattle.run_laws.proofs.Reading.{checked_form, none_escapes}
 use Rattle.stack_ops.specs.Ops.{first_virt, is_overwrite}
 use Rattle.run_premises.specs.Forms.{brings_tuples, is_good_line, is_stored_altered, op_of, virt_of}
 use Rattle.run_premises.specs.FormedRun.{HasFormedFaults, IsOfBytes}
-use Rattle.run_premises.proofs.Shown.{AllSuit, all_shown, begins, both_suit, each_suits}
-use Rattle.run_premises.proofs.Lines.{IsLineOf, line_of, none_of}
+use Rattle.run_premises.proofs.Named.{AllFitting, Brings, IsNamed, all_suit, kept_there, virt_is}
+use Rattle.run_premises.proofs.Shown.{all_shown, begins}
 use Rattle.run_premises.proofs.Ways.{the_line}
 
 pub mends : (a b : Bool) → (a && b) ≡ false → a ≡ true → b ≡ true → ⊥
@@ -40,92 +40,29 @@ module _ (m' : Setting) (ops : List Op) (even : m'.size % 2 ≡ 0) (flips : All 
   abbrev faults : List FaultLine
   faults = m'.site.faults
 
-  -- the block is the one that its op names at its place
-  abbrev pub IsNamed : Block → Type 0
-  IsNamed b = first_virt (op_of ops b.op) + b.k ≡ b.virt
-
-  -- an application brings its tuple
-  abbrev pub Brings : Block → Type 0
-  Brings b = brings_tuples (op_of ops b.op) ≡ true
-
-  abbrev pub AllFitting : List Step → Type 0
-  AllFitting = AllSuit m IsNamed Brings
-
-  -- ---- lines of a block
-
-  virt_is : (b : Block) (at : Crossing) (line : FaultLine) → IsLineOf line at (route m b).label → IsNamed b → virt_of ops line ≡ b.virt
-  virt_is b at line h e = ap (λ label. first_virt (op_of ops label.op) + label.k) h.labelled ∙ e
-
-  -- where no line alters the virtual block on its way to the medium, none alters this one
-  kept_there : (b : Block) → IsNamed b → is_stored_altered ops faults b.virt ≡ false → has_flip m b TargetToMedium ≡ false
-  kept_there b e h =
-      none_of (λ line. is_line_of line TargetToMedium (route m b).label && is_flip line.kind) (λ line. is_same line.at TargetToMedium && eqb (virt_of ops line) b.virt) faults (λ line t.
-      let l = line_of line TargetToMedium (route m b).label t in
-      and_from (is_same line.at TargetToMedium) (eqb (virt_of ops line) b.virt) (ap (λ at. is_same at TargetToMedium) l.crossing) (eq-eqb (virt_of ops line) b.virt (virt_is b TargetToMedium line l e)))
-      h
-
   -- a block that is altered on its way from the medium isn't on its way there
-  whole_there : (b : Block) → IsNamed b → has_flip m b MediumToTarget ≡ true → is_stored_altered ops faults b.virt ≡ false
+  whole_there : (b : Block) → IsNamed m' ops b → has_flip m b MediumToTarget ≡ true → is_stored_altered ops faults b.virt ≡ false
   whole_there b e q =
       let l = the_line m' ops even flips form b MediumToTarget q in
       let same : is_same l.line.at MediumToTarget ≡ true = ap (λ at. is_same at MediumToTarget) l.is.crossing in
-      ap (is_stored_altered ops faults) (sym (virt_is b MediumToTarget l.line l.is e)) ∙ if_all (is_same l.line.at MediumToTarget) (is_stored_altered ops faults (virt_of ops l.line)) l.undoes same
+      ap (is_stored_altered ops faults) (sym (virt_is m' ops b MediumToTarget l.line l.is e)) ∙ if_all (is_same l.line.at MediumToTarget) (is_stored_altered ops faults (virt_of ops l.line)) l.undoes same
 
   -- no line alters a block whose tuple an application brings on its way to the adapter
-  not_mended : (b : Block) → Brings b → has_flip m b HostToAdapter ≡ true → ⊥
+  not_mended : (b : Block) → Brings m' ops b → has_flip m b HostToAdapter ≡ true → ⊥
   not_mended b t q =
       let l = the_line m' ops even flips form b HostToAdapter q in
       mends (is_same l.line.at HostToAdapter) (brings_tuples (op_of ops l.line.op)) l.mends (ap (λ at. is_same at HostToAdapter) l.is.crossing) (ap (λ label. brings_tuples (op_of ops label.op)) l.is.labelled ∙ t)
 
-  pub steps_shown : (steps : List Step) (s : State) → AllFitting steps → NoneEscapes m steps s → s.blocks ≡ image → AllBelow 256 s.bytes → AreClean m s.blocks → detectable m steps s ≡ true
+  pub steps_shown : (steps : List Step) (s : State) → AllFitting m' ops steps → NoneEscapes m steps s → s.blocks ≡ image → AllBelow 256 s.bytes → AreClean m s.blocks → detectable m steps s ≡ true
   steps_shown steps s fit e same pages clean =
-      all_shown m' ops even flips form image lies IsNamed Brings (is_stored_altered ops faults) kept_there whole_there not_mended steps s fit e
-      (begins m' ops even flips form image lies IsNamed Brings (is_stored_altered ops faults) kept_there whole_there not_mended s same pages clean)
-
-  -- ---- the steps of ops
-
-  op_suits : (i : ℕ) (op : Op) → op_of ops i ≡ op → Fits m op → AllFitting (steps_of m i op)
-  op_suits i (Fill seg byte) e h = (below_replicate 256 seg.len byte h, tt)
-  op_suits i (Put page off bytes) e h = (below 256 bytes h, tt)
-  op_suits i (Show seg) e h = (tt, tt)
-  op_suits i (Seal c body tuples app rtag) e h = each_suits m IsNamed Brings 0 c (λ k. Seals (body_of m.size body k) (tuple_of tuples k) app ((rtag + k) % 2 ^ 32)) (λ j l. tt)
-  op_suits i (Write v c body app) e h =
-      each_suits m IsNamed Brings 0 c (λ k. Writes (block_of i v k) app (body_of m.size body k)) (λ j l. (
-        ap (λ o. first_virt o + j) e,
-        (
-          (let w = h.0.within in omega (arith, w, l)),
-          (part_length body m.size j c h.0.bytes_are (omega (arith, l)), h.1),
-        ),
-      ))
-  op_suits i (Fetch v c body) e h = each_suits m IsNamed Brings 0 c (λ k. Reads (block_of i v k) OfBlock (body_of m.size body k)) (λ j l. (ap (λ o. first_virt o + j) e, omega (arith, h, l)))
-  op_suits i (WritePi v c body tuples) e h =
-      each_suits m IsNamed Brings 0 c (λ k. WritesPi (block_of i v k) (frame_at m.size body tuples k)) (λ j l. (
-        ap (λ o. first_virt o + j) e,
-        (
-          (let w = h.0.within in omega (arith, w, l)),
-          (frame_length m.size body tuples j c h.0.bytes_are h.1.0 (omega (arith, l)), ap brings_tuples e),
-        ),
-      ))
-  op_suits i (FetchPi v c body tuples) e h = each_suits m IsNamed Brings 0 c (λ k. Reads (block_of i v k) OfApp (frame_at m.size body tuples k)) (λ j l. (ap (λ o. first_virt o + j) e, omega (arith, h, l)))
-  op_suits i (Overwrite dev lba change) e h = absurd h
-  op_suits i Wait e h = tt
-
-  -- the ops from op i on are the rest
-  ops_suit : (i : ℕ) (rest : List Op) → ((j : ℕ) → op_of ops (i + j) ≡ get_or rest j Wait) → AllFit m rest → AllFitting (steps_from m i rest)
-  ops_suit i [] e h = tt
-  ops_suit i (op ∷ rest) e h =
-      let first : op_of ops i ≡ op = (let z : i ≡ i + 0 = omega arith in ap (op_of ops) z ∙ e 0) in
-      both_suit m IsNamed Brings (steps_of m i op) (steps_from m (suc i) rest) (op_suits i op first h.0)
-      (ops_suit (suc i) rest (λ j. let z : suc i + j ≡ i + suc j = omega arith in ap (op_of ops) z ∙ e (suc j)) h.1)
-
-  pub all_suit : AllFit m ops → AllFitting (steps_from m 1 ops)
-  all_suit h = ops_suit 1 ops (λ j. let z : 1 + j - 1 ≡ j = omega arith in ap (λ v. get_or ops v Wait) z) h
+      all_shown m' ops even flips form image lies (IsNamed m' ops) (Brings m' ops) (is_stored_altered ops faults) (kept_there m' ops) whole_there not_mended steps s fit e
+      (begins m' ops even flips form image lies (IsNamed m' ops) (Brings m' ops) (is_stored_altered ops faults) (kept_there m' ops) whole_there not_mended s same pages clean)
 
 formed : (m' : Setting) (ops : List Op) (opening : State) → HasFormedFaults (checked m') ops opening → detectable (checked m') (steps_from (checked m') 1 ops) opening ≡ true
 formed m' ops opening run =
     let form = (and_parts (list_all (is_good_line m'.mode.kind m'.size m'.site.faults ops) m'.site.faults) (not (list_any is_overwrite ops)) run.form).0 in
     steps_shown m' ops run.even run.flips form opening.blocks run.lies (steps_from (checked m') 1 ops) opening
-    (all_suit m' ops run.even run.flips form opening.blocks run.lies run.fit)
+    (all_suit m' ops run.fit)
     (none_escapes (checked m') 1 ops opening run.no_escape) refl (below 256 opening.bytes run.pages) run.clean
 
 pub shown_by_form : (m : Setting) (ops : List Op) (opening : State) → HasFormedFaults m ops opening → detectable m (steps_from m 1 ops) opening ≡ true

@@ -25,6 +25,7 @@ use Rattle.run_laws.specs.Passed.{arrives, crossed, shows_in, shows_out, AtAdapt
 use Rattle.run_laws.proofs.Found.{unless_rule}
 use Rattle.run_laws.proofs.Layers.{checked}
 use Rattle.run_premises.proofs.OneWay.{Fine as FineFrame, Kept as KeptFrame, Right as RightFrame, comes_shown as shown_in, crossed_fine as fine_crossed, goes_kept as kept_out, goes_shown as shown_out, mapped_fine as fine_mapped, received_fine as fine_received, received_right as right_received, sent_fine as fine_sent}
+use Rattle.run_premises.proofs.Delivered.{OfBytes as DeliversBytes, comes_bytes as delivered}
 use Rattle.run_premises.specs.Forms.{is_good_line, is_shown, is_shown_line, kind_at, label_of, mask_of, may_mend, may_undo}
 use Rattle.run_premises.specs.FormedRun.{IsOfBytes}
 use Rattle.run_premises.proofs.Lines.{IsLineOf, line_of, pick}
@@ -107,35 +108,8 @@ module _ (m' : Setting) (ops : List Op) (even : m'.size % 2 ≡ 0) (flips : All 
   pub comes_shown : (b : Block) (stored : List ℕ) → Fine stored → has_shift m b MediumToTarget ≡ false → (has_flip m b MediumToTarget ≡ true → Right Crc stored) → shows_in m b stored ≡ true
   comes_shown b stored h unshifted right = shown_in m' even flips b (its_lines b) stored h unshifted right
 
-  -- what is delivered is bytes
   abbrev pub OfBytes : WayIn → Type 0
-  OfBytes (Stops why) = Unit {0}
-  OfBytes (Spoils why carried) = Unit {0}
-  OfBytes (Delivers carried frame) = AllBelow 256 frame
-
-  delivered_bytes : (owner : Owner) (carried frame : List ℕ) (o : Option Check) → AllBelow 256 frame → OfBytes (delivered_unless owner carried frame o)
-  delivered_bytes owner carried frame None h = h
-  delivered_bytes owner carried frame (Some c) h = tt
-
-  abbrev from_the_target : Block → Owner → Result (List ℕ) Check → WayIn
-  from_the_target b owner came = verified (route m b) owner (from_device faults (route m b) (by_target (then_crossed faults (Some (route m b).label) TargetToAdapter came)))
-
-  abbrev from_the_adapter : Block → Owner → List ℕ → Result (List ℕ) Check → WayIn
-  from_the_adapter b owner x came = verified (route m b) owner (at_host x (then_crossed faults (Some (route m b).label) AdapterToHost came))
-
-  from_adapter_on : (b : Block) (owner : Owner) (x : List ℕ) → Fine x → OfBytes (verified (route m b) owner (at_host x (from_wire faults (route m b) x)))
-  unfolding from_wire
-  from_adapter_on b owner x h =
-      let z = crossed m b AdapterToHost (received (route m b) x) in
-      let f = crossed_fine b AdapterToHost (received (route m b) x) (received_fine b x h) in
-      unless_rule OfBytes (from_the_adapter b owner x) (adapter_finds_in (route m b) x) (received (route m b) x) (λ c. tt)
-      (λ none. delivered_bytes owner x (mapped_back (route m b) z) (owner_finds (route m b) (mapped_back (route m b) z)) (mapped_fine (route m b).lba b.virt z f).bytes)
+  OfBytes w = DeliversBytes w
 
   pub comes_bytes : (b : Block) (owner : Owner) (stored : List ℕ) → Fine stored → OfBytes (way_in faults m.site.device (route m b) owner stored)
-  unfolding from_medium
-  comes_bytes b owner stored h =
-      let y = arrives m b stored AtTarget in
-      let f = crossed_fine b MediumToTarget stored h in
-      sent_or (λ came. OfBytes (verified (route m b) owner (from_device faults (route m b) came))) tt (fails_of faults (route m b).label) (by_target (from_medium faults (passage faults (route m b)) stored))
-      (unless_rule OfBytes (from_the_target b owner) (found_in (passage faults (route m b)) y) y (λ c. tt)
-      (λ none. from_adapter_on b owner (arrives m b stored AtAdapter) (crossed_fine b TargetToAdapter y f)))
+  comes_bytes b owner stored h = delivered m' even flips b (its_lines b) owner stored h

@@ -1,12 +1,14 @@
-use Rattle.std.specs.Prelude.{ℕ, ◌+◌, ◌-◌, Bool, true, false, not, ◌&&◌, eqb, if◌then◌else◌, List, [], ◌∷◌, get_or, take, drop, replicate}
+use Rattle.std.specs.Prelude.{ℕ, ◌+◌, ◌-◌, Bool, true, false, not, ◌&&◌, eqb, if◌then◌else◌, List, [], ◌∷◌, get_or, take, drop, replicate, is_some}
 use Rattle.std.specs.List.{list_all, list_any, prefix_len}
 use Rattle.pi_guard.specs.Guards.{crc}
 use Rattle.pi_guard.specs.declared.GuardKind.{GuardKind}
 use Rattle.pi_guard.specs.declared.GuardKind.TheVariants.{Crc, Ip}
-use Rattle.fault_schedule.specs.Altered.{altered, is_same}
+use Rattle.fault_schedule.specs.Altered.{altered, is_same, moved_by}
 use Rattle.fault_schedule.specs.declared.Label.{Label}
 use Rattle.fault_schedule.specs.declared.fault.Crossing.{Crossing}
 use Rattle.fault_schedule.specs.declared.fault.Crossing.TheVariants.{AdapterToHost, AdapterToTarget, HostToAdapter, MediumToTarget, TargetToAdapter, TargetToMedium}
+use Rattle.fault_schedule.specs.declared.fault.FaultKind.{FaultKind}
+use Rattle.fault_schedule.specs.declared.fault.FaultKind.TheVariants.{Flip, Shift, Keep, Fail}
 use Rattle.fault_schedule.specs.declared.fault.FaultLine.{FaultLine}
 use Rattle.stack_ops.specs.declared.op.Op.{Op}
 use Rattle.stack_ops.specs.declared.op.Op.TheVariants.{Fetch, FetchPi, Fill, Overwrite, Put, Seal, Show, Wait, Write, WritePi}
@@ -107,6 +109,30 @@ shows_by_form kind size faults ops = list_all (is_good_line kind size faults ops
 -- how many lines stand before the first that isn't good
 abbrev pub good_lines : GuardKind → (size : ℕ) → List FaultLine → List Op → ℕ
 good_lines kind size faults ops = prefix_len (is_good_line kind size faults ops) faults
+
+-- ---- the form of runs in which the disk fails, loses and misdirects blocks too
+
+-- The line leads the blocks of this op elsewhere, when they are stored.
+abbrev pub misdirects : (op : ℕ) → FaultLine → Bool
+misdirects op line = is_same line.at TargetToMedium && (eqb line.op op && is_some (moved_by line.kind))
+
+-- A flip on the way to the medium, of a block that is stored elsewhere.
+abbrev pub is_led_away : List FaultLine → FaultLine → Bool
+is_led_away faults line = is_same line.at TargetToMedium && list_any (misdirects line.op) faults
+
+-- A flip is good that is so there, and isn't of such a block. A block may be lost, be failed, or be stored elsewhere; none is torn, and no other address is shifted.
+abbrev pub is_known_kind : GuardKind → (size : ℕ) → List FaultLine → List Op → FaultLine → FaultKind → Bool
+is_known_kind kind size faults ops line (Flip off bytes) = is_good_line kind size faults ops line && not (is_led_away faults line)
+is_known_kind kind size faults ops line (Shift by) = is_same line.at TargetToMedium
+is_known_kind kind size faults ops line (Keep bytes) = eqb bytes 0
+is_known_kind kind size faults ops line Fail = true
+
+abbrev pub is_known_line : GuardKind → (size : ℕ) → List FaultLine → List Op → FaultLine → Bool
+is_known_line kind size faults ops line = is_known_kind kind size faults ops line line.kind
+
+-- Each line is of these, and no op overwrites a stored block.
+abbrev pub accounts_by_form : GuardKind → (size : ℕ) → List FaultLine → List Op → Bool
+accounts_by_form kind size faults ops = list_all (is_known_line kind size faults ops) faults && not (list_any is_overwrite ops)
 
 -- ---- escapes
 

@@ -16,10 +16,10 @@ ghost use Rattle.stack_ops.specs.declared.op.Op.{Op as AnyOp};
 ghost use Rattle.pi_tuple.specs.Finds.{is_zero};
 ghost use Rattle.volume_table.specs.declared.device.DeviceInfo.{DeviceInfo as AnyDevice};
 ghost use Rattle.block_path.specs.Acts.{State};
-ghost use Rattle.run_laws.specs.Passed.{IsCalmRun, detectable, steps_from, Setting, script_walk, AreClean, NoEscape};
+ghost use Rattle.run_laws.specs.Passed.{IsCalmRun, accounted, detectable, steps_from, Setting, script_walk, AreClean, NoEscape};
 ghost use Rattle.run_laws.specs.ShownRun.{DevicesAreClean, HasCells, LiesOn};
 ghost use Rattle.run_premises.specs.Forms.{escapes_none, is_near, is_seen, mask_of};
-ghost use Rattle.run_premises.specs.FormedRun.{HasFormedFaults, IsOfBytes};
+ghost use Rattle.run_premises.specs.FormedRun.{HasAccountedFaults, HasFormedFaults, IsOfBytes};
 ghost use Rattle.pi_tuple.specs.declared.TheConstants.{TUPLE};
 
 mod form;
@@ -43,6 +43,12 @@ pub fn the_form_is_exact_for_the_crc()
 /// A law: over a clean volume, with no escape, faults that have the form can each be shown.
 pub fn faults_are_shown_by_their_form()
     ensures { (m : Setting) (ops : List AnyOp) (opening : State) → HasFormedFaults m ops opening → detectable m (steps_from m 1 ops) opening ≡ true }
+{}
+
+/// A law: so are faults of which each line has that form or says that the disk fails, loses or misdirects a block, as
+/// far as no flip alters a misdirected block on its way to the medium: each is shown, or is of such a block.
+pub fn faults_are_accounted_for_by_their_form()
+    ensures { (m : Setting) (ops : List AnyOp) (opening : State) → HasAccountedFaults m ops opening → accounted m (steps_from m 1 ops) opening ≡ true }
 {}
 
 /// A law: no write supplies an escape where no `write` has the application tag FFFFh and no application brings tuples,

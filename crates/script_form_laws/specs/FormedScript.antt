@@ -7,7 +7,7 @@ use Rattle.volume_table.specs.Tables.{MadeFor, Table}
 use Rattle.script_stack.specs.Passed.{AreStored, Keeps, binding_fault, Script, blocks_told, shapes_of, info_of}
 use Rattle.script_stack.specs.Followed.{none_fails, opening_of, setting_of}
 use Rattle.run_premises.specs.Passed.{AreClean, NoEscape, is_overwrite}
-use Rattle.run_premises.specs.Forms.{shows_by_form}
+use Rattle.run_premises.specs.Forms.{accounts_by_form, shows_by_form}
 
 -- What is asked of a script so that a reader of it alone knows of what its run is told: all but that the blocks are clean.
 
@@ -26,6 +26,17 @@ pub record IsFormedScript (script : Script) (table : Table) (us : List Stored) :
   pub dif : script.mode.dif ≡ true
   pub protect : script.mode.protect ≡ 1
   pub form : shows_by_form script.mode.kind script.block script.faults script.ops ≡ true
+  pub bytes : All (All (λ x. x < 256)) (blocks_told us)
+  pub clean : AreClean (setting_of script table (shapes_of us) none_fails) (blocks_told us)
+  pub no_escape : NoEscape (setting_of script table (shapes_of us) none_fails) 1 script.ops (opening_of script (shapes_of us) (blocks_told us))
+
+-- The same, where the disk may also fail, lose and misdirect blocks.
+pub record IsAccountedScript (script : Script) (table : Table) (us : List Stored) : Type 0 where
+  pub ty : table.ty ≡ One
+  pub dix : script.mode.dix ≡ true
+  pub dif : script.mode.dif ≡ true
+  pub protect : script.mode.protect ≡ 1
+  pub form : accounts_by_form script.mode.kind script.block script.faults script.ops ≡ true
   pub bytes : All (All (λ x. x < 256)) (blocks_told us)
   pub clean : AreClean (setting_of script table (shapes_of us) none_fails) (blocks_told us)
   pub no_escape : NoEscape (setting_of script table (shapes_of us) none_fails) 1 script.ops (opening_of script (shapes_of us) (blocks_told us))

@@ -1,2 +1,2 @@
 -- Words of the crates below, for the crates above that stand on this one alone.
-pub use Rattle.run_premises.specs.Forms.{escapes_none, shows_by_form}
+pub use Rattle.run_premises.specs.Forms.{accounts_by_form, escapes_none, shows_by_form}

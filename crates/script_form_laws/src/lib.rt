@@ -8,15 +8,15 @@ ghost use Rattle.rig_api.specs.Image.{formatted, units_in};
 ghost use Rattle.rig_api.specs.Target.{Stored};
 ghost use Rattle.rig_api.specs.declared.units.UnitSpec.{UnitSpec as AnyUnit};
 ghost use Rattle.volume_table.specs.Tables.{Table};
-ghost use Rattle.run_premises.specs.Passed.{DevicesAreClean, IsShownRun, detectable, steps_from, as_expected, script_walk, Setting, NoEscape};
+ghost use Rattle.run_premises.specs.Passed.{DevicesAreClean, IsShownRun, accounted, detectable, steps_from, as_expected, script_walk, Setting, NoEscape};
 ghost use Rattle.script_stack.specs.Followed.{none_fails, opening_of, setting_of};
 ghost use Rattle.script_stack.specs.Passed.{Script as AnyScript, blocks_told, cell_in, shapes_of, info_of};
 ghost use Rattle.run_premises.specs.Forms.{escapes_none};
-ghost use Rattle.script_form_laws.specs.FormedScript.{IsFormedOver, IsFormedScript, IsStillScript};
+ghost use Rattle.script_form_laws.specs.FormedScript.{IsAccountedScript, IsFormedOver, IsFormedScript, IsStillScript};
 
 use run_premises::{
-    a_calm_run_leaves_its_devices_clean, faults_are_shown_by_their_form,
-    no_write_supplies_an_escape_by_its_form,
+    a_calm_run_leaves_its_devices_clean, faults_are_accounted_for_by_their_form,
+    faults_are_shown_by_their_form, no_write_supplies_an_escape_by_its_form,
 };
 
 /// A law: of a script that was read and bound, whose faults have the form, over a clean volume and with no escape: each
@@ -27,6 +27,16 @@ pub fn a_script_is_shown_by_its_form()
 {
     // By laws.
     faults_are_shown_by_their_form();
+}
+
+/// A law: where its faults have the form that admits blocks which the disk fails, loses and misdirects too, each is shown
+/// or is of such a block.
+pub fn a_script_is_accounted_for_by_its_form()
+    ensures { (s : AnyScript) (t : Table) (us : List Stored) → IsFormedOver s t us → IsAccountedScript s t us
+        → accounted (setting_of s t (shapes_of us) none_fails) (steps_from (setting_of s t (shapes_of us) none_fails) 1 s.ops) (opening_of s (shapes_of us) (blocks_told us)) ≡ true }
+{
+    // By laws.
+    faults_are_accounted_for_by_their_form();
 }
 
 /// A law: so it has all that the law of reads under faults asks: each block of a read is the last accepted write's, or
