@@ -25,7 +25,7 @@ use Rattle.image_rig.proofs.Heads.{layout_parts}
 use Rattle.run_premises.proofs.Escapes.{none_supplied}
 use Rattle.script_form_laws.proofs.Fresh.{formatted_clean, shapes_are}
 use Rattle.script_text.specs.declared.script.Script.{Script}
-use Rattle.image_laws.specs.Passed.{IsDetectableRun, IsFormedRun, IsPlainRun, RunReadsRightly, has_bad, AllReadRightly, Followed, HasRun, WasAsked, devices_of, table_over, Finished}
+use Rattle.image_laws.specs.Passed.{IsAccountableRun, IsAccountedByForm, IsDetectableRun, IsFormedRun, IsPlainRun, RunReadsRightly, RunReadsStored, has_bad, AllReadRightly, AllReadStored, Followed, HasRun, WasAsked, devices_of, table_over, Finished}
 use Rattle.image_laws.proofs.Passed.{table_is, image_devices}
 use Rattle.call_refusal.specs.declared.refusal.Refusal.{Refusal as Stop}
 use Rattle.dix_run.specs.Passed.{HasServedMirror, is_any_lost, mirror_text, HasMirrored, Mirrored, BothHoldLast, OnIntactLegs, WasEnough, IsFormedMirror, IsOneGoodRun, IsStillMirror}
@@ -35,7 +35,7 @@ use Rattle.call_verdict.specs.Verdicts.{done_status}
 use Rattle.dix_run.specs.Verdict.{Facts}
 use Rattle.call_verdict.specs.declared.status.Status.{Status}
 use Rattle.call_verdict.specs.declared.status.Status.TheVariants as status
-use Rattle.headline.specs.Headline.{AreEqualLegs, FitsImage, FitsMirror, HasFormedLegs, HasGoodLegs, HasStillLegs, Headline, IsClean, IsCleanWhereRead, IsFaultless, IsFormedText, IsFound, IsFresh, IsMended, IsMirrored, IsPlain, IsRefused, IsShownText, IsStill, IsWalked, blocks_in, first_fault, mended_over, mirror_over, opening_over, replied_on_mirror, setting_over, volume_over}
+use Rattle.headline.specs.Headline.{AreEqualLegs, FitsImage, FitsMirror, HasFormedLegs, HasGoodLegs, HasStillLegs, Headline, IsAccountableText, IsAccountedText, IsClean, IsCleanWhereRead, IsFaultless, IsFormedText, IsFound, IsFresh, IsKnown, IsMended, IsMirrored, IsPlain, IsRefused, IsShownText, IsStill, IsWalked, blocks_in, first_fault, mended_over, mirror_over, opening_over, replied_on_mirror, setting_over, volume_over}
 use Rattle.headline.specs.Words.{IsTold, wants_memory, words_for}
 use Rattle.headline.specs.declared.way.Way.{Way}
 use Rattle.headline.specs.declared.way.Way.TheVariants.{Mirror, Run}
@@ -43,7 +43,7 @@ use Rattle.headline.proofs.Coming.{CameToMirror, CameToRun, IsCalled, came_to_mi
 use Rattle.headline.proofs.Refused.{refused_mirror, refused_run}
 use Rattle.image_rig.proofs.FreshHead.{right_head, units_back}
 use Rattle.headline.proofs.FreshLegs.{equal_legs}
-use Rattle.image_laws.proofs.Got.{got_formed, got_plain, got_shown, got_walked}
+use Rattle.image_laws.proofs.Got.{got_intact as ran_intact, got_plain, got_walked}
 use Rattle.headline.proofs.GotMirrored.{got_intact, got_served}
 use Rattle.headline.proofs.Unfailing.{formed_unfailing}
 use Rattle.image_laws.proofs.Told.{IsAfter, after, head_asked, image_after, units_asked}
@@ -125,7 +125,7 @@ found script image image' text' run o tx p clean =
       escapes = p.escapes;
       clean = clean;
     } in
-    found_by script image image' text' run o tx (got_formed script (volume_over script image) (devices_of image) o.old o.new run.stack.pool run.stack.replies.items (own_units image) o.followed o.units o.none premise)
+    found_by script image image' text' run o tx ((ran_intact script (volume_over script image) (devices_of image) o.old o.new run.stack.pool run.stack.replies.items (own_units image) o.followed o.units o.none).formed premise)
 
 shown : (script : Script) (image image' text' : List ℕ) (run : Finished) → RanOver script image image' run → text' ≡ report run.stack.replies.items → IsShownText script image → IsCleanWhereRead script image → IsFound script image text'
 shown script image image' text' run o tx p clean =
@@ -138,7 +138,43 @@ shown script image image' text' run o tx p clean =
       no_escape = p.no_escape;
       shown = p.shown;
     } in
-    found_by script image image' text' run o tx (got_shown script (volume_over script image) (devices_of image) o.old o.new run.stack.pool run.stack.replies.items (own_units image) o.followed o.units o.none premise)
+    found_by script image image' text' run o tx ((ran_intact script (volume_over script image) (devices_of image) o.old o.new run.stack.pool run.stack.replies.items (own_units image) o.followed o.units o.none).shown premise)
+
+-- ---- where the disk fails, loses and misdirects blocks too
+
+known_by : (script : Script) (image image' text' : List ℕ) (run : Finished) → RanOver script image image' run → text' ≡ report run.stack.replies.items → RunReadsStored script (volume_over script image) (own_units image) run.stack.replies.items → IsKnown script image text'
+known_by script image image' text' run o tx reads =
+    let w = got_walked script (volume_over script image) (devices_of image) o.old o.new run.stack.pool run.stack.replies.items (own_units image) o.followed o.units o.none in
+    record {
+      report_is = tx ∙ ap report w.2.replies_are;
+      reads = subst (AllReadStored (setting_over script image) script.ops (opening_over script image)) w.2.replies_are reads;
+    }
+
+known : (script : Script) (image image' text' : List ℕ) (run : Finished) → RanOver script image image' run → text' ≡ report run.stack.replies.items → IsAccountedText script image → IsClean script image → IsKnown script image text'
+known script image image' text' run o tx p clean =
+    let premise : IsAccountedByForm script (volume_over script image) (devices_of image) (own_units image) = record {
+      ty = p.ty;
+      dix = p.dix;
+      dif = p.dif;
+      protect = p.protect;
+      form = p.form;
+      escapes = p.escapes;
+      clean = clean;
+    } in
+    known_by script image image' text' run o tx ((ran_intact script (volume_over script image) (devices_of image) o.old o.new run.stack.pool run.stack.replies.items (own_units image) o.followed o.units o.none).stored_by_form premise)
+
+accounted : (script : Script) (image image' text' : List ℕ) (run : Finished) → RanOver script image image' run → text' ≡ report run.stack.replies.items → IsAccountableText script image → IsCleanWhereRead script image → IsKnown script image text'
+accounted script image image' text' run o tx p clean =
+    let premise : IsAccountableRun script (volume_over script image) (devices_of image) (own_units image) = record {
+      ty = p.ty;
+      dix = p.dix;
+      dif = p.dif;
+      protect = p.protect;
+      clean = clean;
+      no_escape = p.no_escape;
+      accounted = p.accounted;
+    } in
+    known_by script image image' text' run o tx ((ran_intact script (volume_over script image) (devices_of image) o.old o.new run.stack.pool run.stack.replies.items (own_units image) o.followed o.units o.none).stored premise)
 
 -- ---- after `format`
 
@@ -292,6 +328,8 @@ headlined way image text image' text' f o n result called memory sink carries = 
         plain = plain script image image' text' c.run right called.bytes over c.text_is;
         found = found script image image' text' c.run over c.text_is;
         shown = shown script image image' text' c.run over c.text_is;
+        known = known script image image' text' c.run over c.text_is;
+        accounted = accounted script image image' text' c.run over c.text_is;
       };
   mirrored = λ script is right fits.
       let c = mirror_at script is right fits in
@@ -311,6 +349,8 @@ headlined way image text image' text' f o n result called memory sink carries = 
         plain = λ p. plain script image image' text' c.run right called.bytes over c.text_is (faultless script image image' units c.run over fresh app p);
         found = λ p. found script image image' text' c.run over c.text_is p (is_clean script image units over.made fresh (ap is_zero p.ty) app);
         shown = λ p. shown script image image' text' c.run over c.text_is p (is_clean_where_read script image units fresh (ap is_zero p.ty) app);
+        known = λ p. known script image image' text' c.run over c.text_is p (is_clean script image units over.made fresh (ap is_zero p.ty) app);
+        accounted = λ p. accounted script image image' text' c.run over c.text_is p (is_clean_where_read script image units fresh (ap is_zero p.ty) app);
       };
   fresh_mirrored = λ script units is fresh fits app.
       let right = fresh_head units fresh in

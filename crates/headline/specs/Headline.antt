@@ -12,20 +12,20 @@ use Rattle.rig_api.specs.Telling.{own_units}
 use Rattle.stack_ops.specs.declared.reply.Reply.{Reply}
 use Rattle.volume_table.specs.Faults.{table_fault}
 use Rattle.volume_table.specs.declared.fault.VolumeFault.{VolumeFault}
-use Rattle.walk_laws.specs.Detectable.{detectable}
+use Rattle.walk_laws.specs.Detectable.{accounted, detectable}
 use Rattle.walk_laws.specs.Past.{brought_by, steps_from}
 use Rattle.walk_laws.specs.PlainMap.{Plain, as_expected, plain_map, plain_replies}
 use Rattle.walk_laws.specs.Settings.{Setting}
 use Rattle.walk_laws.specs.Steps.{Step}
 use Rattle.walk_laws.specs.UnderMap.{AreClean, NoEscape, NoneEscapes, home, opened, under}
 use Rattle.run_laws.specs.ShownRun.{AreCleanWhereRead}
-use Rattle.run_premises.specs.Forms.{escapes_none, shows_by_form}
+use Rattle.run_premises.specs.Forms.{accounts_by_form, escapes_none, shows_by_form}
 use Rattle.stack_ops.specs.Ops.{is_overwrite}
 use Rattle.script_text.specs.Bindings.{binding_fault}
 use Rattle.script_text.specs.Language.{script_in}
 use Rattle.script_text.specs.declared.fault.ScriptFault.{ScriptFault}
 use Rattle.script_text.specs.declared.script.Script.{Script}
-use Rattle.image_laws.specs.Passed.{has_bad, AllReadRightly, devices_of}
+use Rattle.image_laws.specs.Passed.{has_bad, AllReadRightly, AllReadStored, devices_of}
 use Rattle.mirror_script.specs.MirrorFaults.{mirror_fault}
 use Rattle.mirror_laws.specs.Mirror.{mirror_replies}
 use Rattle.mirror_laws.specs.OneGood.{OneGood, script_asks}
@@ -131,6 +131,23 @@ pub record IsShownText (script : Script) (image : List ℕ) : Type 0 where
   pub no_escape : NoEscape (setting_over script image) 1 script.ops (opening_over script image)
   pub shown : detectable (setting_over script image) (steps_from (setting_over script image) 1 script.ops) (opening_over script image) ≡ true
 
+-- The same, where the disk may also fail, lose and misdirect blocks: by the form of the faults, and computed.
+pub record IsAccountedText (script : Script) (image : List ℕ) : Type 0 where
+  pub ty : (volume_over script image).ty ≡ One
+  pub dix : script.mode.dix ≡ true
+  pub dif : script.mode.dif ≡ true
+  pub protect : script.mode.protect ≡ 1
+  pub form : accounts_by_form script.mode.kind script.block script.faults script.ops ≡ true
+  pub escapes : escapes_none script.ops ≡ true
+
+pub record IsAccountableText (script : Script) (image : List ℕ) : Type 0 where
+  pub ty : (volume_over script image).ty ≡ One
+  pub dix : script.mode.dix ≡ true
+  pub dif : script.mode.dif ≡ true
+  pub protect : script.mode.protect ≡ 1
+  pub no_escape : NoEscape (setting_over script image) 1 script.ops (opening_over script image)
+  pub accounted : accounted (setting_over script image) (steps_from (setting_over script image) 1 script.ops) (opening_over script image) ≡ true
+
 -- The volume is of type 1, and commands have protect field 001b. No line says that the medium fails a block, no write supplies an escape, each alteration can be shown, and each block has a leg on which no fault line alters it on its way, and no overwrite in its place.
 pub record HasGoodLegs (script : Script) (image : List ℕ) : Type 0 where
   pub ty : (volume_over script image).ty ≡ One
@@ -193,6 +210,11 @@ pub record IsFound (script : Script) (image text : List ℕ) : Type 0 where
   pub report_is : text ≡ report (replied script image)
   pub reads : AllReadRightly (setting_over script image) script.ops (opening_over script image) (replied script image)
 
+-- Each block of each read is the last write's that was accepted and stored at its place, or it is listed: with the medium exactly where a `fail` line names it, else with the first layer that checks behind a fault. The report is that of these replies.
+pub record IsKnown (script : Script) (image text : List ℕ) : Type 0 where
+  pub report_is : text ≡ report (replied script image)
+  pub reads : AllReadStored (setting_over script image) script.ops (opening_over script image) (replied script image)
+
 -- On a mirror: status, report and image are those of its ops done one after another, and of the repair behind them.
 pub record IsMirrored (script : Script) (image : List ℕ) (status : Status) (text image' : List ℕ) : Type 0 where
   pub status_is : status ≡ done_status (is_any_lost (replied_on_mirror script image) (mended_over script image).lost)
@@ -218,6 +240,11 @@ pub record RunLeaves (script : Script) (image : List ℕ) (status : Status) (rep
   pub found : IsFormedText script image → IsClean script image → IsFound script image report'
   -- So it is where the faults can be shown, whatever their form.
   pub shown : IsShownText script image → IsCleanWhereRead script image → IsFound script image report'
+  -- Where the disk fails, loses and misdirects blocks too, each block of each read is the last write's that was stored at its place:
+  -- never another block's, never half of two. Or it is listed with the medium that fails it, or with that first layer.
+  pub known : IsAccountedText script image → IsClean script image → IsKnown script image report'
+  -- So it is where the faults are accounted for, whatever their form.
+  pub accounted : IsAccountableText script image → IsCleanWhereRead script image → IsKnown script image report'
 
 -- What `mirror` leaves of it.
 pub record MirrorLeaves (script : Script) (image : List ℕ) (status : Status) (report' image' : List ℕ) : Type 0 where
@@ -237,6 +264,9 @@ pub record FreshRunLeaves (script : Script) (image report' image' : List ℕ) : 
   -- in type 1, tuples passed all the way, with faults whose form shows them
   pub found : IsFormedText script image → IsFound script image report'
   pub shown : IsShownText script image → IsFound script image report'
+  -- where the disk fails, loses and misdirects blocks too
+  pub known : IsAccountedText script image → IsKnown script image report'
+  pub accounted : IsAccountableText script image → IsKnown script image report'
 
 -- What `mirror` leaves of such an image: one good leg for each block is enough.
 pub record FreshMirrorLeaves (script : Script) (image report' image' : List ℕ) : Type 0 where

@@ -7,8 +7,8 @@ use Rattle.volume_table.specs.declared.device.DeviceInfo.{DeviceInfo}
 use Rattle.stack_ops.specs.declared.reply.Reply.{Reply}
 use Rattle.run_command.specs.Passed.{HasWalked, KnownBlocks, Script}
 use Rattle.run_command.proofs.Passed.{known_from}
-use Rattle.run_command.specs.Premises.{IsDetectableRun, IsFormedRun, IsPlainRun}
-use Rattle.run_command.specs.Followed.{Followed, HasPlain, RunReadsRightly}
+use Rattle.run_command.specs.Premises.{IsPlainRun}
+use Rattle.run_command.specs.Followed.{Followed, HasPlain, OnIntactMedium}
 use Rattle.rig_api.specs.State.{RigState}
 
 -- such a count didn't rise
@@ -16,29 +16,23 @@ pub calm : (old new : ℕ) → new ≡ 0 → Calm old new
 calm old new e = (omega (arith, e), omega (arith, e))
 
 -- a rig that told these blocks tells some afterwards
-abbrev at : (script : Script) (table : Table) (devices : List DeviceInfo) (old new : RigState) (pool : List (List ℕ)) (replies : List Reply) (us : List Stored) → Followed script table devices old new pool replies → old.units ≡ Some us → KnownBlocks old new
+abbrev pub at : (script : Script) (table : Table) (devices : List DeviceInfo) (old new : RigState) (pool : List (List ℕ)) (replies : List Reply) (us : List Stored) → Followed script table devices old new pool replies → old.units ≡ Some us → KnownBlocks old new
 at script table devices old new pool replies us f e = known_from old new f.any_rig.tells_blocks us e
+
+pub got_intact : (script : Script) (table : Table) (devices : List DeviceInfo) (old new : RigState) (pool : List (List ℕ)) (replies : List Reply) (us : List Stored) (f : Followed script table devices old new pool replies) (e : old.units ≡ Some us) → new.faults ≡ 0
+    → OnIntactMedium script table devices old new (at script table devices old new pool replies us f e) pool f.any_rig.goes.more replies
+got_intact script table devices old new pool replies us f e none =
+    let known = at script table devices old new pool replies us f e in
+    f.intact known (f.silent known (calm old.faults new.faults none))
 
 pub got_walked : (script : Script) (table : Table) (devices : List DeviceInfo) (old new : RigState) (pool : List (List ℕ)) (replies : List Reply) (us : List Stored) (f : Followed script table devices old new pool replies) → old.units ≡ Some us → new.faults ≡ 0
     → (left : List Stored) × (new.units ≡ Some left) × HasWalked script table us left pool f.any_rig.goes.more replies
 got_walked script table devices old new pool replies us f e none =
     let known = at script table devices old new pool replies us f e in
-    (known.after, known.ended, (f.intact known (f.silent known (calm old.faults new.faults none))).walked)
+    (known.after, known.ended, (got_intact script table devices old new pool replies us f e none).walked)
 
 pub got_plain : (script : Script) (table : Table) (devices : List DeviceInfo) (old new : RigState) (pool : List (List ℕ)) (replies : List Reply) (us : List Stored) → Followed script table devices old new pool replies → old.units ≡ Some us → new.faults ≡ 0 → IsPlainRun script table us
     → (left : List Stored) × (new.units ≡ Some left) × HasPlain script table us left pool replies
 got_plain script table devices old new pool replies us f e none p =
     let known = at script table devices old new pool replies us f e in
-    (known.after, known.ended, (f.intact known (f.silent known (calm old.faults new.faults none))).plain p)
-
-pub got_formed : (script : Script) (table : Table) (devices : List DeviceInfo) (old new : RigState) (pool : List (List ℕ)) (replies : List Reply) (us : List Stored) → Followed script table devices old new pool replies → old.units ≡ Some us → new.faults ≡ 0 → IsFormedRun script table devices us
-    → RunReadsRightly script table us replies
-got_formed script table devices old new pool replies us f e none p =
-    let known = at script table devices old new pool replies us f e in
-    (f.intact known (f.silent known (calm old.faults new.faults none))).formed p
-
-pub got_shown : (script : Script) (table : Table) (devices : List DeviceInfo) (old new : RigState) (pool : List (List ℕ)) (replies : List Reply) (us : List Stored) → Followed script table devices old new pool replies → old.units ≡ Some us → new.faults ≡ 0 → IsDetectableRun script table devices us
-    → RunReadsRightly script table us replies
-got_shown script table devices old new pool replies us f e none p =
-    let known = at script table devices old new pool replies us f e in
-    (f.intact known (f.silent known (calm old.faults new.faults none))).shown p
+    (known.after, known.ended, (got_intact script table devices old new pool replies us f e none).plain p)

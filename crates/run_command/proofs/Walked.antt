@@ -31,22 +31,23 @@ use Rattle.call_refusal.specs.Passed.{info_of}
 use Rattle.script_stack.proofs.Octets.{blocks_octets}
 use Rattle.stack_walk_laws.specs.Passed.{blocks_told, shapes_of}
 use Rattle.run_command.specs.Fallen.{HasServed}
-use Rattle.run_command.specs.Premises.{IsDetectableRun, IsFormedRun, IsPlainRun, IsQuietRun, opening_told, setting_told}
+use Rattle.run_command.specs.Premises.{IsAccountableRun, IsAccountedByForm, IsDetectableRun, IsFormedRun, IsPlainRun, IsQuietRun, opening_told, setting_told}
 use Rattle.run_command.specs.Layers.{AllNamed, NamesFaults}
 use Rattle.run_command.proofs.Devices.{image_holds}
 use Rattle.run_command.proofs.Fallen.{BroughtFallLaw, Ends, OwnFallLaw, ReadsFallLaw, served}
 use Rattle.run_command.proofs.Layers.{names-faults, names-no-medium, names-those, none-medium}
-use Rattle.run_command.proofs.Premises.{detectable_run, plain_run}
+use Rattle.run_command.proofs.Premises.{accountable_run, detectable_run, plain_run}
 use Rattle.page_pool.specs.declared.segs.Seg.{Seg}
 use Rattle.integrity_payload.specs.declared.payload.Owner.{Owner}
-use Rattle.walk_laws.specs.ReadsAs.{ReadsRightly, read_op}
-use Rattle.run_laws.specs.ShownRun.{AreCleanWhereRead, IsShownRun}
+use Rattle.walk_laws.specs.ReadsAs.{ReadsBy, ReadsRightly, ReadsStored, read_op}
+use Rattle.run_laws.specs.ShownRun.{AreCleanWhereRead, IsAccountedRun, IsShownRun}
 use Rattle.script_form_laws.specs.Passed.{escapes_none}
-use Rattle.script_form_laws.specs.FormedScript.{IsFormedOver, IsFormedScript}
-use Rattle.script_form_laws.proofs.Formed.{read-clean}
-use Rattle.walk_laws.specs.Detectable.{detectable}
-use Rattle.walk_laws.specs.Past.{steps_from}
-use Rattle.run_command.specs.Followed.{AllReadRightly, Followed, HasPlain, HasReadRightly, OnAnyRig, RunReadsRightly}
+use Rattle.script_form_laws.specs.FormedScript.{IsAccountedScript, IsFormedOver, IsFormedScript}
+use Rattle.script_form_laws.proofs.Formed.{accounted-clean, read-clean}
+use Rattle.walk_laws.specs.Detectable.{accounted, detectable}
+use Rattle.walk_laws.specs.FirstLayer.{is_served, last_accepted, last_stored}
+use Rattle.walk_laws.specs.Past.{Brought, Event, steps_from}
+use Rattle.run_command.specs.Followed.{AllReadBy, Followed, HasPlain, HasReadBy, OnAnyRig, RunReadsRightly, RunReadsStored}
 use Rattle.block_path.specs.Acts.{State}
 use Rattle.block_path.specs.Moves.{hidden}
 use Rattle.stack_ops.specs.declared.op.Op.{Op}
@@ -56,7 +57,7 @@ use Rattle.stack_walk_laws.proofs.NoFlips.{no_flips_in}
 use Rattle.walk_laws.specs.CalmRun.{IsCalmRun}
 use Rattle.walk_laws.specs.PlainMap.{plain_map, plain_replies}
 use Rattle.walk_laws.specs.ScriptWalk.{script_replies, script_walk}
-use Rattle.walk_laws.specs.Settings.{Setting}
+use Rattle.walk_laws.specs.Settings.{Block, Setting}
 use Rattle.walk_laws.specs.UnderMap.{IsUnder, NoEscape, opened}
 
 -- as a stack's walk begins on it
@@ -147,16 +148,32 @@ abbrev pub DetectionLaw : Type 0
 DetectionLaw = (m : Setting) (devices : List DeviceInfo) (before after : List Op) (owner : Owner) (v n k : ℕ) (body tuples : List Seg) (opening : State) → IsShownRun m devices (before ++ (read_op owner v n body tuples ∷ after)) opening → k < n
     → ReadsRightly m before owner v n body tuples after opening k
 
-reads_rightly : (m : Setting) (devices : List DeviceInfo) (ops : List Op) (opening : State) (replies : List Reply) → DetectionLaw → IsShownRun m devices ops opening → replies ≡ script_replies m ops opening → AllReadRightly m ops opening replies
-reads_rightly m devices ops opening replies law run same before after owner v n k body tuples is l =
-    subst (λ (r : List Reply). HasReadRightly m before owner v n body tuples opening r k) (sym (same ∙ ap (λ (all : List Op). script_replies m all opening) is))
-    (law m devices before after owner v n k body tuples opening (subst (λ (all : List Op). IsShownRun m devices all opening) is run) l)
+-- and that of reads where the disk lies too
+abbrev pub StoredLaw : Type 0
+StoredLaw = (m : Setting) (devices : List DeviceInfo) (before after : List Op) (owner : Owner) (v n k : ℕ) (body tuples : List Seg) (opening : State) → IsAccountedRun m devices (before ++ (read_op owner v n body tuples ∷ after)) opening → k < n
+    → ReadsStored m before owner v n body tuples after opening k
+
+-- each law of one read is that of all reads of a run
+module _ (served : Setting → Block → Bool) (last : Setting → State → Block → List Event → Brought) (IsRun : Setting → List DeviceInfo → List Op → State → Type 0) where
+  all_read : (m : Setting) (devices : List DeviceInfo) (ops : List Op) (opening : State) (replies : List Reply) →
+      ((m : Setting) (devices : List DeviceInfo) (before after : List Op) (owner : Owner) (v n k : ℕ) (body tuples : List Seg) (opening : State) → IsRun m devices (before ++ (read_op owner v n body tuples ∷ after)) opening → k < n
+      → ReadsBy served last m before owner v n body tuples after opening k) →
+      IsRun m devices ops opening → replies ≡ script_replies m ops opening → AllReadBy served last m ops opening replies
+  all_read m devices ops opening replies law run same before after owner v n k body tuples is l =
+      subst (λ (r : List Reply). HasReadBy served last m before owner v n body tuples opening r k) (sym (same ∙ ap (λ (all : List Op). script_replies m all opening) is))
+      (law m devices before after owner v n k body tuples opening (subst (λ (all : List Op). IsRun m devices all opening) is run) l)
 
 shown_at : (s : Script) (t : Table) (devices : List DeviceInfo) (begun r : Stack) (old new : RigState) → ToldLaw → DetectionLaw → (o : IsDone s t devices begun r old new) → (known : KnownBlocks old new) → NoMediumLine s.faults r.replies.items →
     IsDetectableRun s t devices known.before → RunReadsRightly s t known.before r.replies.items
 shown_at s t devices begun r old new law detects o known unnamed run =
-    reads_rightly (setting_told s t known.before) devices s.ops (opening_told s known.before) r.replies.items detects
+    all_read (λ m b. true) last_accepted IsShownRun (setting_told s t known.before) devices s.ops (opening_told s known.before) r.replies.items detects
     (detectable_run s t devices known.before (devices_at s t devices begun r old new o known) (bound_at s t devices begun r old new o known) run) (walked s t devices begun r old new law o known unnamed).replies_are
+
+stored_at : (s : Script) (t : Table) (devices : List DeviceInfo) (begun r : Stack) (old new : RigState) → ToldLaw → StoredLaw → (o : IsDone s t devices begun r old new) → (known : KnownBlocks old new) → NoMediumLine s.faults r.replies.items →
+    IsAccountableRun s t devices known.before → RunReadsStored s t known.before r.replies.items
+stored_at s t devices begun r old new law stores o known unnamed run =
+    all_read is_served last_stored IsAccountedRun (setting_told s t known.before) devices s.ops (opening_told s known.before) r.replies.items stores
+    (accountable_run s t devices known.before (devices_at s t devices begun r old new o known) (bound_at s t devices begun r old new o known) run) (walked s t devices begun r old new law o known unnamed).replies_are
 
 fell : (s : Script) (t : Table) (devices : List DeviceInfo) (begun r : Stack) (old new : RigState) → FallenLaw → (o : IsDone s t devices begun r old new) → (known : KnownBlocks old new) →
     HasFallen s t known.before known.after r.pool o.over.goes.more r.replies.items
@@ -191,6 +208,9 @@ quiet_ends s t us left pool log replies none silent h =
 abbrev pub FormLaw : Type 0
 FormLaw = (s : Script) (t : Table) (us : List Stored) → IsFormedOver s t us → IsFormedScript s t us → detectable (setting_told s t us) (steps_from (setting_told s t us) 1 s.ops) (opening_told s us) ≡ true
 
+abbrev pub AccountLaw : Type 0
+AccountLaw = (s : Script) (t : Table) (us : List Stored) → IsFormedOver s t us → IsAccountedScript s t us → accounted (setting_told s t us) (steps_from (setting_told s t us) 1 s.ops) (opening_told s us) ≡ true
+
 abbrev pub EscapeLaw : Type 0
 EscapeLaw = (s : Script) (t : Table) (us : List Stored) → escapes_none s.ops ≡ true → NoEscape (setting_told s t us) 1 s.ops (opening_told s us)
 
@@ -219,6 +239,37 @@ by_form s t devices us form escape same b bytes p =
       shown = form s t us over script;
     }
 
+accounted_by_form : (s : Script) (t : Table) (devices : List DeviceInfo) (us : List Stored) → AccountLaw → EscapeLaw → devices ≡ map info_of (shapes_of us) → IsBoundOver s t us → All (All (λ x. x < 256)) (blocks_told us) → IsAccountedByForm s t devices us → IsAccountableRun s t devices us
+accounted_by_form s t devices us form escape same b bytes p =
+    let none = escape s t us p.escapes in
+    let over : IsFormedOver s t us = record { keeps = b.keeps; lines = b.lines; made = b.made; bound = b.bound; stored = b.stored } in
+    let script : IsAccountedScript s t us =
+    record {
+      ty = p.ty;
+      dix = p.dix;
+      dif = p.dif;
+      protect = p.protect;
+      form = p.form;
+      bytes = bytes;
+      clean = p.clean;
+      no_escape = none;
+    } in
+    record {
+      ty = p.ty;
+      dix = p.dix;
+      dif = p.dif;
+      protect = p.protect;
+      clean = subst (λ (ds : List DeviceInfo). AreCleanWhereRead (setting_told s t us) ds (blocks_told us)) (sym same) (accounted-clean s t us script);
+      no_escape = none;
+      accounted = form s t us over script;
+    }
+
+stored_by_form_at : (s : Script) (t : Table) (devices : List DeviceInfo) (begun r : Stack) (old new : RigState) → ToldLaw → StoredLaw → AccountLaw → EscapeLaw → (o : IsDone s t devices begun r old new) → (known : KnownBlocks old new) →
+    NoMediumLine s.faults r.replies.items → IsAccountedByForm s t devices known.before → RunReadsStored s t known.before r.replies.items
+stored_by_form_at s t devices begun r old new law stores account escape o known unnamed run =
+    stored_at s t devices begun r old new law stores o known unnamed
+    (accounted_by_form s t devices known.before account escape (devices_at s t devices begun r old new o known) (bound_at s t devices begun r old new o known) (bytes_at s t devices begun r old new o known) run)
+
 formed_at : (s : Script) (t : Table) (devices : List DeviceInfo) (begun r : Stack) (old new : RigState) → ToldLaw → DetectionLaw → FormLaw → EscapeLaw → (o : IsDone s t devices begun r old new) → (known : KnownBlocks old new) →
     NoMediumLine s.faults r.replies.items → IsFormedRun s t devices known.before → RunReadsRightly s t known.before r.replies.items
 formed_at s t devices begun r old new law detects form escape o known unnamed run =
@@ -245,8 +296,8 @@ any_rig s t devices begun r old new backed few all medium o = record {
   medium = few_lines s t devices s.schedule begun r old.image new.image (armed_for s old) new medium o.over;
 }
 
-pub followed : (s : Script) (t : Table) (devices : List DeviceInfo) (begun r : Stack) (old new : RigState) → BackedLaw → FewLaw → AllLaw → MediumLaw → ToldLaw → CalmLaw → RepliesLaw → UnderLaw → DetectionLaw → FormLaw → EscapeLaw → FallenLaw → ReadsFallLaw → OwnFallLaw → BroughtFallLaw → IsDone s t devices begun r old new → Followed s t devices old new r.pool r.replies.items
-followed s t devices begun r old new backed few all medium told calm same under detects form escape fallen reads own brought o = record {
+pub followed : (s : Script) (t : Table) (devices : List DeviceInfo) (begun r : Stack) (old new : RigState) → BackedLaw → FewLaw → AllLaw → MediumLaw → ToldLaw → CalmLaw → RepliesLaw → UnderLaw → DetectionLaw → StoredLaw → FormLaw → AccountLaw → EscapeLaw → FallenLaw → ReadsFallLaw → OwnFallLaw → BroughtFallLaw → IsDone s t devices begun r old new → Followed s t devices old new r.pool r.replies.items
+followed s t devices begun r old new backed few all medium told calm same under detects stores form account escape fallen reads own brought o = record {
   any_rig = any_rig s t devices begun r old new backed few all medium o;
   silent = λ known still. silent_at s t devices begun r old new calm o known still;
   intact = λ known none. record {
@@ -255,6 +306,8 @@ followed s t devices begun r old new backed few all medium told calm same under 
     plain = plain_at s t devices begun r old new told same under o known none;
     shown = shown_at s t devices begun r old new told detects o known none;
     formed = formed_at s t devices begun r old new told detects form escape o known none;
+    stored = stored_at s t devices begun r old new told stores o known none;
+    stored_by_form = stored_by_form_at s t devices begun r old new told stores account escape o known none;
     answered = answered_by s t devices s.schedule begun r old.image new.image (armed_for s old) new o.over (as_armed s old new known);
   };
   failing = λ known. record {

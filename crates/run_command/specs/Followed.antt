@@ -1,5 +1,5 @@
 -- What a script's run did, in three records by environment: over any rig, on an intact medium, and on a failing one.
-use Rattle.std.specs.Prelude.{ℕ, suc, ◌≡◌, ◌*◌, ◌<◌, List, [], ◌∷◌, ◌++◌, length, get_or, map, take, is_some, Some, All, false}
+use Rattle.std.specs.Prelude.{ℕ, suc, Bool, true, ◌≡◌, ◌*◌, ◌<◌, List, [], ◌∷◌, ◌++◌, length, get_or, map, take, is_some, Some, All, false}
 use Rattle.std.specs.List.{list_any}
 use Rattle.dix_base.specs.Told.{Calm}
 use Rattle.record_laws.specs.Answered.{AreAnswersTo}
@@ -13,14 +13,14 @@ use Rattle.stack_walk_laws.specs.Passed.{blocks_told}
 use Rattle.page_pool.specs.declared.segs.Seg.{Seg}
 use Rattle.page_pool.specs.Cells.{flat, gather}
 use Rattle.integrity_payload.specs.declared.payload.Owner.{Owner}
-use Rattle.walk_laws.specs.ReadsAs.{ReadsAs, landing, listed_in, read_op}
+use Rattle.walk_laws.specs.ReadsAs.{ReadsWhereServed, landing, listed_in, read_op}
 use Rattle.stack_ops.specs.declared.op.Op.{Op}
 use Rattle.stack_ops.specs.declared.reply.Reply.TheVariants.{Silent}
-use Rattle.walk_laws.specs.FirstLayer.{first_layer, last_accepted}
-use Rattle.walk_laws.specs.Past.{past_after, steps_from}
+use Rattle.walk_laws.specs.FirstLayer.{first_layer, is_served, last_accepted, last_stored}
+use Rattle.walk_laws.specs.Past.{Brought, Event, past_after, steps_from}
 use Rattle.walk_laws.specs.ScriptWalk.{script_walk}
 use Rattle.walk_laws.specs.PlainMap.{plain_map, plain_replies}
-use Rattle.walk_laws.specs.Settings.{Setting, block_of}
+use Rattle.walk_laws.specs.Settings.{Block, Setting, block_of}
 use Rattle.walk_laws.specs.UnderMap.{opened, under}
 use Rattle.fault_schedule.specs.Altered.{has_fail}
 use Rattle.stack_core.specs.Mediums.{RoseBy, medium_lines}
@@ -33,7 +33,7 @@ use Rattle.volume_table.specs.declared.device.DeviceInfo.{DeviceInfo}
 use Rattle.run_command.specs.Premises.{opening_told, setting_told}
 use Rattle.run_command.specs.Fallen.{HasServed}
 use Rattle.run_command.specs.Layers.{AllNamed, NamesFaults}
-use Rattle.run_command.specs.Premises.{IsDetectableRun, IsFormedRun, IsPlainRun, IsQuietRun}
+use Rattle.run_command.specs.Premises.{IsAccountableRun, IsAccountedByForm, IsDetectableRun, IsFormedRun, IsPlainRun, IsQuietRun}
 use Rattle.page_pool.specs.declared.TheConstants.{PAGE}
 use Rattle.rig_api.specs.Log.{LogEntry}
 
@@ -50,23 +50,35 @@ pub record HasPlain (script : Script) (table : Table) (us left : List Stored) (p
   pub pages : take (PAGE * script.pages) (flat pool) ≡ (plain_map (setting_told script table us) script.ops (opened (setting_told script table us) (opening_told script us))).bytes
   pub blocks : blocks_told left ≡ under (setting_told script table us) 0 (plain_map (setting_told script table us) script.ops (opened (setting_told script table us) (opening_told script us))).map (blocks_told us)
 
--- Block k of the read that follows these ops is listed exactly where a layer checks behind a fault, with the first that does, and with the check that is found in the frame that arrives there.
--- Else what lands is the last accepted write's: its data, and where an application takes tuples its tag. What is past and stored is told as it is when the op begins.
-abbrev pub HasReadRightly : Setting → (before : List Op) → Owner → (v n : ℕ) → (body tuples : List Seg) → State → List Reply → (k : ℕ) → Type 0
-HasReadRightly m before owner v n body tuples opening replies k =
+-- Block k of the read that follows these ops, by which blocks are served and by what is the last that was written: one that isn't served is listed with the medium.
+-- Of the others each is listed exactly where a layer checks behind a fault, with the first that does, and with the check that is found in the frame that arrives there.
+-- Else what lands is the last write's: its data, and where an application takes tuples its tag. What is past and stored is told as it is when the op begins.
+abbrev pub HasReadBy : (served : Setting → Block → Bool) → (last : Setting → State → Block → List Event → Brought) → Setting → (before : List Op) → Owner → (v n : ℕ) → (body tuples : List Seg) → State → List Reply → (k : ℕ) → Type 0
+HasReadBy served last m before owner v n body tuples opening replies k =
     let b = block_of (suc (length before)) v k in
     let past = past_after m (steps_from m 1 before) opening [] in
-    ReadsAs m b owner (first_layer m past b) (last_accepted m opening b past) (script_walk m before opening).blocks (listed_in (get_or replies (length before) Silent) k)
+    ReadsWhereServed (served m b) m b owner (first_layer m past b) (last m opening b past) (script_walk m before opening).blocks (listed_in (get_or replies (length before) Silent) k)
     (gather 0 (landing m.size owner body tuples k) (script_walk m (before ++ (read_op owner v n body tuples ∷ [])) opening).bytes)
 
 -- each block of each read
+abbrev pub AllReadBy : (served : Setting → Block → Bool) → (last : Setting → State → Block → List Event → Brought) → Setting → List Op → State → List Reply → Type 0
+AllReadBy served last m ops opening replies = (before after : List Op) (owner : Owner) (v n k : ℕ) (body tuples : List Seg) → ops ≡ before ++ (read_op owner v n body tuples ∷ after) → k < n
+    → HasReadBy served last m before owner v n body tuples opening replies k
+
+-- All are served, and the last write is the last that was accepted.
 abbrev pub AllReadRightly : Setting → List Op → State → List Reply → Type 0
-AllReadRightly m ops opening replies = (before after : List Op) (owner : Owner) (v n k : ℕ) (body tuples : List Seg) → ops ≡ before ++ (read_op owner v n body tuples ∷ after) → k < n
-    → HasReadRightly m before owner v n body tuples opening replies k
+AllReadRightly m ops opening replies = AllReadBy (λ m b. true) last_accepted m ops opening replies
+
+-- Those are served that no `fail` line names, and the last write is the last that was accepted and stored at its block's place: neither lost nor misdirected.
+abbrev pub AllReadStored : Setting → List Op → State → List Reply → Type 0
+AllReadStored m ops opening replies = AllReadBy is_served last_stored m ops opening replies
 
 -- so of a script over known blocks
 abbrev pub RunReadsRightly : Script → Table → List Stored → List Reply → Type 0
 RunReadsRightly script table us replies = AllReadRightly (setting_told script table us) script.ops (opening_told script us) replies
+
+abbrev pub RunReadsStored : Script → Table → List Stored → List Reply → Type 0
+RunReadsStored script table us replies = AllReadStored (setting_told script table us) script.ops (opening_told script us) replies
 
 -- ---- the theorem
 
@@ -102,6 +114,11 @@ pub record OnIntactMedium (script : Script) (table : Table) (devices : List Devi
   pub shown : IsDetectableRun script table devices known.before → RunReadsRightly script table known.before replies
   -- So it is where the script's form says that its faults are shown, and that it supplies no escape.
   pub formed : IsFormedRun script table devices known.before → RunReadsRightly script table known.before replies
+  -- Where the disk fails, loses and misdirects blocks too, each block of a read is the last write's that was accepted and stored at its place:
+  -- never another block's, never half of two. Or it is listed with the medium exactly where a `fail` line names it, or with the first layer as above.
+  pub stored : IsAccountableRun script table devices known.before → RunReadsStored script table known.before replies
+  -- So it is where the script's form says this of its faults.
+  pub stored_by_form : IsAccountedByForm script table devices known.before → RunReadsStored script table known.before replies
   -- Without such lines, and where no store call failed: the records are what the units answer, one after another.
   pub answered : script.faults ≡ [] → list_any is_overwrite script.ops ≡ false → Calm old.faults new.faults → AreAnswersTo old.standing known.before log known.after
 

@@ -8,12 +8,12 @@ use Rattle.stack_walk_laws.specs.Passed.{blocks_told, shapes_of}
 use Rattle.rig_api.specs.Target.{Stored}
 use Rattle.volume_table.specs.Tables.{Table}
 use Rattle.volume_table.specs.declared.device.DeviceInfo.{DeviceInfo}
-use Rattle.walk_laws.specs.Detectable.{detectable}
+use Rattle.walk_laws.specs.Detectable.{accounted, detectable}
 use Rattle.walk_laws.specs.Past.{steps_from}
 use Rattle.walk_laws.specs.Settings.{Setting}
 use Rattle.walk_laws.specs.UnderMap.{AreClean, NoEscape}
 use Rattle.run_laws.specs.ShownRun.{AreCleanWhereRead}
-use Rattle.script_form_laws.specs.Passed.{escapes_none, shows_by_form}
+use Rattle.script_form_laws.specs.Passed.{accounts_by_form, escapes_none, shows_by_form}
 use Rattle.stack_ops.specs.Ops.{is_overwrite}
 use Rattle.script_stack.specs.Followed.{none_fails, opening_of, setting_of}
 use Rattle.script_text.specs.declared.script.Script.{Script}
@@ -53,5 +53,25 @@ pub record IsFormedRun (script : Script) (table : Table) (devices : List DeviceI
   pub dif : script.mode.dif ≡ true
   pub protect : script.mode.protect ≡ 1
   pub form : shows_by_form script.mode.kind script.block script.faults script.ops ≡ true
+  pub escapes : escapes_none script.ops ≡ true
+  pub clean : AreClean (setting_told script table us) (blocks_told us)
+
+-- Under the premises of a detectable run the disk may also fail, lose and misdirect blocks: each scheduled fault can be shown, or is of such a block.
+pub record IsAccountableRun (script : Script) (table : Table) (devices : List DeviceInfo) (us : List Stored) : Type 0 where
+  pub ty : table.ty ≡ One
+  pub dix : script.mode.dix ≡ true
+  pub dif : script.mode.dif ≡ true
+  pub protect : script.mode.protect ≡ 1
+  pub clean : AreCleanWhereRead (setting_told script table us) devices (blocks_told us)
+  pub no_escape : NoEscape (setting_told script table us) 1 script.ops (opening_told script us)
+  pub accounted : accounted (setting_told script table us) (steps_from (setting_told script table us) 1 script.ops) (opening_told script us) ≡ true
+
+-- The same by what a reader of the script sees: no flip alters a misdirected block on its way to the medium, and none is torn.
+pub record IsAccountedByForm (script : Script) (table : Table) (devices : List DeviceInfo) (us : List Stored) : Type 0 where
+  pub ty : table.ty ≡ One
+  pub dix : script.mode.dix ≡ true
+  pub dif : script.mode.dif ≡ true
+  pub protect : script.mode.protect ≡ 1
+  pub form : accounts_by_form script.mode.kind script.block script.faults script.ops ≡ true
   pub escapes : escapes_none script.ops ≡ true
   pub clean : AreClean (setting_told script table us) (blocks_told us)

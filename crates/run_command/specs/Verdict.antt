@@ -27,7 +27,7 @@ pub use Rattle.run_command.specs.Premises.{opening_told, setting_told}
 use Rattle.call_refusal.specs.declared.refusal.Refusal.{Refusal}
 use Rattle.call_refusal.specs.declared.refusal.Refusal.TheVariants as refusal
 use Rattle.run_command.specs.declared.verdict.Finished.{Finished}
-pub use Rattle.run_command.specs.Followed.{AllReadRightly, Followed, HasPlain, HasReadRightly, HoldsBlocks, OnAnyRig, OnFailingMedium, OnIntactMedium, RunReadsRightly}
+pub use Rattle.run_command.specs.Followed.{AllReadBy, AllReadRightly, AllReadStored, Followed, HasPlain, HasReadBy, HoldsBlocks, OnAnyRig, OnFailingMedium, OnIntactMedium, RunReadsStored, RunReadsRightly}
 
 -- what a call speaks of: the name of the image, and the source and the rig, before and after
 pub record Facts : Type 0 where

@@ -12,8 +12,14 @@ use call_refusal::Refusal;
 use dix_base::Source;
 use rig_api::Rig;
 use rig_discovery::told_devices;
-use run_laws::a_read_is_the_last_write_or_names_the_first_layer;
-use script_form_laws::{a_script_is_shown_by_its_form, a_script_supplies_no_escape_by_its_form};
+use run_laws::{
+    a_read_is_the_last_stored_write_or_names_who_ends_it,
+    a_read_is_the_last_write_or_names_the_first_layer,
+};
+use script_form_laws::{
+    a_script_is_accounted_for_by_its_form, a_script_is_shown_by_its_form,
+    a_script_supplies_no_escape_by_its_form,
+};
 use script_stack::{
     Run, a_script_run_is_backed, a_told_script_run_has_fallen, a_told_script_run_has_walked,
     ready_script, run_all,
@@ -93,7 +99,9 @@ pub fn run_script<R: Rig>(
     a_told_script_run_has_fallen();
     a_calm_walk_is_a_plain_map();
     a_read_is_the_last_write_or_names_the_first_layer();
+    a_read_is_the_last_stored_write_or_names_who_ends_it();
     a_script_is_shown_by_its_form();
+    a_script_is_accounted_for_by_its_form();
     a_script_supplies_no_escape_by_its_form();
     a_stack_reads_the_last_write_or_fails_at_the_medium();
     a_stack_writes_or_fails_at_the_medium();

@@ -72,8 +72,8 @@ returns-clause-verdict g c =
       ends = record { stack = c.run_all.ensures.stands.stack; stays = c.run_all.ensures.stays; ended = c.run_all.ensures.ended };
       followed = followed c.args.script c.in_ok-bound.bound.table devices begun r told end c.a_script_run_is_backed.ensures c.a_finished_stack_has_sent.ensures.few c.a_finished_stack_has_sent.ensures.all
           c.a_finished_stack_names_the_medium_seldom.ensures c.a_told_script_run_has_walked.ensures.unnamed c.a_told_script_run_has_walked.ensures.calm c.a_calm_walk_is_a_plain_map.ensures.replies c.a_calm_walk_is_a_plain_map.ensures.under
-          c.a_read_is_the_last_write_or_names_the_first_layer.ensures
-          c.a_script_is_shown_by_its_form.ensures c.a_script_supplies_no_escape_by_its_form.ensures
+          c.a_read_is_the_last_write_or_names_the_first_layer.ensures c.a_read_is_the_last_stored_write_or_names_who_ends_it.ensures
+          c.a_script_is_shown_by_its_form.ensures c.a_script_is_accounted_for_by_its_form.ensures c.a_script_supplies_no_escape_by_its_form.ensures
           c.a_told_script_run_has_fallen.ensures c.a_stack_reads_the_last_write_or_fails_at_the_medium.ensures c.a_stack_writes_or_fails_at_the_medium.ensures.own c.a_stack_writes_or_fails_at_the_medium.ensures.brought
           (record {
             keeps = c.requires.keeps;
