@@ -79,12 +79,12 @@ function tupleOf(frame, layout) {
 const isEscape = (tuple, type) => tuple.app === 0xffff && (type !== 3 || tuple.ref === 0xffffffff);
 const lowWord = address => Number(BigInt(address) & 0xffffffffn);
 
-// One line for a bad block, in the form of `dixlab show`, without the unit.
+// The line of a bad block, as `dixlab check` writes it.
 function lineOf(library, frame, layout, address, found) {
   const tuple = tupleOf(frame, layout);
   const guard = library.crc16(frame.subarray(0, layout.size + layout.at));
   const ref = layout.type === 3 ? "-" : hex(lowWord(address), 8);
-  return `${address} have ${hex(tuple.guard, 4)} ${hex(tuple.app, 4)} ${hex(tuple.ref, 8)} want ${hex(guard, 4)} ${ref} ` +
+  return `0 ${address} have ${hex(tuple.guard, 4)} ${hex(tuple.app, 4)} ${hex(tuple.ref, 8)} want ${hex(guard, 4)} ${ref} ` +
     (found.check === GUARD ? "guard" : "ref");
 }
 
@@ -93,7 +93,7 @@ async function checked(library, file, layout) {
   const frame = layout.size + layout.meta, blocks = Math.floor(file.size / frame);
   const each = Math.max(1, Math.floor(PIECE / frame));
   library.differing(0, layout, 0, 0); // (what is no layout is refused before a byte is read)
-  const result = { lines: [], shown: [], blocks, bad: 0, unchecked: 0, rest: file.size % frame, offsets: new Map() };
+  const result = { lines: [], shown: [], blocks, bad: 0, unchecked: 0, rest: file.size % frame, frame, tags: 0, shift: 0, same: 0 };
   for (let first = 0; first < blocks; first += each) {
     const count = Math.min(each, blocks - first);
     const bytes = new Uint8Array(await file.slice(first * frame, (first + count) * frame).arrayBuffer());
@@ -117,24 +117,27 @@ function note(library, frame, layout, address, found, result) {
   if (result.lines.length < MOST_LINES) result.lines.push(lineOf(library, frame, layout, address, found));
   if (result.shown.length < MOST_SHOWN) result.shown.push({ address, frame: frame.slice(), found });
   if (found.check === REF) {
-    const off = (found.has - found.wanted) >>> 0;
-    result.offsets.set(off, (result.offsets.get(off) || 0) + 1);
+    const shift = (found.has - found.wanted) >>> 0;
+    if (result.tags++ === 0) result.shift = shift;
+    if (shift === result.shift) result.same++;
   }
 }
 
-// The number by which most reference tags are off, where most blocks' are.
-function commonOffset(result) {
-  for (const [off, count] of result.offsets) if (count * 2 > result.blocks) return off;
-  return undefined;
+// Where two bad reference tags or more, and more than half of them, are off by one number, that of the first: what it is.
+function shiftLine(result, layout) {
+  if (result.same < 2 || 2 * result.same <= result.tags) return undefined;
+  const way = 2 * result.shift <= 2 ** 32 ? `${result.shift} higher` : `${2 ** 32 - result.shift} lower`;
+  return `most reference tags are ${way}: is the first one ${lowWord(layout.first + BigInt(result.shift))}?`;
 }
 
+// What `dixlab check` writes of this dump.
 function told(result, layout) {
   const lines = result.lines.slice();
   if (result.bad > lines.length) lines.push(`.. and ${result.bad - lines.length} more`);
-  if (result.rest) lines.push(`unnoticed ${result.rest} bytes behind the last whole block`);
   lines.push(`checked ${result.blocks} bad ${result.bad} unchecked ${result.unchecked}`);
-  const off = commonOffset(result);
-  if (off !== undefined) lines.push(`is the first address ${(layout.first + BigInt(off)) & 0xffffffffn}?`);
+  const shift = shiftLine(result, layout);
+  if (shift !== undefined) lines.push(shift);
+  if (result.rest) lines.push(`the dump ends within a block: ${result.rest} of ${result.frame} bytes`);
   return lines.join("\n");
 }
 

@@ -1,4 +1,5 @@
-"""What the page has to say, worked out without it: a guard is a long division here, bit by bit."""
+"""What the page has to say, worked out without it: a guard is a long division here, bit by bit. Where DIXLAB is a dixlab,
+each dump is also handed to its `check`, and the page has to write the same lines."""
 import base64
 import html
 import os
@@ -6,7 +7,7 @@ import re
 import subprocess
 import sys
 
-BROWSER, WORK = os.environ["BROWSER"], os.environ["WORK"]
+BROWSER, WORK, DIXLAB = os.environ["BROWSER"], os.environ["WORK"], os.environ.get("DIXLAB", "")
 counts = {True: 0, False: 0}
 
 
@@ -45,6 +46,19 @@ def tell(what, came, wanted):
     print(f"{what}: " + ("as it should be" if came == wanted else f"{came!r} in place of {wanted!r}"))
 
 
+def dump_told(what, blocks, wanted, **words):
+    """A dump that the page is given: what it says of it, and that `dixlab check` says the same."""
+    came = page(dump=packed(blocks), **words)["found"]
+    tell(what, came, wanted)
+    if not os.access(DIXLAB, os.X_OK):
+        return
+    flags = [it for name, value in words.items() for it in (f"--{name}", str(value))]
+    if words.get("type") == 2:
+        flags += ["--ref", str(words.get("first", 0))]
+    run = subprocess.run([DIXLAB, "check", *flags], input=b"".join(blocks), capture_output=True, timeout=60, check=False)
+    tell(f"{what}, beside dixlab check", came, (run.stdout + run.stderr).decode().rstrip("\n"))
+
+
 def frame(data, app, ref, before=b"", behind=b""):
     return data + before + crc16(data + before).to_bytes(2, "big") + app.to_bytes(2, "big") + ref.to_bytes(4, "big") + behind
 
@@ -56,7 +70,7 @@ def packed(blocks):
 def main():
     data = [bytes((7 * i + j) % 251 for j in range(512)) for i in range(8)]
     good = [frame(it, 0x1234, 100 + i) for i, it in enumerate(data)]
-    tell("a good dump", page(first=100, dump=packed(good))["found"], "checked 8 bad 0 unchecked 0")
+    dump_told("a good dump", good, "checked 8 bad 0 unchecked 0", first=100)
 
     damaged = list(good)
     damaged[2] = bytes([good[2][0] ^ 1]) + good[2][1:]
@@ -64,19 +78,23 @@ def main():
     damaged[5] = good[6]
     damaged[7] = good[7][:514] + b"\xff\xff" + good[7][516:]
     lines = [
-        f"102 have {crc16(data[2]):04x} 1234 00000066 want {crc16(damaged[2][:512]):04x} 00000066 guard",
-        f"104 have beef 1234 00000068 want {crc16(data[4]):04x} 00000068 guard",
-        f"105 have {crc16(data[6]):04x} 1234 0000006a want {crc16(data[6]):04x} 00000069 ref",
+        f"0 102 have {crc16(data[2]):04x} 1234 00000066 want {crc16(damaged[2][:512]):04x} 00000066 guard",
+        f"0 104 have beef 1234 00000068 want {crc16(data[4]):04x} 00000068 guard",
+        f"0 105 have {crc16(data[6]):04x} 1234 0000006a want {crc16(data[6]):04x} 00000069 ref",
         "checked 8 bad 3 unchecked 1",
     ]
-    tell("each kind of damage", page(first=100, dump=packed(damaged))["found"], "\n".join(lines))
-    moved = page(first=0, dump=packed(good))["found"].splitlines()
-    tell("another first address", moved[-2:], ["checked 8 bad 8 unchecked 0", "is the first address 100?"])
-    tell("a part of a block", page(first=100, dump=packed(good + [b"xyz"]))["found"],
-         "unnoticed 3 bytes behind the last whole block\nchecked 8 bad 0 unchecked 0")
+    dump_told("each kind of damage", damaged, "\n".join(lines), first=100)
+    refs = [f"0 {i} have {crc16(it):04x} 1234 {100 + i:08x} want {crc16(it):04x} {i:08x} ref" for i, it in enumerate(data)]
+    dump_told("another first address", good, "\n".join([*refs, "checked 8 bad 8 unchecked 0", "most reference tags are 100 higher: is the first one 100?"]), first=0)
+    lower = [f"0 {200 + i} have {crc16(it):04x} 1234 {100 + i:08x} want {crc16(it):04x} {200 + i:08x} ref" for i, it in enumerate(data)]
+    dump_told("one above", good, "\n".join([*lower, "checked 8 bad 8 unchecked 0", "most reference tags are 100 lower: is the first one 100?"]), first=200)
+    dump_told("a part of a block", good + [b"xyz"], "checked 8 bad 0 unchecked 0\nthe dump ends within a block: 3 of 520 bytes", first=100)
     last = [frame(bytes(range(256)) * 16, 0, 9 + i, before=bytes(56)) for i in range(2)]
-    tell("the tuple behind other metadata", page(size=4096, meta=64, at=56, first=9, dump=packed(last))["found"], "checked 2 bad 0 unchecked 0")
-    tell("type 3", page(type=3, dump=packed([frame(data[0], 5, 77)]))["found"], "checked 1 bad 0 unchecked 0")
+    dump_told("the tuple behind other metadata", last, "checked 2 bad 0 unchecked 0", size=4096, meta=64, at=56, first=9)
+    dump_told("type 2", damaged[:3], "\n".join([lines[0], "checked 3 bad 1 unchecked 0"]), type=2, first=100)
+    wrong = frame(data[0], 5, 77)[:-1] + b"\x01"
+    dump_told("type 3", [wrong, bytes([data[0][0] ^ 8]) + wrong[1:]],
+              f"0 1 have {crc16(data[0]):04x} 0005 00000001 want {crc16(bytes([data[0][0] ^ 8]) + data[0][1:]):04x} - guard\nchecked 2 bad 1 unchecked 0", type=3)
     tell("no layout", page(meta=4, dump=packed(good))["found"], "no layout: the tuple's eight bytes end within the metadata, sizes are numbers")
 
     tell("guards of bytes", page(bytes=b"123456789".hex())["words"].splitlines()[0],
