@@ -7,6 +7,11 @@ pub never_rose : (o n : ℕ) → Calm o n → Rose o n → ⊥
 never_rose o n c (inl h) = omega arith
 never_rose o n c (inr h) = omega arith
 
+-- a count that rose later rose
+pub rose_later : (a b c : ℕ) → a ≤ b → Rose b c → Rose a c
+rose_later a b c h (inl r) = inl (omega (arith, h, r))
+rose_later a b c h (inr r) = inr r
+
 pub calm_first : (a b c : ℕ) → b ≤ c → Calm a c → Calm a b
 calm_first a b c h p = (omega (arith, p.0), omega (arith, p.1))
 

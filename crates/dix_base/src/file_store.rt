@@ -7,6 +7,7 @@ ghost use Rattle.dix_base.specs.Told.{Rose};
 
 use crate::fault_plan::raise;
 use crate::read_ahead::ReadAhead;
+use crate::size_limit::{front_of, largest_file};
 use crate::{Failed, Store, StoreFault};
 use std::alloc::Global;
 use std::fs::{self, File, Metadata, OpenOptions};
@@ -17,13 +18,15 @@ use std::os::unix::fs::FileTypeExt;
 /// A file. It doesn't tell its bytes.
 ///
 /// Reads that follow one another are served from pieces that were read ahead. Writes go to the file
-/// at once.
+/// at once. Where the system limits the size of files, a write to a plain one past the limit fails.
 #[derive(Drop)]
 pub struct FileStore {
     rt: HostRuntime,
     file: Option<File>,
     ahead: ReadAhead,
     size: u64,
+    /// Writes end here or before.
+    most: u64,
     faults: u64,
     opened: u64,
     name: String,
@@ -61,14 +64,32 @@ fn is_kept(found: &Metadata) -> bool {
     kind.is_file() || kind.is_block_device()
 }
 
-/// Opens a file that is there, and gives its length in bytes, which of a block device only its end tells.
-fn opened(rt: &HostRuntime, name: &str) -> Option<(File, u64)> {
-    if !is_kept(&fs::metadata(rt, name).ok()?) {
+/// A file that was opened, its length in bytes, and the place behind which it isn't written.
+struct Reached {
+    file: File,
+    size: u64,
+    most: u64,
+}
+
+/// Where writes to such a file end: the system limits the size of plain files alone.
+fn last_place(rt: &HostRuntime, found: &Metadata) -> u64 {
+    if found.is_file() {
+        largest_file(rt)
+    } else {
+        u64::MAX
+    }
+}
+
+/// Opens a file that is there. The length of a block device only its end tells.
+fn opened(rt: &HostRuntime, name: &str) -> Option<Reached> {
+    let found = fs::metadata(rt, name).ok()?;
+    if !is_kept(&found) {
         return None;
     }
     let mut file = reachable(rt, name).ok()?;
     let size = file.seek(SeekFrom::End(0)).ok()?;
-    Some((file, size))
+    let most = last_place(rt, &found);
+    Some(Reached { file, size, most })
 }
 
 /// Makes a file empty, or makes an empty one where there is none.
@@ -98,8 +119,23 @@ impl FileStore {
             rt,
             file: None,
             size: 0,
+            most: 0,
             faults: 0,
             opened: 0,
+        }
+    }
+
+    /// Makes a write, if a file is open, up to the limit, and says whether all bytes went.
+    fn write(&mut self, at: u64, piece: &[u8]) -> bool
+        ensures stays { self.new ≡ self.old }
+        ensures is_open { IsTrue result → IsTrue self.old.is_open }
+    {
+        let front = front_of(piece, self.most.saturating_sub(at));
+        match &self.file {
+            Some(file) => {
+                self.ahead.write(file, at, front).is_ok() && front.len() == piece.len()
+            }
+            None => false,
         }
     }
 }
@@ -130,9 +166,11 @@ impl Store for FileStore {
         self.size = 0;
         let found = opened(&self.rt, name.as_str());
         self.name = name;
-        if let Some((file, size)) = found {
+        if let Some(found) = found {
+            let Reached { file, size, most } = found;
             self.file = Some(file);
             self.size = size;
+            self.most = most;
             return Ok(size);
         }
         raise(&mut self.faults);
@@ -159,6 +197,7 @@ impl Store for FileStore {
         self.name = name;
         if let Some(file) = made {
             self.file = Some(file);
+            self.most = largest_file(&self.rt);
             return Ok(());
         }
         raise(&mut self.faults);
@@ -195,10 +234,8 @@ impl Store for FileStore {
         ensures passed { OnOk result (self.new ≡ self.old) }
         ensures failed { OnErr result (self.new ≡ after_file_fault self.old) }
     {
-        if let Some(file) = &self.file {
-            if self.ahead.write(file, at, piece).is_ok() {
-                return Ok(());
-            }
+        if self.write(at, piece) {
+            return Ok(());
         }
         raise(&mut self.faults);
         Err(Failed)
@@ -217,11 +254,9 @@ impl Store for FileStore {
         ensures failed { OnErr result (self.new ≡ after_file_fault self.old) }
     {
         if let Some(end) = self.size.checked_add(piece.len() as u64) {
-            if let Some(file) = &self.file {
-                if self.ahead.write(file, self.size, piece).is_ok() {
-                    self.size = end;
-                    return Ok(());
-                }
+            if self.write(self.size, piece) {
+                self.size = end;
+                return Ok(());
             }
         }
         raise(&mut self.faults);

@@ -18,11 +18,13 @@ mod mem_store;
 mod read_ahead;
 mod reading;
 mod sink;
+mod size_limit;
 mod source;
 mod stderr_sink;
 mod stdin_source;
 mod stdout_sink;
 mod store;
+mod streams;
 
 pub use byte_list::ByteList;
 pub use calling::{unworded, words_of};

@@ -5,7 +5,9 @@ ghost use Rattle.dix_base.specs.Forms.{one_more};
 ghost use Rattle.dix_base.specs.Told.{Rose};
 
 use crate::fault_plan::raise;
+use crate::size_limit::stream_room;
 use crate::stdout_sink::written;
+use crate::streams::ERRORS;
 use crate::{Failed, Sink};
 use std::io::Stderr;
 use std::marker::Model;
@@ -14,6 +16,8 @@ use std::marker::Model;
 #[derive(Drop)]
 pub struct StderrSink {
     output: Stderr,
+    /// So many bytes may still go.
+    left: u64,
     faults: u64,
 }
 
@@ -26,11 +30,13 @@ impl Model for StderrSink {
 }
 
 impl StderrSink {
-    /// The standard error of this process. A contract sees its count of faults.
+    /// The standard error of this process. A contract sees its count of faults. A limit on the size of files holds for
+    /// it as for standard output.
     pub fn new(rt: HostRuntime) -> StderrSink
         ensures { result ≡ 0 }
     {
         StderrSink {
+            left: stream_room(&rt, &ERRORS),
             output: rt.stderr(),
             faults: 0,
         }
@@ -57,7 +63,7 @@ impl Sink for StderrSink {
         if bytes.is_empty() {
             return Ok(0);
         }
-        if let Some(n) = written(&mut self.output, bytes) {
+        if let Some(n) = written(&mut self.output, &mut self.left, bytes) {
             return Ok(n);
         }
         raise(&mut self.faults);

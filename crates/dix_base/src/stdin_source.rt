@@ -5,10 +5,13 @@ ghost use Rattle.dix_base.specs.Forms.{one_more};
 ghost use Rattle.dix_base.specs.Told.{Rose};
 
 use crate::fault_plan::raise;
+use crate::streams::{INPUT, position_in};
 use crate::{Failed, Source};
-use std::fs;
 use std::io::{ErrorKind, Read, Stdin};
 use std::marker::Model;
+
+/// The most bytes of one read.
+const PIECE: usize = 32768;
 
 /// Standard input. It doesn't tell what is left.
 #[derive(Drop)]
@@ -41,25 +44,11 @@ fn read_once(input: &mut Stdin, into: &mut [u8]) -> Option<usize>
     None
 }
 
-/// The number behind `pos:` in the first line of what the system tells of an open file.
-fn position_in(told: &str) -> Option<u64> {
-    let line = told.strip_prefix("pos:")?;
-    let (digits, _) = line.split_once('\n')?;
-    digits.trim().parse::<u64>().ok()
-}
-
-/// How far standard input has been read, of a file.
-fn position(rt: &HostRuntime) -> Option<u64> {
-    position_in(fs::read_to_string(rt, "/proc/self/fdinfo/0").ok()?.as_str())
-}
-
 /// How many bytes are left of standard input, if it is a plain file and the system tells.
 fn left_of(rt: &HostRuntime) -> Option<u64> {
-    let found = fs::metadata(rt, "/proc/self/fd/0").ok()?;
-    if !found.is_file() {
-        return None;
-    }
-    found.len().checked_sub(position(rt)?)
+    let file = INPUT.plain_file(rt)?;
+    let state = INPUT.state(rt)?;
+    file.len().checked_sub(position_in(state.as_str())?)
 }
 
 impl StdinSource {
@@ -81,7 +70,7 @@ impl Source for StdinSource {
 
     ghost faults = { λ s. s };
 
-    /// Makes one read, of at most 4,096 bytes. It reads into a buffer of its own, since a read says
+    /// Makes one read, of at most 32 KiB. It reads into a buffer of its own, since a read says
     /// nothing of what it leaves past the bytes that came.
     fn take(&mut self, buf: &mut [u8]) -> Result<usize, Failed>
         ensures bound { IfOk result (λ n. n ≤ length buf.old) }
@@ -92,7 +81,7 @@ impl Source for StdinSource {
         ensures passed { OnOk result (self.new ≡ self.old) }
         ensures failed { OnErr result (self.new ≡ one_more self.old) }
     {
-        let mut came = [0u8; 4096];
+        let mut came = [0u8; PIECE];
         let most = buf.len().min(came.len());
         if let Some(n) = read_once(&mut self.input, &mut came[..most]) {
             buf[..n].copy_from_slice(&came[..n]);

@@ -5,6 +5,8 @@ ghost use Rattle.dix_base.specs.Forms.{one_more};
 ghost use Rattle.dix_base.specs.Told.{Rose};
 
 use crate::fault_plan::raise;
+use crate::size_limit::{front_of, stream_room};
+use crate::streams::OUTPUT;
 use crate::{Failed, Sink};
 use std::io::{ErrorKind, Stdout, Write};
 use std::marker::Model;
@@ -26,6 +28,8 @@ pub struct StdoutSink {
     room: [u8; ROOM],
     from: usize,
     end: usize,
+    /// So many bytes may still go.
+    left: u64,
     faults: u64,
 }
 
@@ -61,7 +65,7 @@ fn copied(room: &mut [u8], at: usize, bytes: &[u8]) -> usize
 
 /// Makes one write of a piece, and says how many bytes went, if some did. A write that a signal interrupts is made
 /// again.
-pub(crate) fn written<W: Write>(output: &mut W, piece: &[u8]) -> Option<usize>
+fn written_once<W: Write>(output: &mut W, piece: &[u8]) -> Option<usize>
     ensures bound { IfSome result (λ n. n ≤ length piece.now) }
     ensures some { IfSome result (λ n. 0 < n) }
 {
@@ -75,12 +79,24 @@ pub(crate) fn written<W: Write>(output: &mut W, piece: &[u8]) -> Option<usize>
     None
 }
 
+/// Makes one write of a piece to a stream that may take so many bytes more, and says how many went, if some did.
+pub(crate) fn written<W: Write>(output: &mut W, left: &mut u64, piece: &[u8]) -> Option<usize>
+    ensures bound { IfSome result (λ n. n ≤ length piece.now) }
+    ensures some { IfSome result (λ n. 0 < n) }
+{
+    let n = written_once(output, front_of(piece, *left))?;
+    *left = left.saturating_sub(n as u64);
+    Some(n)
+}
+
 impl StdoutSink {
-    /// The standard output of this process. A contract sees its count of faults.
+    /// The standard output of this process. A contract sees its count of faults. Where it is a plain file, and the system
+    /// limits the size of files, a write past the limit fails.
     pub fn new(rt: HostRuntime) -> StdoutSink
         ensures { result ≡ 0 }
     {
         StdoutSink {
+            left: stream_room(&rt, &OUTPUT),
             output: rt.stdout(),
             room: [0; ROOM],
             from: 0,
@@ -95,7 +111,7 @@ impl StdoutSink {
         ensures { self.new ≡ self.old }
     {
         let held = window(&self.room, self.from, self.end);
-        match written(&mut self.output, held) {
+        match written(&mut self.output, &mut self.left, held) {
             Some(n) => {
                 self.from = self.from.saturating_add(n);
                 true
@@ -128,7 +144,7 @@ impl StdoutSink {
         ensures cause { OnErr result (Rose self.old self.new) }
         ensures count { self.old ≤ self.new }
     {
-        if let Some(n) = written(&mut self.output, piece) {
+        if let Some(n) = written(&mut self.output, &mut self.left, piece) {
             return Ok(n);
         }
         raise(&mut self.faults);
