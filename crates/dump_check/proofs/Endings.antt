@@ -11,17 +11,13 @@ use Rattle.report_text.proofs.Flow.{part_first, part_second, whole_is_part}
 use Rattle.dump_check.specs.declared.form.Dump.{Dump}
 use Rattle.dump_check.specs.declared.form.Form.{Form}
 use Rattle.dump_check.specs.declared.form.Form.TheVariants.{Narrow, Wide}
-use Rattle.dump_check.specs.declared.tally.Tally.{Tally}
+use Rattle.dump_check.specs.declared.tally.DumpTally.{DumpTally}
 use Rattle.dump_check.specs.declared.walking.CheckFault.{CheckFault}
 use Rattle.dump_check.specs.declared.walking.CheckFault.TheVariants as fault
 use Rattle.dump_check.specs.declared.walking.Checked.{Checked}
 use Rattle.dump_check.specs.Forms.{is_fit, stride_of}
 use Rattle.dump_check.specs.Lines.{bad_text, blocks_of, blocks_text, check_text, last_text, rest_of, tally_of}
 use Rattle.dump_check.specs.Walks.{CheckEnds, HasChecked, HasCheckedSome, WalkEnds}
-
-pub rose_later : (a b c : ℕ) → a ≤ b → Rose b c → Rose a c
-rose_later a b c h (inl r) = inl (omega (arith, h, r))
-rose_later a b c h (inr r) = inr r
 
 -- a block has bytes
 pub some_bytes : (f : Form) → is_fit f ≡ true → 0 < stride_of f
@@ -110,7 +106,7 @@ stopped fault.Sink d o n left left_after p q old new w = (w.0, widened d left le
 stopped fault.Endless d o n left left_after p q old new w = w
 
 last_is : (d : Dump) (c : Checked) (left left_after old new : Option (List ℕ)) → (h : HasChecked bad_text d c left left_after old new) → last_text d.form c.tally c.rest ≡ last_text d.form (tally_of d.form h.bytes) (rest_of d.form h.bytes)
-last_is d c left left_after old new h = ap (λ (t : Tally). last_text d.form t c.rest) h.tally ∙ ap (λ n. last_text d.form (tally_of d.form h.bytes) n) h.rest
+last_is d c left left_after old new h = ap (λ (t : DumpTally). last_text d.form t c.rest) h.tally ∙ ap (λ n. last_text d.form (tally_of d.form h.bytes) n) h.rest
 
 -- the last lines were written
 pub finished : (d : Dump) (c : Checked) (left left_after old mid new : Option (List ℕ)) → HasChecked bad_text d c left left_after old mid → Appended (last_text d.form c.tally c.rest) mid new → HasChecked check_text d c left left_after old new

@@ -7,13 +7,14 @@ use Rattle.dix_base.proofs.Appending.{appended_both}
 use Rattle.dix_base.specs.Told.{Appended, AppendedSome, IsAtEnd, Took}
 use Rattle.dix_base.proofs.Taking.{took_more}
 use Rattle.report_text.proofs.Flow.{part_second}
+use Rattle.rig_api.proofs.FrameLaws.{frames_length}
 use Rattle.rig_api.specs.Frames.{frames_of}
 use Rattle.image_text.proofs.Frames.{less_one, next_frame}
-use Rattle.dump_check.specs.declared.finding.Difference.{Difference}
-use Rattle.dump_check.specs.declared.finding.Difference.TheVariants.{Nothing, Escape, Guard, AppTag, RefTag}
+use Rattle.dump_check.specs.declared.finding.Judgement.{Judgement}
+use Rattle.dump_check.specs.declared.finding.Judgement.TheVariants.{Nothing, Escape, Guard, AppTag, RefTag}
 use Rattle.dump_check.specs.declared.form.Dump.{Dump}
 use Rattle.dump_check.specs.declared.form.Form.{Form}
-use Rattle.dump_check.specs.declared.tally.Tally.{Tally}
+use Rattle.dump_check.specs.declared.tally.DumpTally.{DumpTally}
 use Rattle.dump_check.specs.declared.walking.Checked.{Checked}
 use Rattle.dump_check.specs.declared.walking.TheConstants.{MOST_BLOCKS}
 use Rattle.dump_check.specs.Finding.{found_of}
@@ -37,10 +38,6 @@ frames_both len (suc k) n a b h =
     next_frame len (suc k + n) (a ++ b) (omega arith) ∙ ap (λ x. take len (a ++ b) ∷ frames_of len x (drop len (a ++ b))) (omega arith) ∙
     ap (λ x. x ∷ frames_of len (k + n) (drop len (a ++ b))) (take-append-le len a b l) ∙ ap (λ x. take len a ∷ frames_of len (k + n) x) (drop-append-le len a b l) ∙ ap (λ x. take len a ∷ x) r
 
-frames_len : (len n : ℕ) (bytes : List ℕ) → length (frames_of len n bytes) ≡ n
-frames_len len zero bytes = refl
-frames_len len (suc n) bytes = ap suc (frames_len len n (drop len bytes))
-
 text_both : (d : Dump) (i : ℕ) (xs ys : List (List ℕ)) → blocks_text d i (xs ++ ys) ≡ blocks_text d i xs ++ blocks_text d (i + length xs) ys
 text_both d i [] ys = ap (λ n. blocks_text d n ys) (omega arith)
 text_both d i (x ∷ xs) ys =
@@ -48,12 +45,12 @@ text_both d i (x ∷ xs) ys =
     let e : i + 1 + length xs ≡ i + suc (length xs) = omega arith in
     ap (λ t. block_text d i x ++ t) (r ∙ ap (λ n. blocks_text d (i + 1) xs ++ blocks_text d n ys) e) ∙ sym (append_assoc (block_text d i x) (blocks_text d (i + 1) xs) (blocks_text d (i + suc (length xs)) ys))
 
-tally_both : (f : Form) (t : Tally) (xs ys : List (List ℕ)) → counted_all f t (xs ++ ys) ≡ counted_all f (counted_all f t xs) ys
+tally_both : (f : Form) (t : DumpTally) (xs ys : List (List ℕ)) → counted_all f t (xs ++ ys) ≡ counted_all f (counted_all f t xs) ys
 tally_both f t [] ys = refl
 tally_both f t (x ∷ xs) ys = tally_both f (counted t (found_of f t.blocks x)) xs ys
 
 -- The blocks of these bytes, and no others, were counted, and their lines written.
-pub record IsWalked (d : Dump) (t : Tally) (bytes : List ℕ) (old new : Option (List ℕ)) : Type 0 where
+pub record IsWalked (d : Dump) (t : DumpTally) (bytes : List ℕ) (old new : Option (List ℕ)) : Type 0 where
   pub long : length bytes ≡ t.blocks * stride_of d.form
   pub tally : t ≡ counted_all d.form none_counted (frames_of (stride_of d.form) t.blocks bytes)
   pub written : Appended (blocks_text d 0 (frames_of (stride_of d.form) t.blocks bytes)) old new
@@ -63,12 +60,12 @@ pub lines_both : (d : Dump) (k n : ℕ) (a b : List ℕ) → length a ≡ k * st
     blocks_text d 0 (frames_of (stride_of d.form) (k + n) (a ++ b)) ≡ blocks_text d 0 (frames_of (stride_of d.form) k a) ++ blocks_text d k (frames_of (stride_of d.form) n b)
 lines_both d k n a b h =
     let s = stride_of d.form in
-    let q = frames_len s k a in
+    let q = frames_length s k a in
     let e : 0 + length (frames_of s k a) ≡ k = omega (arith, q) in
     ap (blocks_text d 0) (frames_both s k n a b h) ∙ text_both d 0 (frames_of s k a) (frames_of s n b) ∙ ap (λ x. blocks_text d 0 (frames_of s k a) ++ blocks_text d x (frames_of s n b)) e
 
 -- a piece more
-pub walked_on : (d : Dump) (t next : Tally) (n : ℕ) (bytes piece : List ℕ) (old mid new : Option (List ℕ)) → IsWalked d t bytes old mid → length piece ≡ n * stride_of d.form → next.blocks ≡ t.blocks + n →
+pub walked_on : (d : Dump) (t next : DumpTally) (n : ℕ) (bytes piece : List ℕ) (old mid new : Option (List ℕ)) → IsWalked d t bytes old mid → length piece ≡ n * stride_of d.form → next.blocks ≡ t.blocks + n →
     next ≡ counted_all d.form t (frames_of (stride_of d.form) n piece) → Appended (blocks_text d t.blocks (frames_of (stride_of d.form) n piece)) mid new → IsWalked d next (bytes ++ piece) old new
 walked_on d t next n bytes piece old mid new w l m c a =
     let f = d.form in
@@ -81,7 +78,7 @@ walked_on d t next n bytes piece old mid new w l m c a =
     let sum : (t.blocks + n) * s ≡ t.blocks * s + n * s = grind arith in
     record {
       long = length-append bytes piece ∙ omega (arith, l, w.long, sum) ∙ ap (λ k. k * s) (sym m);
-      tally = c ∙ ap (λ (u : Tally). counted_all f u back) w.tally ∙ sym (tally_both f none_counted front back) ∙ ap (counted_all f none_counted) (sym both);
+      tally = c ∙ ap (λ (u : DumpTally). counted_all f u back) w.tally ∙ sym (tally_both f none_counted front back) ∙ ap (counted_all f none_counted) (sym both);
       written = subst (λ x. Appended x old new) (sym lines) (appended_both (blocks_text d 0 front) (blocks_text d t.blocks back) old mid new w.written a);
     }
 
@@ -96,10 +93,10 @@ blocks_are f k bytes more l h =
 pub rest_is : (f : Form) (k : ℕ) (bytes more : List ℕ) → length bytes ≡ k * stride_of f → length more < stride_of f → rest_of f (bytes ++ more) ≡ length more
 rest_is f k bytes more l h = ap (λ x. x % stride_of f) (length-append bytes more ∙ ap (λ x. x + length more) l) ∙ mod-mul-add k (stride_of f) (length more) h
 
-pub bad_is : (d : Dump) (t : Tally) (bytes more : List ℕ) (old new : Option (List ℕ)) → IsWalked d t bytes old new → length more < stride_of d.form → Appended (bad_text d (bytes ++ more)) old new
+pub bad_is : (d : Dump) (t : DumpTally) (bytes more : List ℕ) (old new : Option (List ℕ)) → IsWalked d t bytes old new → length more < stride_of d.form → Appended (bad_text d (bytes ++ more)) old new
 bad_is d t bytes more old new w h = subst (λ x. Appended (blocks_text d 0 x) old new) (sym (blocks_are d.form t.blocks bytes more w.long h)) w.written
 
-pub tally_is : (d : Dump) (t : Tally) (bytes more : List ℕ) (old new : Option (List ℕ)) → IsWalked d t bytes old new → length more < stride_of d.form → t ≡ tally_of d.form (bytes ++ more)
+pub tally_is : (d : Dump) (t : DumpTally) (bytes more : List ℕ) (old new : Option (List ℕ)) → IsWalked d t bytes old new → length more < stride_of d.form → t ≡ tally_of d.form (bytes ++ more)
 tally_is d t bytes more old new w h = w.tally ∙ ap (counted_all d.form none_counted) (sym (blocks_are d.form t.blocks bytes more w.long h))
 
 -- the source was at its end
@@ -119,7 +116,7 @@ pub at_first : (d : Dump) (x : Option (List ℕ)) → Appended [] x x → IsWalk
 at_first d x a = record { long = omega arith; tally = refl; written = a }
 
 -- a piece whose lines weren't all written
-pub broken_off : (d : Dump) (t : Tally) (n : ℕ) (bytes piece more : List ℕ) (old mid new : Option (List ℕ)) → IsWalked d t bytes old mid → length piece ≡ n * stride_of d.form → length more < stride_of d.form →
+pub broken_off : (d : Dump) (t : DumpTally) (n : ℕ) (bytes piece more : List ℕ) (old mid new : Option (List ℕ)) → IsWalked d t bytes old mid → length piece ≡ n * stride_of d.form → length more < stride_of d.form →
     AppendedSome (blocks_text d t.blocks (frames_of (stride_of d.form) n piece)) mid new → AppendedSome (bad_text d ((bytes ++ piece) ++ more)) old new
 broken_off d t n bytes piece more old mid new w l h a =
     let s = stride_of d.form in
@@ -130,10 +127,10 @@ broken_off d t n bytes piece more old mid new w l h a =
     subst (λ x. AppendedSome x old new) (sym same) (part_second (blocks_text d 0 (frames_of s t.blocks bytes)) (blocks_text d t.blocks (frames_of s n piece)) old mid new w.written a)
 
 -- whole blocks alone
-pub bad_whole : (d : Dump) (t : Tally) (bytes : List ℕ) (old new : Option (List ℕ)) → 0 < stride_of d.form → IsWalked d t bytes old new → Appended (bad_text d bytes) old new
+pub bad_whole : (d : Dump) (t : DumpTally) (bytes : List ℕ) (old new : Option (List ℕ)) → 0 < stride_of d.form → IsWalked d t bytes old new → Appended (bad_text d bytes) old new
 bad_whole d t bytes old new some w = subst (λ x. Appended (bad_text d x) old new) (append-nil bytes) (bad_is d t bytes [] old new w some)
 
-pub tally_whole : (d : Dump) (t : Tally) (bytes : List ℕ) (old new : Option (List ℕ)) → 0 < stride_of d.form → IsWalked d t bytes old new → t ≡ tally_of d.form bytes
+pub tally_whole : (d : Dump) (t : DumpTally) (bytes : List ℕ) (old new : Option (List ℕ)) → 0 < stride_of d.form → IsWalked d t bytes old new → t ≡ tally_of d.form bytes
 tally_whole d t bytes old new some w = subst (λ x. t ≡ tally_of d.form x) (append-nil bytes) (tally_is d t bytes [] old new w some)
 
 -- so many bytes that came are whole blocks and less than one
@@ -185,14 +182,14 @@ took_parts s got n each bytes into a b c parts p q =
     let more = drop (n * each) (take got into) in
     subst (λ x. Took x a c) (ap (λ x. bytes ++ x) parts.same ∙ sym (append_assoc bytes piece more)) (took_more bytes (take got into) a b c p q)
 
-one_more : (t : Tally) (found : Difference) → (counted t found).blocks ≡ t.blocks + 1
+one_more : (t : DumpTally) (found : Judgement) → (counted t found).blocks ≡ t.blocks + 1
 one_more t Nothing = refl
 one_more t Escape = refl
 one_more t Guard = refl
 one_more t AppTag = refl
 one_more t (RefTag shift) = refl
 
-counts : (f : Form) (t : Tally) (xs : List (List ℕ)) → (counted_all f t xs).blocks ≡ t.blocks + length xs
+counts : (f : Form) (t : DumpTally) (xs : List (List ℕ)) → (counted_all f t xs).blocks ≡ t.blocks + length xs
 counts f t [] = omega arith
 counts f t (x ∷ xs) =
     let one = one_more t (found_of f t.blocks x) in
@@ -202,7 +199,7 @@ counts f t (x ∷ xs) =
 blocks_below : (f : Form) (bytes : List ℕ) → (tally_of f bytes).blocks ≤ length bytes
 blocks_below f bytes =
     let c = counts f none_counted (blocks_of f bytes) in
-    let n = frames_len (stride_of f) (length bytes / stride_of f) bytes in
+    let n = frames_length (stride_of f) (length bytes / stride_of f) bytes in
     let q = div-le_self (length bytes) (stride_of f) in
     omega (arith, c, n, q)
 

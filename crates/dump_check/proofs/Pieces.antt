@@ -1,19 +1,11 @@
 -- Pieces that are put one behind another into an empty line.
 use Rattle.std.proofs.Common.{ℕ, ◌≡◌, Bool, true, false, List, [], ◌++◌, ap, sym, refl, true≢false, ◌∙◌, append_assoc}
 use Rattle.std.specs.Prelude.{decimal}
+use Rattle.image_text.proofs.Sights.{behind, seven}
 use Rattle.dump_check.specs.Lines.{line_if}
-
-behind : (l m n a b : List ℕ) → m ≡ l ++ a → n ≡ m ++ b → n ≡ l ++ (a ++ b)
-behind l m n a b p q = q ∙ ap (λ (x : List ℕ). x ++ b) p ∙ append_assoc l a b
 
 pub three : (k l m n a b c : List ℕ) → l ≡ k ++ a → m ≡ l ++ b → n ≡ m ++ c → n ≡ k ++ (a ++ (b ++ c))
 three k l m n a b c s t u = behind k l n a (b ++ c) s (behind l m n b c t u)
-
-pub five : (k l m n o p a b c d e : List ℕ) → l ≡ k ++ a → m ≡ l ++ b → n ≡ m ++ c → o ≡ n ++ d → p ≡ o ++ e → p ≡ k ++ (a ++ (b ++ (c ++ (d ++ e))))
-five k l m n o p a b c d e s t u v w = behind k l p a (b ++ (c ++ (d ++ e))) s (behind l m p b (c ++ (d ++ e)) t (three m n o p c d e u v w))
-
-pub seven : (k l m n o p q r a b c d e f g : List ℕ) → l ≡ k ++ a → m ≡ l ++ b → n ≡ m ++ c → o ≡ n ++ d → p ≡ o ++ e → q ≡ p ++ f → r ≡ q ++ g → r ≡ k ++ (a ++ (b ++ (c ++ (d ++ (e ++ (f ++ g))))))
-seven k l m n o p q r a b c d e f g s t u v w x y = behind k l r a (b ++ (c ++ (d ++ (e ++ (f ++ g))))) s (behind l m r b (c ++ (d ++ (e ++ (f ++ g)))) t (five m n o p q r c d e f g u v w x y))
 
 -- eleven pieces, the first three of which are laid aside
 pub eleven : (k l m n o p q r s t u v a b c d e f g h i j z : List ℕ) → l ≡ k ++ a → m ≡ l ++ b → n ≡ m ++ c → o ≡ n ++ d → p ≡ o ++ e → q ≡ p ++ f → r ≡ q ++ g → s ≡ r ++ h → t ≡ s ++ i → u ≡ t ++ j → v ≡ u ++ z →
@@ -21,10 +13,6 @@ pub eleven : (k l m n o p q r s t u v a b c d e f g h i j z : List ℕ) → l �
 eleven k l m n o p q r s t u v a b c d e f g h i j z A B C D E F G H I J Z =
     three k l m v a b (c ++ (d ++ (e ++ (f ++ (g ++ (h ++ (i ++ (j ++ z)))))))) A B
     (behind m n v c (d ++ (e ++ (f ++ (g ++ (h ++ (i ++ (j ++ z))))))) C (behind n o v d (e ++ (f ++ (g ++ (h ++ (i ++ (j ++ z)))))) D (seven o p q r s t u v e f g h i j z E F G H I J Z)))
-
--- the digits of a number that is another
-pub by_number : (l m : List ℕ) (n k : ℕ) → n ≡ k → m ≡ l ++ decimal n → m ≡ l ++ decimal k
-by_number l m n k e d = d ∙ ap (λ (x : ℕ). l ++ decimal x) e
 
 -- a line that is shown
 pub shown_if : (holds : Bool) (line : List ℕ) → holds ≡ true → line ≡ line_if holds line

@@ -29,7 +29,7 @@ pub record HasCheckedSome (text : Dump → List ℕ → List ℕ) (d : Dump) (le
   pub written : AppendedSome (text d (came ++ more)) old new
 
 -- Bytes came, and the lines of the bad blocks of the first of them were written, and nothing else.
-pub record HasBrokenOff (d : Dump) (left left_after old new : Option (List ℕ)) : Type 0 where
+pub record HasCheckedFront (d : Dump) (left left_after old new : Option (List ℕ)) : Type 0 where
   pub bytes : List ℕ
   pub more : List ℕ
   pub took : Took (bytes ++ more) left left_after
@@ -38,7 +38,7 @@ pub record HasBrokenOff (d : Dump) (left left_after old new : Option (List ℕ))
 -- The source gave its last byte, and the text was written and no call failed; or the source failed, or the sink, whose count rose; or there are too many blocks.
 abbrev pub EndsWith : (text : Dump → List ℕ → List ℕ) → Result Checked CheckFault → Dump → (sources sources_after : ℕ) → (left left_after : Option (List ℕ)) → (sinks sinks_after : ℕ) → (old new : Option (List ℕ)) → Type 0
 EndsWith text (Ok c) d o n left left_after p q old new = HasChecked text d c left left_after old new × (n ≡ o) × (q ≡ p)
-EndsWith text (Err fault.Source) d o n left left_after p q old new = Rose o n × HasBrokenOff d left left_after old new × (q ≡ p)
+EndsWith text (Err fault.Source) d o n left left_after p q old new = Rose o n × HasCheckedFront d left left_after old new × (q ≡ p)
 EndsWith text (Err fault.Sink) d o n left left_after p q old new = Rose p q × HasCheckedSome text d left left_after old new
 EndsWith text (Err fault.Endless) d o n left left_after p q old new = (bytes : List ℕ) × Took bytes left left_after × (MOST_BLOCKS ≤ (tally_of d.form bytes).blocks) × Appended (bad_text d bytes) old new × (n ≡ o) × (q ≡ p)
 

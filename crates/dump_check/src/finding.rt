@@ -14,7 +14,7 @@ use wide_blocks::{NvmeFound, NvmeLayout, NvmeWant, verify_wide};
 
 /// What is found of a block.
 #[derive(Clone, Copy, Debug, PartialEq, Eq)]
-pub enum Difference {
+pub enum Judgement {
     /// Nothing.
     Nothing,
     /// Its protection information says that it isn't to be checked.
@@ -80,13 +80,13 @@ fn distance(bits: u32, expected: u64, actual: u64) -> u64
     low(u128::from(actual) + (1 << 64) - u128::from(expected), bits)
 }
 
-fn by_check(check: u32, shift: u64) -> Difference
+fn by_check(check: u32, shift: u64) -> Judgement
     ensures { result ≡ by_check check shift }
 {
     match check {
-        2 => Difference::Guard,
-        4 => Difference::AppTag,
-        _ => Difference::RefTag { shift },
+        2 => Judgement::Guard,
+        4 => Judgement::AppTag,
+        _ => Judgement::RefTag { shift },
     }
 }
 
@@ -158,13 +158,13 @@ fn look_wide(layout: NvmeLayout, want: NvmeWant, block: &[u8]) -> Option<NvmeFou
     }
 }
 
-fn find_narrow(layout: Layout, want: Want, i: u64, block: &[u8]) -> Difference
+fn find_narrow(layout: Layout, want: Want, i: u64, block: &[u8]) -> Judgement
     requires fit { is_fit (Form.Narrow layout want) ≡ true }
     requires whole { length block.now ≡ stride_of (Form.Narrow layout want) }
     ensures { result ≡ narrow_found layout want i block.now }
 {
     match look(layout, narrow_from(want, i), block) {
-        None => Difference::Nothing,
+        None => Judgement::Nothing,
         Some(found) => by_check(
             found.check,
             distance(32, u64::from(found.expected), u64::from(found.actual)),
@@ -172,26 +172,26 @@ fn find_narrow(layout: Layout, want: Want, i: u64, block: &[u8]) -> Difference
     }
 }
 
-fn find_wide(layout: NvmeLayout, want: NvmeWant, i: u64, block: &[u8]) -> Difference
+fn find_wide(layout: NvmeLayout, want: NvmeWant, i: u64, block: &[u8]) -> Judgement
     requires fit { is_fit (Form.Wide layout want) ≡ true }
     requires whole { length block.now ≡ stride_of (Form.Wide layout want) }
     ensures { result ≡ wide_found layout want i block.now }
 {
     let bits = Form::Wide { layout, want }.bits();
     match look_wide(layout, wide_from(want, i), block) {
-        None => Difference::Nothing,
+        None => Judgement::Nothing,
         Some(found) => by_check(found.check, distance(bits, found.expected, found.actual)),
     }
 }
 
 /// What is found of block i of a dump.
-pub fn find(form: Form, i: u64, block: &[u8]) -> Difference
+pub fn find(form: Form, i: u64, block: &[u8]) -> Judgement
     requires fit { is_fit form ≡ true }
     requires whole { length block.now ≡ stride_of form }
     ensures { result ≡ found_of form i block.now }
 {
     if is_escape(form, block) {
-        return Difference::Escape;
+        return Judgement::Escape;
     }
     match form {
         Form::Narrow { layout, want } => find_narrow(layout, want, i, block),

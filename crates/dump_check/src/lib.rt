@@ -9,7 +9,7 @@ mod summing;
 mod tally;
 mod walking;
 
-pub use finding::{Difference, find};
+pub use finding::{Judgement, find};
 pub use form::{Dump, Form};
-pub use tally::Tally;
+pub use tally::DumpTally;
 pub use walking::{CheckFault, Checked, MOST_BLOCKS, check_dump};

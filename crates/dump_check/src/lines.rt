@@ -7,7 +7,7 @@ ghost use Rattle.wide_blocks.specs.Blocks.{ref_of};
 ghost use Rattle.dump_check.specs.Lines.{bad_line, block_text, guard_text, have_text, is_bad, name_of, tag_text};
 ghost use Rattle.report_text.specs.Writing.{Wrote};
 
-use crate::finding::{Difference, find, info_of, kind_of, low, narrow_from, wide_from};
+use crate::finding::{Judgement, find, info_of, kind_of, low, narrow_from, wide_from};
 use crate::form::{Dump, Form};
 use dix_base::{Failed, Sink};
 use report_text::{Line, add, add_hex, add_number, write_all};
@@ -15,25 +15,25 @@ use wide_blocks::{NvmeLayout, NvmeWant};
 use wide_guard::{crc32c, crc64};
 
 /// Whether a block is at fault.
-fn is_bad(found: Difference) -> bool
+fn is_bad(found: Judgement) -> bool
     ensures { result ≡ is_bad found }
 {
     match found {
-        Difference::Nothing | Difference::Escape => false,
-        Difference::Guard | Difference::AppTag | Difference::RefTag { .. } => true,
+        Judgement::Nothing | Judgement::Escape => false,
+        Judgement::Guard | Judgement::AppTag | Judgement::RefTag { .. } => true,
     }
 }
 
-fn name_of(found: Difference) -> &'static [u8]
+fn name_of(found: Judgement) -> &'static [u8]
     ensures name { result.now ≡ name_of found }
     ensures short { length result.now ≤ 6 }
 {
     match found {
-        Difference::Nothing => b"ok",
-        Difference::Escape => b"escape",
-        Difference::Guard => b"guard",
-        Difference::AppTag => b"apptag",
-        Difference::RefTag { .. } => b"ref",
+        Judgement::Nothing => b"ok",
+        Judgement::Escape => b"escape",
+        Judgement::Guard => b"guard",
+        Judgement::AppTag => b"apptag",
+        Judgement::RefTag { .. } => b"ref",
     }
 }
 
@@ -107,7 +107,7 @@ fn add_tag(line: &mut Line, form: Form, i: u64)
 }
 
 /// The line of block i of a dump, of which this is found.
-fn line_of(dump: Dump, i: u64, block: &[u8], found: Difference) -> Line
+fn line_of(dump: Dump, i: u64, block: &[u8], found: Judgement) -> Line
     requires fit { is_fit dump.form ≡ true }
     requires whole { length block.now ≡ stride_of dump.form }
     requires room { dump.first + i < 2 ^ 64 }
@@ -134,7 +134,7 @@ pub(crate) fn write_block<O: Sink>(
     dump: Dump,
     i: u64,
     block: &[u8],
-) -> Result<Difference, Failed>
+) -> Result<Judgement, Failed>
     requires fit { is_fit dump.form ≡ true }
     requires whole { length block.now ≡ stride_of dump.form }
     requires room { dump.first + i < 2 ^ 64 }

@@ -8,11 +8,11 @@ ghost use Rattle.report_text.specs.Writing.{Wrote};
 
 use crate::finding::low;
 use crate::form::Form;
-use crate::tally::Tally;
+use crate::tally::DumpTally;
 use dix_base::{Failed, Sink};
 use report_text::{Line, add, add_number, write_all};
 
-fn count_line(tally: Tally) -> Line
+fn count_line(tally: DumpTally) -> Line
     ensures { result.items ≡ count_line tally }
 {
     let mut line = Line::new();
@@ -44,7 +44,7 @@ fn add_way(line: &mut Line, form: Form, shift: u64)
     }
 }
 
-fn shift_line(form: Form, tally: Tally) -> Line
+fn shift_line(form: Form, tally: DumpTally) -> Line
     requires { is_fit form ≡ true }
     ensures { result.items ≡ shift_line form tally }
 {
@@ -72,7 +72,7 @@ fn cut_line(form: Form, rest: u64) -> Line
 
 /// Whether two of the bad reference tags and more than half differ from the wanted ones by one number, that of the first of
 /// them.
-fn is_shifted(tally: Tally) -> bool
+fn is_shifted(tally: DumpTally) -> bool
     requires { IsTally tally }
     ensures { result ≡ is_shifted tally }
 {
@@ -80,7 +80,7 @@ fn is_shifted(tally: Tally) -> bool
 }
 
 /// Writes by how much most bad reference tags differ, where they do.
-fn write_shift<O: Sink>(out: &mut O, form: Form, tally: Tally) -> Result<(), Failed>
+fn write_shift<O: Sink>(out: &mut O, form: Form, tally: DumpTally) -> Result<(), Failed>
     requires fit { is_fit form ≡ true }
     requires tally { IsTally tally }
     ensures { Wrote O.taken O.faults (line_if (is_shifted tally) (shift_line form tally)) out.old out.new result }
@@ -103,7 +103,7 @@ fn write_cut<O: Sink>(out: &mut O, form: Form, rest: u64) -> Result<(), Failed>
 }
 
 /// Writes by how much most bad reference tags differ, and how many bytes there are of a block that is cut off.
-fn write_more<O: Sink>(out: &mut O, form: Form, tally: Tally, rest: u64) -> Result<(), Failed>
+fn write_more<O: Sink>(out: &mut O, form: Form, tally: DumpTally, rest: u64) -> Result<(), Failed>
     requires fit { is_fit form ≡ true }
     requires tally { IsTally tally }
     ensures { Wrote O.taken O.faults
@@ -118,7 +118,7 @@ fn write_more<O: Sink>(out: &mut O, form: Form, tally: Tally, rest: u64) -> Resu
 pub(crate) fn write_last<O: Sink>(
     out: &mut O,
     form: Form,
-    tally: Tally,
+    tally: DumpTally,
     rest: u64,
 ) -> Result<(), Failed>
     requires fit { is_fit form ≡ true }

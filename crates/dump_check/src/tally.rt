@@ -3,11 +3,11 @@
 ghost use Rattle.std.specs.Prelude.{◌≡◌, ◌+◌, ◌^◌, ◌<◌};
 ghost use Rattle.dump_check.specs.Tallies.{IsTally, counted, one_if};
 
-use crate::finding::Difference;
+use crate::finding::Judgement;
 
 /// What is counted of the blocks of a dump.
 #[derive(Clone, Copy, Debug, PartialEq, Eq)]
-pub struct Tally {
+pub struct DumpTally {
     /// The blocks.
     pub blocks: u64,
     /// Those at fault.
@@ -28,9 +28,9 @@ fn one_if(holds: bool) -> u64
     if holds { 1 } else { 0 }
 }
 
-impl Tally {
+impl DumpTally {
     /// Of no block.
-    pub(crate) const NONE: Tally = Tally {
+    pub(crate) const NONE: DumpTally = DumpTally {
         blocks: 0,
         bad: 0,
         unchecked: 0,
@@ -40,7 +40,7 @@ impl Tally {
     };
 
     /// With one block more, of which this is found.
-    pub(crate) fn counted(self, found: Difference) -> Tally
+    pub(crate) fn counted(self, found: Judgement) -> DumpTally
         requires tally { IsTally self }
         requires room { self.blocks + 1 < 2 ^ 64 }
         ensures value { result ≡ counted self found }
@@ -49,18 +49,18 @@ impl Tally {
     {
         let blocks = self.blocks + 1;
         match found {
-            Difference::Nothing => Tally { blocks, ..self },
-            Difference::Escape => Tally {
+            Judgement::Nothing => DumpTally { blocks, ..self },
+            Judgement::Escape => DumpTally {
                 blocks,
                 unchecked: self.unchecked + 1,
                 ..self
             },
-            Difference::Guard | Difference::AppTag => Tally {
+            Judgement::Guard | Judgement::AppTag => DumpTally {
                 blocks,
                 bad: self.bad + 1,
                 ..self
             },
-            Difference::RefTag { shift } => Tally {
+            Judgement::RefTag { shift } => DumpTally {
                 blocks,
                 bad: self.bad + 1,
                 tags: self.tags + 1,

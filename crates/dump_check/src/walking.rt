@@ -11,7 +11,7 @@ ghost use Rattle.dump_check.specs.Walks.{CheckEnds, WalkEnds};
 use crate::form::Dump;
 use crate::lines::write_block;
 use crate::summing::write_last;
-use crate::tally::Tally;
+use crate::tally::DumpTally;
 use dix_base::{Failed, Sink, Source};
 use image_text::fill;
 
@@ -33,7 +33,7 @@ pub enum CheckFault {
 #[derive(Clone, Copy, Debug, PartialEq, Eq)]
 pub struct Checked {
     /// What was counted of its blocks.
-    pub tally: Tally,
+    pub tally: DumpTally,
     /// The bytes behind its last whole block.
     pub rest: u64,
 }
@@ -42,10 +42,10 @@ pub struct Checked {
 fn check_blocks<O: Sink>(
     out: &mut O,
     dump: Dump,
-    before: Tally,
+    before: DumpTally,
     count: usize,
     blocks: &[u8],
-) -> Result<Tally, Failed>
+) -> Result<DumpTally, Failed>
     requires fit { is_fit dump.form ≡ true }
     requires long { length blocks.now ≡ count * stride_of dump.form }
     requires end { dump.first + (before.blocks + count) < 2 ^ 64 }
@@ -90,7 +90,7 @@ fn check_pieces<S: Source, O: Sink>(
     ensures sinks { O.faults out.old ≤ O.faults out.new }
 {
     let each = dump.form.stride();
-    let mut tally = Tally::NONE;
+    let mut tally = DumpTally::NONE;
     while tally.blocks < MOST_BLOCKS {
         let got = match fill(source, room) {
             Ok(got) => got,

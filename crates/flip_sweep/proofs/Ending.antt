@@ -5,7 +5,7 @@ use Rattle.std.proofs.lemmas.Result.{err_from_is_err_and}
 use Rattle.dix_base.specs.Told.{Appended, AppendedSome, Rose}
 use Rattle.dix_base.proofs.Appending.{appended_both}
 use Rattle.report_text.proofs.Flow.{part_first, part_second, whole_is_part}
-use Rattle.target_model.proofs.Bytes.{rise}
+use Rattle.dix_base.proofs.Counts.{rose_later}
 use Rattle.flip_sweep.specs.Flips.{sites_of}
 use Rattle.flip_sweep.specs.Rows.{first_line, last_line, none_yet}
 use Rattle.flip_sweep.specs.Swept.{IsFree, Sweep, SweepEnds, all_rows, counts_of, counts_with, sweep_text, unseen_in}
@@ -95,4 +95,4 @@ part_of (Err x) w o p a b c h e = subst (λ t. AppendedSome (sweep_text w) a t) 
 
 -- it didn't
 pub fails : (r : Result Counts Halt) (w : Sweep) (o p q : ℕ) (a b c : Option (List ℕ)) → IsWritten r w o p a b → Rose p q → c ≡ b → SweepEnds (Err (unswept.Halted halt.Sink)) w o q a c
-fails r w o p q a b c h k e = (h.free, rise o p q h.count k, part_of r w o p a b c h e)
+fails r w o p q a b c h k e = (h.free, rose_later o p q h.count k, part_of r w o p a b c h e)

@@ -17,7 +17,7 @@ use Rattle.image_blocks.specs.Blocks.{HasStretch}
 use Rattle.image_blocks.specs.Places.{IsStretch, behind_in, front_in}
 use Rattle.image_blocks.proofs.Stretches.{has_both, has_none, has_some}
 use Rattle.image_blocks.proofs.Walks.{behind_is, front_is}
-use Rattle.target_model.proofs.Bytes.{rise}
+use Rattle.dix_base.proofs.Counts.{rose_later}
 use Rattle.image_text.specs.declared.fault.DiffFault.{DiffFault}
 use Rattle.image_text.specs.declared.fault.DiffFault.TheVariants.{First, Second, Sink}
 use Rattle.image_text.specs.Compared.{CanCompare, Counts, DiffEnds, HasCompared, HasComparedSome, HaveBlocks, Places, counts, differ_of, lines_of, pair_of, places, diff_of}
@@ -279,9 +279,9 @@ none_compared text p len other_len first second x y h k z e =
 pub passed_on : (e : DiffFault) (t u : (ones twos : List (List ℕ)) → List ℕ) (p q : Places) (first second was were : Option (List ℕ)) (n o : Counts) (mid old new : Option (List ℕ)) → first ≡ was → second ≡ were →
     o.first ≤ n.first → o.second ≤ n.second → o.sink ≤ n.sink → n.first_after ≡ o.first_after → n.second_after ≡ o.second_after → n.sink_after ≡ o.sink_after →
     (HasComparedSome t p was were mid new → HasComparedSome u q was were old new) → DiffEnds (Err e) t p first second n mid new → DiffEnds (Err e) u q was were o old new
-passed_on First t u p q first second was were n o mid old new i j a b c d e f g r = (rise o.first n.first o.first_after a (subst (λ v. Rose n.first v) d r.0), g (subst (λ v. HasComparedSome t p was v mid new) j (subst (λ v. HasComparedSome t p v second mid new) i r.1)))
-passed_on Second t u p q first second was were n o mid old new i j a b c d e f g r = (rise o.second n.second o.second_after b (subst (λ v. Rose n.second v) e r.0), g (subst (λ v. HasComparedSome t p was v mid new) j (subst (λ v. HasComparedSome t p v second mid new) i r.1)))
-passed_on Sink t u p q first second was were n o mid old new i j a b c d e f g r = (rise o.sink n.sink o.sink_after c (subst (λ v. Rose n.sink v) f r.0), g (subst (λ v. HasComparedSome t p was v mid new) j (subst (λ v. HasComparedSome t p v second mid new) i r.1)))
+passed_on First t u p q first second was were n o mid old new i j a b c d e f g r = (rose_later o.first n.first o.first_after a (subst (λ v. Rose n.first v) d r.0), g (subst (λ v. HasComparedSome t p was v mid new) j (subst (λ v. HasComparedSome t p v second mid new) i r.1)))
+passed_on Second t u p q first second was were n o mid old new i j a b c d e f g r = (rose_later o.second n.second o.second_after b (subst (λ v. Rose n.second v) e r.0), g (subst (λ v. HasComparedSome t p was v mid new) j (subst (λ v. HasComparedSome t p v second mid new) i r.1)))
+passed_on Sink t u p q first second was were n o mid old new i j a b c d e f g r = (rose_later o.sink n.sink o.sink_after c (subst (λ v. Rose n.sink v) f r.0), g (subst (λ v. HasComparedSome t p was v mid new) j (subst (λ v. HasComparedSome t p v second mid new) i r.1)))
 
 -- ---- the whole text
 

@@ -8,7 +8,7 @@ use Rattle.report_text.proofs.Flow.{part_first, part_second, whole_is_part}
 use Rattle.rig_api.specs.Frames.{frames_of}
 use Rattle.rig_api.specs.Headers.{image_size}
 use Rattle.rig_api.specs.declared.units.UnitSpec.{UnitSpec}
-use Rattle.target_model.proofs.Bytes.{rise}
+use Rattle.dix_base.proofs.Counts.{rose_later}
 use Rattle.image_text.proofs.Frames.{next_frame, shorter}
 use Rattle.image_blocks.specs.declared.stretch.Stretch.{Stretch}
 use Rattle.image_blocks.specs.Blocks.{HasStretch, blocks_of}
@@ -119,8 +119,8 @@ none_dumped layout us s len image x y h z t e =
 -- What ended the dump of a part ends that of the whole.
 pub passed_on : (X Y : Type 0) (e : WalkFault) (layout : Layout) (us : List UnitSpec) (a b : Stretch) (image was : Option (List ℕ)) (o o' n p p' q : ℕ) (mid old new : Option (List ℕ)) → image ≡ was → o ≤ o' → p ≤ p' →
     (HasDumpedSome layout us a was mid new → HasDumpedSome layout us b was old new) → DumpEnds {X = X} (Err e) layout us a image o' n p' q mid new → DumpEnds {X = Y} (Err e) layout us b was o n p q old new
-passed_on X Y Store layout us a b image was o o' n p p' q mid old new i h k f r = (rise o o' n h r.0, f (subst (λ v. HasDumpedSome layout us a v mid new) i r.1))
-passed_on X Y Sink layout us a b image was o o' n p p' q mid old new i h k f r = (rise p p' q k r.0, f (subst (λ v. HasDumpedSome layout us a v mid new) i r.1))
+passed_on X Y Store layout us a b image was o o' n p p' q mid old new i h k f r = (rose_later o o' n h r.0, f (subst (λ v. HasDumpedSome layout us a v mid new) i r.1))
+passed_on X Y Sink layout us a b image was o o' n p p' q mid old new i h k f r = (rose_later p p' q k r.0, f (subst (λ v. HasDumpedSome layout us a v mid new) i r.1))
 
 -- however it ended, the beginning was written
 pub some_ended : {X : Type 0} (r : Result X WalkFault) (layout : Layout) (us : List UnitSpec) (s : Stretch) (image : Option (List ℕ)) (o n p q : ℕ) (x y z : Option (List ℕ)) → z ≡ y → DumpEnds r layout us s image o n p q x y → HasDumpedSome layout us s image x z

@@ -10,7 +10,8 @@ use Rattle.rig_api.specs.Target.{Stored}
 use Rattle.rig_api.specs.declared.units.UnitSpec.{UnitSpec}
 use Rattle.rig_api.proofs.FrameLaws.{joined_append, frames_length}
 use Rattle.target_model.specs.Served.{AllLong}
-use Rattle.target_model.proofs.Bytes.{long_both, rise}
+use Rattle.dix_base.proofs.Counts.{rose_later}
+use Rattle.target_model.proofs.Bytes.{long_both}
 use Rattle.image_rig.specs.LayoutPlaces.{block_len}
 use Rattle.image_rig.proofs.Units.{unit_found}
 use Rattle.image_blocks.specs.declared.stretch.Stretch.{Stretch}
@@ -177,8 +178,8 @@ pub breaks_off : (fault : ImportFault) (layout : Layout) (us : List UnitSpec) (s
     SoFar layout us s left n a b l m → TakingEnds (Err fault) layout us piece room o' x p' y b c m r → TakingEnds (Err (behind_pieces n fault)) layout us s all o x p y a c l r
 breaks_off (Short k) layout us s left piece most n room all o o' x p p' y a b c l m r h e f i j t q = short_on layout us s left piece most n k a b c l m r h e t q
 breaks_off Long layout us s left piece most n room all o o' x p p' y a b c l m r h e f i j t q = q
-breaks_off Store layout us s left piece most n room all o o' x p p' y a b c l m r h e f i j t q = (rise o o' x i q.0, unstored_on layout us s left piece most n room all a b c l m r h e f t q.1)
-breaks_off Source layout us s left piece most n room all o o' x p p' y a b c l m r h e f i j t q = (rise p p' y j q.0, unread_on layout us s left piece most n a b c l m r h e t q.1)
+breaks_off Store layout us s left piece most n room all o o' x p p' y a b c l m r h e f i j t q = (rose_later o o' x i q.0, unstored_on layout us s left piece most n room all a b c l m r h e f t q.1)
+breaks_off Source layout us s left piece most n room all o o' x p p' y a b c l m r h e f i j t q = (rose_later p p' y j q.0, unread_on layout us s left piece most n a b c l m r h e t q.1)
 
 -- ---- the end of the dump
 

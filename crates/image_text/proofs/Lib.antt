@@ -1,7 +1,7 @@
 mod Differing
 mod Listing
 mod Showing
-mod Sights
+pub mod Sights
 pub mod Frames
 pub mod ShowShowing
 pub mod Comparing

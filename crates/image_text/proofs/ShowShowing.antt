@@ -17,7 +17,7 @@ use Rattle.image_blocks.specs.Blocks.{HasStretch}
 use Rattle.image_blocks.specs.Places.{IsStretch, behind_in, front_in, spec_of}
 use Rattle.image_blocks.proofs.Stretches.{has_both, has_none, has_some}
 use Rattle.image_blocks.proofs.Walks.{behind_is}
-use Rattle.target_model.proofs.Bytes.{rise}
+use Rattle.dix_base.proofs.Counts.{rose_later}
 use Rattle.image_blocks.specs.declared.fault.WalkFault.{WalkFault}
 use Rattle.image_blocks.specs.declared.fault.WalkFault.TheVariants.{Store, Sink}
 use Rattle.image_text.specs.Shown.{HasShown, HasShownSome, ShowEnds, bad_of, both, lines_of, text_of, unchecked_of}
@@ -198,8 +198,8 @@ none_shown text us s len image x y h z t e =
 -- What ended the showing of a part ends that of the whole.
 pub passed_on : (e : WalkFault) (t u : List (List ℕ) → List ℕ) (us : List UnitSpec) (a b : Stretch) (image was : Option (List ℕ)) (o o' n p p' q : ℕ) (mid old new : Option (List ℕ)) → image ≡ was → o ≤ o' → p ≤ p' →
     (HasShownSome t us a was mid new → HasShownSome u us b was old new) → ShowEnds (Err e) t us a image o' n p' q mid new → ShowEnds (Err e) u us b was o n p q old new
-passed_on Store t u us a b image was o o' n p p' q mid old new i h k f r = (rise o o' n h r.0, f (subst (λ v. HasShownSome t us a v mid new) i r.1))
-passed_on Sink t u us a b image was o o' n p p' q mid old new i h k f r = (rise p p' q k r.0, f (subst (λ v. HasShownSome t us a v mid new) i r.1))
+passed_on Store t u us a b image was o o' n p p' q mid old new i h k f r = (rose_later o o' n h r.0, f (subst (λ v. HasShownSome t us a v mid new) i r.1))
+passed_on Sink t u us a b image was o o' n p p' q mid old new i h k f r = (rose_later p p' q k r.0, f (subst (λ v. HasShownSome t us a v mid new) i r.1))
 
 -- ---- the whole text
 

@@ -2,7 +2,7 @@
 use Rattle.std.proofs.Common.{ℕ, ◌≡◌, List, ◌++◌, ap, ◌∙◌, append_assoc}
 use Rattle.std.specs.Prelude.{decimal}
 
-behind : (l m n a b : List ℕ) → m ≡ l ++ a → n ≡ m ++ b → n ≡ l ++ (a ++ b)
+pub behind : (l m n a b : List ℕ) → m ≡ l ++ a → n ≡ m ++ b → n ≡ l ++ (a ++ b)
 behind l m n a b p q = q ∙ ap (λ (x : List ℕ). x ++ b) p ∙ append_assoc l a b
 
 -- five pieces, one behind another

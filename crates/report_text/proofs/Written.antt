@@ -3,11 +3,8 @@ use Rattle.std.proofs.Common.{ℕ, ◌≡◌, ◌∙◌, ◌≤◌, ◌++◌, Li
 use Rattle.dix_base.specs.Told.{Appended, Rose}
 use Rattle.report_text.specs.Writing.{Wrote}
 use Rattle.dix_base.proofs.Appending.{appended_none, appended_both}
+use Rattle.dix_base.proofs.Counts.{rose_later}
 use Rattle.report_text.proofs.Flow.{Left, at_start, goes_on, at_end, breaks_off, part_first, part_second, whole_is_part}
-
-rose_later : (a b c : ℕ) → a ≤ b → Rose b c → Rose a c
-rose_later a b c h (inl r) = inl (omega (arith, h, r))
-rose_later a b c h (inr r) = inr r
 
 module _ {S : Type 0} {taken : S → Option (List ℕ)} {faults : S → ℕ} where
   -- the same text

@@ -134,9 +134,6 @@ unit_same at len m bytes h =
     let same : placed 0 [] (frames_of len m (drop at bytes)) ≡ frames_of len m (drop at bytes) = refl in
     ap (λ v. over at (joined v) bytes) (sym same) ∙ unit_over at len 0 m [] bytes (omega arith) (sym z) h ∙ ap (λ k. over k [] bytes) e ∙ over_none at bytes (omega arith)
 
-pub rise : (o o' n : ℕ) → o ≤ o' → Rose o' n → Rose o n
-rise o o' n h r = grind arith
-
 pub front_is : (n : ℕ) (a b xs : List ℕ) → a ≡ xs → length xs ≡ n → take n (a ++ b) ≡ xs
 front_is n a b xs e h = ap (λ v. take n (v ++ b)) e ∙ take_at xs b n h
 

@@ -9,7 +9,8 @@ use Rattle.rig_api.specs.Target.{Stop, Ended, Flaw, each, flaw_sense, read_end, 
 use Rattle.rig_api.proofs.FrameLaws.{joined_append, frames_length}
 use Rattle.rig_api.specs.Telling.{HasCause, at_front}
 use Rattle.target_model.specs.Served.{AllRead, BlockRead}
-use Rattle.target_model.proofs.Bytes.{front_next, rise}
+use Rattle.target_model.proofs.Bytes.{front_next}
+use Rattle.dix_base.proofs.Counts.{rose_later}
 use Rattle.target_model.proofs.Ends.{Judge, Along, begins, goes_on, ends_found, ends_all, ends_unread}
 use Rattle.target_model.proofs.Writing.{done_of, frames_are}
 
@@ -55,7 +56,7 @@ ends_by : (judge : Judge) (lba len n size k o o' f : ℕ) (rest all before into 
     AllRead (read_end lba (each judge 0 (frames_of len n all))) len o f (record { done = k; sense = Some sense }) before into
 ends_by judge lba len n size k o o' f rest all before into kept sense h c a i (inl b) =
     let left : List ℕ = replicate len 0 in
-    all_read _ len k o f before into (Some sense) kept (Some (record { at = k; left = left })) (rise o o' f c b.0, length-replicate len 0)
+    all_read _ len k o f before into (Some sense) kept (Some (record { at = k; left = left })) (rose_later o o' f c b.0, length-replicate len 0)
     (ends_unread judge lba len n size k rest all left kept h (frames_length len n all) a ∙ ap (λ v. record { done = k; sense = Some v; frames = kept }) (sym b.1)) i
 ends_by judge lba len n size k o o' f rest all before into kept sense h c a i (inr b) =
     all_read _ len k o f before into (Some sense) kept None tt (ends_found judge lba len n size k rest all kept b.0 h a b.1 ∙ ap (λ v. record { done = k; sense = Some v; frames = kept }) (sym b.2)) i

@@ -11,7 +11,8 @@ use Rattle.rig_api.proofs.FrameLaws.{joined_append}
 use Rattle.rig_api.specs.Telling.{HasCause}
 use Rattle.rig_api.specs.declared.rig.Outcome.{Outcome}
 use Rattle.target_model.specs.Served.{AllLong, AllWritten, BlockWritten}
-use Rattle.target_model.proofs.Bytes.{behind_put, long_one, over_next, over_none, rise}
+use Rattle.target_model.proofs.Bytes.{behind_put, long_one, over_next, over_none}
+use Rattle.dix_base.proofs.Counts.{rose_later}
 use Rattle.target_model.proofs.Keeping.{kept_each, keeps}
 use Rattle.target_model.proofs.Ends.{Judge, Along, begins, goes_on, ends_found, ends_all, ends_unstored}
 
@@ -76,7 +77,7 @@ ends_by judge lba len n size k place at o o' f rest all was now kept sense (Err 
 ends_by judge lba len n size k place at o o' f rest all was now kept sense (Ok frame) h l e c a j b =
     let left : List ℕ = b.1.2.0 in
     let short : length left ≡ size = b.1.2.1 ∙ b.0 in
-    all_written _ size place k o f was now (Some sense) (kept ++ (left ∷ [])) (Some (record { at = k; left = left })) (rise o o' f c b.1.0, short)
+    all_written _ size place k o f was now (Some sense) (kept ++ (left ∷ [])) (Some (record { at = k; left = left })) (rose_later o o' f c b.1.0, short)
     (ends_unstored judge lba len n size k rest all frame left kept l a j ∙ ap (λ v. record { done = k; sense = Some v; frames = kept ++ (left ∷ []) }) (sym b.1.1))
     (longer size k kept left a.many a.bytes short)
     (long_one size kept left a.long short)

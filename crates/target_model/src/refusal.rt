@@ -118,8 +118,10 @@ pub(crate) fn taken(
 ) -> Result<(u64, u64), u8>
     requires size { unit.size ≤ LARGEST_BLOCK }
     requires fits { unit.first + unit.blocks < 2 ^ 64 }
-    ensures refused { IfErr result (λ asc. first_of (move_refusals unit cdb c (wire_address tamper.now labels.now c) (wire_address tamper.now labels.now c +ℤ shift_by_first tamper.now at labels.now) bytes) ≡ Some (illegal asc)) }
-    ensures taken { OnOk result (first_of (move_refusals unit cdb c (wire_address tamper.now labels.now c) (wire_address tamper.now labels.now c +ℤ shift_by_first tamper.now at labels.now) bytes) ≡ None) }
+    ensures refused { IfErr result (λ asc. first_of
+        (move_refusals unit cdb c (wire_address tamper.now labels.now c) (wire_address tamper.now labels.now c +ℤ shift_by_first tamper.now at labels.now) bytes) ≡ Some (illegal asc)) }
+    ensures taken { OnOk result (first_of
+        (move_refusals unit cdb c (wire_address tamper.now labels.now c) (wire_address tamper.now labels.now c +ℤ shift_by_first tamper.now at labels.now) bytes) ≡ None) }
     ensures address { IfOk result (λ a. wire_address tamper.now labels.now c ≡ pos a.0) }
     ensures moved { IfOk result (λ a. 0 < c.n → wire_address tamper.now labels.now c +ℤ shift_by_first tamper.now at labels.now ≡ pos a.1) }
     ensures inside { IfOk result (λ a. HasBlocks unit a.0 c.n) }

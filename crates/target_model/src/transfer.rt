@@ -66,7 +66,8 @@ pub(crate) fn write_blocks<S: Store>(
 ) -> Outcome
     requires can { CanMove blocks.unit blocks.fields blocks.lba place (S.state store.old).length }
     requires out { length out.now ≡ blocks.fields.n * sent_size blocks.fields.protect blocks.unit.size }
-    ensures told { AllWrittenOn (λ held. write_end blocks.lba (kept_over tamper.now labels.now 0 (frames_of (block_bytes blocks.unit) blocks.fields.n (drop place held)) (written_by blocks.unit blocks.fields blocks.lba tamper.now labels.now out.now)))
+    ensures told { AllWrittenOn (λ held. write_end blocks.lba
+        (kept_over tamper.now labels.now 0 (frames_of (block_bytes blocks.unit) blocks.fields.n (drop place held)) (written_by blocks.unit blocks.fields blocks.lba tamper.now labels.now out.now)))
         (block_bytes blocks.unit) place (S.state store.old) (S.state store.new) result }
     ensures medium { IsMedium result → Rose (S.state store.old).faults (S.state store.new).faults ⊎ (fails_at tamper.now labels.now result.done ≡ true) }
     ensures key { has_key result.sense ≡ true }

@@ -1,4 +1,4 @@
-mod Bits
+pub mod Bits
 mod Checks
 mod Makes
 mod Moves

@@ -1,4 +1,4 @@
-use Rattle.dump_check.proofs.Numbers.{masked}
+use Rattle.wide_blocks.proofs.Bits.{masked}
 use Rattle.dump_check.proofs.finding.low.Goals as goal
 
 pub returns : goal.returns

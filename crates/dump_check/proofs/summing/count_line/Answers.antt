@@ -1,7 +1,7 @@
 use Rattle.std.proofs.Common.{ℕ, ◌++◌, List, codes, ap, ◌∙◌}
 use Rattle.std.specs.Prelude.{decimal}
 use Rattle.dump_check.specs.Lines.{count_line}
-use Rattle.dump_check.proofs.Pieces.{seven}
+use Rattle.image_text.proofs.Sights.{seven}
 use Rattle.dump_check.proofs.summing.count_line.Goals as goal
 
 pub returns : goal.returns

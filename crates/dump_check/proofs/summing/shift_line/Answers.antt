@@ -2,7 +2,7 @@ use Rattle.std.proofs.Common.{ℕ, ◌++◌, ◌+◌, ◌^◌, ◌%◌, List, co
 use Rattle.std.specs.Prelude.{decimal}
 use Rattle.dump_check.specs.Forms.{bits_of, first_tag}
 use Rattle.dump_check.specs.Lines.{shift_line, way_text}
-use Rattle.dump_check.proofs.Pieces.{by_number, five}
+use Rattle.image_text.proofs.Sights.{by_number, five}
 use Rattle.dump_check.proofs.summing.shift_line.Goals as goal
 
 pub returns : goal.returns

@@ -1,5 +1,6 @@
 use Rattle.std.proofs.Common.{◌∙◌}
-use Rattle.dump_check.proofs.Endings.{finished, rose_later, some_block, stopped, unfinished}
+use Rattle.dix_base.proofs.Counts.{rose_later}
+use Rattle.dump_check.proofs.Endings.{finished, some_block, stopped, unfinished}
 use Rattle.dump_check.proofs.walking.check_all.Goals as goal
 
 pub check_pieces-requires-clause-some : goal.check_pieces-requires-clause-some

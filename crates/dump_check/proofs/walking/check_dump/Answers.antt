@@ -1,4 +1,5 @@
-use Rattle.dump_check.proofs.Endings.{rose_later, some_bytes, unflushed}
+use Rattle.dix_base.proofs.Counts.{rose_later}
+use Rattle.dump_check.proofs.Endings.{some_bytes, unflushed}
 use Rattle.dump_check.proofs.walking.check_dump.Goals as goal
 
 pub returns-in-Err-clause-checked : goal.returns-in-Err-clause-checked

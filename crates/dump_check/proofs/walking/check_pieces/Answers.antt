@@ -2,10 +2,11 @@ use Rattle.std.proofs.Common.{ℕ, ◌≡◌, ◌*◌, ◌/◌, ◌++◌, ◌≤
 use Rattle.dix_base.specs.Told.{Took}
 use Rattle.dix_base.proofs.Taking.{took_more}
 use Rattle.dump_check.specs.declared.walking.TheConstants.{MOST_BLOCKS}
-use Rattle.dump_check.specs.declared.tally.Tally.{Tally}
+use Rattle.dump_check.specs.declared.tally.DumpTally.{DumpTally}
 use Rattle.dump_check.specs.Forms.{stride_of}
 use Rattle.dump_check.specs.Lines.{tally_of}
-use Rattle.dump_check.proofs.Endings.{begun_all, rose_later, some_bytes}
+use Rattle.dix_base.proofs.Counts.{rose_later}
+use Rattle.dump_check.proofs.Endings.{begun_all, some_bytes}
 use Rattle.dump_check.proofs.Passes.{bad_whole, broken_off, is_full, not_full, parts_of, tally_whole, took_parts, walked_on, walked_out}
 use Rattle.dump_check.proofs.walking.check_pieces.Goals as goal
 
@@ -90,5 +91,5 @@ returns-clause-ends g c =
     let w = inv.walked in
     let some = some_bytes d.form c.requires.fit in
     let t = tally_whole d c.loop-tally.tally w.0 _ _ some w.2 in
-    let many : MOST_BLOCKS ≤ (tally_of d.form w.0).blocks = subst (λ (y : Tally). MOST_BLOCKS ≤ y.blocks) t (omega (arith, c.loop-tally-test.false)) in
+    let many : MOST_BLOCKS ≤ (tally_of d.form w.0).blocks = subst (λ (y : DumpTally). MOST_BLOCKS ≤ y.blocks) t (omega (arith, c.loop-tally-test.false)) in
     (w.0, w.1, many, bad_whole d c.loop-tally.tally w.0 _ _ some w.2, inv.calm, inv.sinks)

@@ -2,7 +2,7 @@ use Rattle.std.proofs.Common.{◌∙◌, refl, arith}
 use Rattle.image_blocks.specs.Images.{units_open}
 use Rattle.image_text.specs.Shown.{lines_of, text_of}
 use Rattle.image_text.proofs.ShowShowing.{first_some, last_some, last_whole, lines_some, passed_on}
-use Rattle.target_model.proofs.Bytes.{rise}
+use Rattle.dix_base.proofs.Counts.{rose_later}
 use Rattle.image_text.proofs.blocks.show_all.Goals as goal
 
 pub returns-in-Err-clause-shown : goal.returns-in-Err-clause-shown
@@ -22,7 +22,7 @@ returns-in-Err-show_lines-clause-shown g c =
 pub returns-in-Err-write_last-clause-shown : goal.returns-in-Err-write_last-clause-shown
 returns-in-Err-write_last-clause-shown g c =
     let us = units_open c.args.image.now in (
-      rise _ _ _ (omega (arith, c.write_first.ensures.count, c.show_lines.ensures.sinks)) c.in-Err-write_last.ensures.cause,
+      rose_later _ _ _ (omega (arith, c.write_first.ensures.count, c.show_lines.ensures.sinks)) c.in-Err-write_last.ensures.cause,
       last_some c.args.only_bad us c.args.place c.in-Ok-show_lines.tally (g.S.Store.state c.args.store.now).bytes (g.O.Sink.taken c.args.out.now) (g.O.Sink.taken c.write_first.new.out) (g.O.Sink.taken c.show_lines.new.out) (g.O.Sink.taken c.write_last.new.out)
           c.in-Ok.ensures.whole c.in-Ok-show_lines.ensures.shown c.in-Err-write_last.ensures.part,
     )

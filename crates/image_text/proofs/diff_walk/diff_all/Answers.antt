@@ -2,7 +2,7 @@ use Rattle.std.proofs.Common.{◌∙◌, refl, arith}
 use Rattle.image_blocks.specs.Images.{units_open}
 use Rattle.image_text.specs.Compared.{counts, lines_of, places, diff_of}
 use Rattle.image_text.proofs.Comparing.{first_some, last_some, last_whole, lines_some, passed_on}
-use Rattle.target_model.proofs.Bytes.{rise}
+use Rattle.dix_base.proofs.Counts.{rose_later}
 use Rattle.image_text.proofs.diff_walk.diff_all.Goals as goal
 
 pub returns-in-Err-clause-compared : goal.returns-in-Err-clause-compared
@@ -26,7 +26,7 @@ returns-in-Err-diff_lines-clause-compared g c =
 pub returns-in-Err-write_compared-clause-compared : goal.returns-in-Err-write_compared-clause-compared
 returns-in-Err-write_compared-clause-compared g c =
     let p = places (units_open c.args.sides.image.now) c.args.sides.place (units_open c.args.sides.other_image.now) c.args.sides.to in (
-      rise _ _ _ (omega (arith, c.write_diff_first.ensures.count, c.diff_lines.ensures.sinks)) c.in-Err-write_compared.ensures.cause,
+      rose_later _ _ _ (omega (arith, c.write_diff_first.ensures.count, c.diff_lines.ensures.sinks)) c.in-Err-write_compared.ensures.cause,
       last_some p c.in-Ok-diff_lines.differ (g.S.Store.state c.args.store.now).bytes (g.T.Store.state c.args.other.now).bytes (g.O.Sink.taken c.args.out.now) (g.O.Sink.taken c.write_diff_first.new.out) (g.O.Sink.taken c.diff_lines.new.out) (g.O.Sink.taken c.write_compared.new.out)
           c.in-Ok.ensures.whole c.in-Ok-diff_lines.ensures.compared c.in-Err-write_compared.ensures.part,
     )
