@@ -10,8 +10,8 @@ use Rattle.rig_discovery.specs.Discovery.{LookAnswer, looks}
 use Rattle.stack_ops.specs.declared.reply.Reply.{Reply}
 use Rattle.stack_ops.specs.declared.reply.Reply.TheVariants.{Silent, Whole, Bad, Shown, Medium}
 use Rattle.stack_laws.specs.Runs.{sends_of}
-use Rattle.run_command.specs.Passed.{IsPlanFor, entries_of, medium_lines, ListsNone, bad_blocks}
-use Rattle.run_command.proofs.Passed.{known_from, recorded_long, none_named, none_unscheduled}
+use Rattle.run_command.specs.Passed.{IsPlanFor, entries_of, unscheduled_mediums, ListsNone, bad_blocks}
+use Rattle.run_command.proofs.Passed.{known_from, recorded_long, none_named}
 use Rattle.script_text.specs.Generator.{big}
 use Rattle.script_text.specs.declared.script.Script.{Script}
 use Rattle.run_command.specs.Texts.{has_bad}
@@ -113,7 +113,7 @@ replies_big n seed run old new image calm r =
     subst (λ t. Followed (big n seed) t r.devices r.told new run.stack.pool run.stack.replies.items) (table_is n seed run old new image r) r.followed in
     let units = told_two (codes "big") r.devices old r.told image r.asked in
     let plain = plain_two n seed (codes "big") r.devices r.table old r.told image r.asked r.made in
-    let none = none_unscheduled (big n seed).faults run.stack.replies.items (none_named (medium_lines run.stack.replies.items) r.told.faults new.faults (followed.any_rig.medium refl) (since_told run (big n seed) (codes "big") old new r calm)) in
+    let none = none_named (unscheduled_mediums (big n seed).faults run.stack.replies.items) r.told.faults new.faults followed.any_rig.medium (since_told run (big n seed) (codes "big") old new r calm) in
     ((followed.intact (known_from r.told new followed.any_rig.tells_blocks big_units units) none).plain plain).replies_are
 
 pub ran_big : (n seed : ℕ) (b : BigRun) (old new : RigState) (run : Finished) (script : Script) → script ≡ big n seed → old.image ≡ Some (formatted two) → old.log ≡ [] → Calm old.faults new.faults →

@@ -8,7 +8,6 @@ use Rattle.dix_base.specs.Told.{Calm}
 use Rattle.cdb_codec.specs.Decoded.{decoded}
 use Rattle.cdb_codec.specs.declared.command.Cdb.{Cdb}
 use Rattle.cdb_codec.specs.declared.command.CdbFault.{CdbFault}
-use Rattle.fault_schedule.specs.Altered.{has_fail}
 use Rattle.rig_api.specs.Frames.{joined, sent_size}
 use Rattle.rig_api.specs.Image.{units_in}
 use Rattle.rig_api.specs.Requests.{request_of}
@@ -24,8 +23,8 @@ use Rattle.record_laws.specs.Answered.{Answers, AreAnswersTo, FramesBy, FramesUn
 use Rattle.record_laws.proofs.Going.{answers_join}
 use Rattle.script_laws.proofs.Keeping.{read_keeps}
 use Rattle.image_laws.proofs.Passed.{known_from}
-use Rattle.stack_core.specs.Mediums.{medium_lines}
-use Rattle.stack_core.proofs.NoMedium.{none_named, none_unscheduled}
+use Rattle.stack_core.specs.Mediums.{unscheduled_mediums}
+use Rattle.stack_core.proofs.NoMedium.{none_named}
 use Rattle.script_text.specs.declared.script.Script.{Script}
 use Rattle.dix_base.specs.Reading.{most_bytes}
 use Rattle.image_laws.specs.Passed.{Facts, HasRun, Finished}
@@ -138,7 +137,7 @@ module _ (run : Finished) (f : Facts) (image : List ℕ) (told_is : f.rig.image 
   steps_answer : (left : List Stored) × (f.rig_after.units ≡ Some left) × AreAnswersTo h.told.standing looks_answer.left h.followed.any_rig.goes.more left
   steps_answer =
       let known = known_from h.told f.rig_after h.followed.any_rig.tells_blocks looks_answer.left looks_answer.units in
-      let none = none_unscheduled script.faults run.stack.replies.items (none_named (medium_lines run.stack.replies.items) h.told.faults f.rig_after.faults (h.followed.any_rig.medium (ap has_fail no_lines)) calm_told) in
+      let none = none_named (unscheduled_mediums script.faults run.stack.replies.items) h.told.faults f.rig_after.faults h.followed.any_rig.medium calm_told in
       (known.after, known.ended, (h.followed.intact known none).answered no_lines (played_whole script.lines script.faults script.ops no_lines (read_keeps held.text script held.reads).lined held.plays) calm_told)
 
   abbrev left : List Stored

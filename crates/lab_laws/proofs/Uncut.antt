@@ -1,5 +1,5 @@
 -- In a run of a script without faults no write ends early.
-use Rattle.std.proofs.Common.{◌≡◌, inr, ⊎_elim, ℕ, suc, ◌^◌, ◌+◌, ◌*◌, ◌<◌, ◌≤◌, Bool, true, false, not, ◌&&◌, eqb, if◌then◌else◌, List, [], ◌∷◌, ◌++◌, length, map, drop, Option, Some, None, refl, sym, ap, subst, ◌∙◌, append_assoc, arith}
+use Rattle.std.proofs.Common.{◌≡◌, inr, ℕ, suc, ◌+◌, ◌*◌, ◌<◌, Bool, true, false, not, ◌&&◌, eqb, if◌then◌else◌, List, [], ◌∷◌, ◌++◌, length, map, drop, Option, Some, None, refl, sym, ap, subst, ◌∙◌, append_assoc, arith}
 use Rattle.std.specs.Prelude.{IfOk, Result, Ok}
 use Rattle.std.specs.List.{AllByRecursion as Each, list_any}
 use Rattle.std.proofs.lemmas.Bool.{ne_eqb}
@@ -39,7 +39,8 @@ use Rattle.run_laws.specs.BackedRun.{IsBacked}
 use Rattle.run_laws.specs.Records.{recorded}
 use Rattle.stack_walk_laws.specs.Falls.{Falls, falling, over_falls, stores_or}
 use Rattle.stack_walk_laws.specs.Flips.{Flips, flip_op, with_flips}
-use Rattle.stack_core.specs.Mediums.{medium_lines}
+use Rattle.stack_core.specs.Mediums.{medium_lines, unscheduled_mediums}
+use Rattle.stack_core.proofs.NoMedium.{unfailing_lines, none_named}
 use Rattle.stack_core.specs.OnRecord.{IsFormed, command_by}
 use Rattle.stack_ops.specs.Ops.{is_overwrite}
 use Rattle.script_text.specs.Bindings.{binding_fault}
@@ -226,7 +227,7 @@ module _ (run : Finished) (script : Script) (name text image : List ℕ) (old ne
   none_listed none c =
       let a = h.asked.told.since.kept.count in
       let b = h.asked.told.since.count in
-      ⊎_elim (λ (x : h.told.faults + medium_lines run.stack.replies.items ≤ new.faults). omega (arith, a, b, c.0, x)) (λ (y : 2 ^ 64 ≤ new.faults + 1). absurd (omega (arith, c.1, y))) (h.followed.any_rig.medium (ap has_fail none))
+      sym (unfailing_lines script.faults run.stack.replies.items (ap has_fail none)) ∙ none_named (unscheduled_mediums script.faults run.stack.replies.items) h.told.faults new.faults h.followed.any_rig.medium (let d = c.0 in omega (arith, a, b, d), c.1)
 
   cut_none : unplayed script ≡ None → Calm old.faults new.faults → Each (IsNotCut script.block) h.followed.any_rig.goes.more
   cut_none plays c =

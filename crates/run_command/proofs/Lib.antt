@@ -4,6 +4,7 @@ pub mod Fallen
 pub mod FirstFaults
 pub mod Layers
 pub mod Passed
+pub mod LyingRows
 pub mod PremiseRows
 pub mod Premises
 pub mod Refusing

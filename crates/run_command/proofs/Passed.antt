@@ -7,5 +7,5 @@ pub use Rattle.script_stack.proofs.Following.{sizes-found, told-shapes, told-sto
 pub use Rattle.script_stack.proofs.Octets.{blocks_octets}
 pub use Rattle.script_stack.proofs.Passed.{alone-of, both-of, bound, in-range, line-none, place-there}
 pub use Rattle.script_stack.proofs.SendsBy.{recorded_long}
-pub use Rattle.stack_core.proofs.NoMedium.{none_named, none_unscheduled}
+pub use Rattle.stack_core.proofs.NoMedium.{none_named}
 pub use Rattle.stack_core.proofs.ToldOps.{is_told}

@@ -1,5 +1,5 @@
 -- What a script's run did, in three records by environment: over any rig, on an intact medium, and on a failing one.
-use Rattle.std.specs.Prelude.{ℕ, suc, Bool, true, ◌≡◌, ◌*◌, ◌<◌, List, [], ◌∷◌, ◌++◌, length, get_or, map, take, is_some, Some, All, false}
+use Rattle.std.specs.Prelude.{ℕ, suc, Bool, true, ◌≡◌, ◌*◌, ◌<◌, List, [], ◌∷◌, ◌++◌, length, get_or, take, is_some, Some, All, false}
 use Rattle.std.specs.List.{list_any}
 use Rattle.dix_base.specs.Told.{Calm}
 use Rattle.record_laws.specs.Answered.{AreAnswersTo}
@@ -22,8 +22,7 @@ use Rattle.walk_laws.specs.ScriptWalk.{script_walk}
 use Rattle.walk_laws.specs.PlainMap.{plain_map, plain_replies}
 use Rattle.walk_laws.specs.Settings.{Block, Setting, block_of}
 use Rattle.walk_laws.specs.UnderMap.{opened, under}
-use Rattle.fault_schedule.specs.Altered.{has_fail}
-use Rattle.stack_core.specs.Mediums.{RoseBy, medium_lines}
+use Rattle.stack_core.specs.Mediums.{RoseBy, unscheduled_mediums}
 use Rattle.stack_core.specs.Stacks.{GoesOn}
 use Rattle.stack_ops.specs.declared.reply.Reply.{Reply}
 use Rattle.rig_api.specs.Frames.{joined}
@@ -97,8 +96,8 @@ pub record OnAnyRig (script : Script) (table : Table) (devices : List DeviceInfo
   pub backed : IsBackedBy script table devices goes.more replies
   -- They are of the commands that the script's requests, its volume and its schedule come to, in the form that is called for.
   pub sends : SendsFor script table goes.more replies
-  -- Without `fail` lines, those of the report that name the medium are at most as many as the count of faults rose.
-  pub medium : has_fail script.faults ≡ false → RoseBy (medium_lines replies) old.faults new.faults
+  -- Those of the report that name the medium, but for the blocks that `fail` lines name, are at most as many as the count of faults rose.
+  pub medium : RoseBy (unscheduled_mediums script.faults replies) old.faults new.faults
 
 -- What holds over known blocks where no line of the report names the medium but as `fail` lines say.
 pub record OnIntactMedium (script : Script) (table : Table) (devices : List DeviceInfo) (old new : RigState) (known : KnownBlocks old new) (pool : List (List ℕ)) (log : List LogEntry) (replies : List Reply) : Type 0 where

@@ -9,5 +9,5 @@ pub use Rattle.script_stack.specs.Sends.{IsPlanFor, entries_of}
 pub use Rattle.script_text.specs.Bindings.{binding_fault}
 pub use Rattle.script_text.specs.Language.{script_in}
 pub use Rattle.script_text.specs.declared.script.Script.{Script}
-pub use Rattle.stack_core.specs.Mediums.{RoseBy, medium_lines}
+pub use Rattle.stack_core.specs.Mediums.{RoseBy, medium_lines, medium_replies, unscheduled_mediums}
 pub use Rattle.stack_core.specs.OnRecord.{ListsNone, bad_blocks}

@@ -22,8 +22,7 @@ use Rattle.script_text.specs.Bindings.{binding_fault}
 use Rattle.script_text.specs.declared.script.Script.{Script}
 use Rattle.script_run_laws.specs.SuitsStack.{SuitsStack}
 use Rattle.script_run_laws.specs.Units.{AreStored}
-use Rattle.fault_schedule.specs.Altered.{has_fail}
-use Rattle.stack_core.specs.Mediums.{HasCounted, RoseBy, medium_lines, medium_replies}
+use Rattle.stack_core.specs.Mediums.{HasCounted, RoseBy, medium_replies, unscheduled_mediums}
 use Rattle.stack_core.specs.Stacks.{GoesOn, IsFinished, IsStack, StackStays, plan_in}
 use Rattle.stack_core.specs.Walking.{NoneFailed, Walks, WalksFalling, WalksTold}
 use Rattle.stack_core.specs.declared.stack.Stack.{Stack}
@@ -89,7 +88,7 @@ pub record IsOver (s : Script) (t : Table) (devices : List DeviceInfo) (words : 
   pub plan : IsPlanFor s t (plan_in begun.sheet)
   pub first : Holds (plan_in begun.sheet) begun.machine (start (plan_in begun.sheet))
   pub stays : StackStays begun r
-  pub counted : has_fail s.faults ≡ false → HasCounted old.faults r new.faults
+  pub counted : HasCounted s.faults old.faults r new.faults
   pub sent : begun.machine.steps ≡ 0 → SendsBy (entries_of words) begun r old.log new.log
 
 pub rest_is : (s : Script) (t : Table) (devices : List DeviceInfo) (words : List (ℕ × ℕ)) (begun r : Stack) (image image' : Option (List ℕ)) (old new : RigState) (o : IsOver s t devices words begun r image image' old new) → drop (length old.log) new.log ≡ o.goes.more
@@ -126,15 +125,15 @@ answered_by s t devices words begun r image image' old new o known quiet none ca
 
 -- the law of lines that name the medium
 abbrev pub MediumLaw : Type 0
-MediumLaw = (m : Setting) (n : ℕ) (opening : State) (begun first : ℕ) (s : Stack) (st : Standing) (log : List LogEntry) (count : ℕ) → IsStack s → Walks m n opening begun s st log
-    → IsFinished s → HasCounted first s count → RoseBy (medium_lines s.replies.items) first count
+MediumLaw = (m : Setting) (n : ℕ) (opening : State) (begun : ℕ) (faults : List FaultLine) (first : ℕ) (s : Stack) (st : Standing) (log : List LogEntry) (count : ℕ) → IsStack s → Walks m n opening begun s st log
+    → IsFinished s → HasCounted faults first s count → RoseBy (unscheduled_mediums faults s.replies.items) first count
 
-pub few_lines : (s : Script) (t : Table) (devices : List DeviceInfo) (words : List (ℕ × ℕ)) (begun r : Stack) (image image' : Option (List ℕ)) (old new : RigState) → MediumLaw → (o : IsOver s t devices words begun r image image' old new) → has_fail s.faults ≡ false → RoseBy (medium_lines r.replies.items) old.faults new.faults
-few_lines s t devices words begun r image image' old new law o none =
+pub few_lines : (s : Script) (t : Table) (devices : List DeviceInfo) (words : List (ℕ × ℕ)) (begun r : Stack) (image image' : Option (List ℕ)) (old new : RigState) → MediumLaw → (o : IsOver s t devices words begun r image image' old new) → RoseBy (unscheduled_mediums s.faults r.replies.items) old.faults new.faults
+few_lines s t devices words begun r image image' old new law o =
     let m = setting_of s t (map unit_of devices) (failed_in r.replies.items) in
     let opening = begun_of s (map unit_of devices) [] in
-    law m (4096 * s.pages) opening (length old.log) old.faults r new.standing new.log new.faults o.stack
-    (o.went.walks m (4096 * s.pages) opening (length old.log) (o.walks (failed_in r.replies.items) [] old.standing old.log o.sizes)) o.ended (o.counted none)
+    law m (4096 * s.pages) opening (length old.log) s.faults old.faults r new.standing new.log new.faults o.stack
+    (o.went.walks m (4096 * s.pages) opening (length old.log) (o.walks (failed_in r.replies.items) [] old.standing old.log o.sizes)) o.ended o.counted
 
 -- ---- where the rig tells its blocks
 

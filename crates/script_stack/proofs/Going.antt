@@ -1,9 +1,9 @@
 -- Steps one after another.
-use Rattle.std.proofs.Common.{◌≡◌, ◌≤◌, ℕ, ◌++◌, ◌∙◌, ap, refl, arith}
+use Rattle.std.proofs.Common.{◌≤◌, ℕ, ◌++◌, ◌∙◌, ap, refl, arith}
 use Rattle.std.specs.List.{list_any}
 use Rattle.std.proofs.lemmas.List.{append_assoc}
+use Rattle.dix_base.proofs.Counts.{calm_then}
 use Rattle.dix_base.specs.Told.{Calm}
-use Rattle.fault_schedule.specs.Altered.{has_fail}
 use Rattle.rig_api.specs.State.{RigState}
 use Rattle.stack_core.proofs.Passed.{puts_nothing, puts_then}
 use Rattle.script_text.specs.Passed.{is_overwrite}
@@ -13,23 +13,20 @@ use Rattle.stack_core.specs.declared.stack.Stack.{Stack}
 use Rattle.stack_core.specs.Going.{Went}
 
 pub went_nowhere : (s : Stack) (o : RigState) → Went s o s o
-went_nowhere s o = record { walks = λ m n opening first w. w; falling = λ m n opening first w. w; told = λ m n opening first calm w. w; silent = λ calm z. z; faults = omega arith; counts = λ none first h. h; sheet = refl; answered = λ m n opening first w none. puts_nothing o o refl refl refl refl }
+went_nowhere s o = record { walks = λ m n opening first w. w; falling = λ m n opening first w. w; told = λ m n opening first calm w. w; silent = λ calm z. z; faults = omega arith; counts = λ first h. h; sheet = refl; answered = λ m n opening first w none. puts_nothing o o refl refl refl refl }
 
 -- a count that didn't rise over two steps rose over neither
 first_calm : (n n' n'' : ℕ) → n ≤ n' → n' ≤ n'' → Calm n n'' → Calm n n'
 first_calm n n' n'' a b calm = let x = calm.0 in let y = calm.1 in (omega (arith, a, b, x), omega (arith, a, b, y))
 
-then_calm : (n n' n'' : ℕ) → n ≤ n' → Calm n n'' → Calm n' n''
-then_calm n n' n'' a calm = let x = calm.0 in (omega (arith, a, x), calm.1)
-
-pub went_on : (s : Stack) (o : RigState) (s' : Stack) (o' : RigState) (s'' : Stack) (o'' : RigState) → o'.armed ≡ o.armed → Went s o s' o' → Went s' o' s'' o'' → Went s o s'' o''
-went_on s o s' o' s'' o'' armed a b = record {
+pub went_on : (s : Stack) (o : RigState) (s' : Stack) (o' : RigState) (s'' : Stack) (o'' : RigState) → Went s o s' o' → Went s' o' s'' o'' → Went s o s'' o''
+went_on s o s' o' s'' o'' a b = record {
   walks = λ m n opening first w. b.walks m n opening first (a.walks m n opening first w);
   falling = λ m n opening first w. b.falling m n opening first (a.falling m n opening first w);
-  told = λ m n opening first calm w. b.told m n opening first (then_calm o.faults o'.faults o''.faults a.faults calm) (a.told m n opening first (first_calm o.faults o'.faults o''.faults a.faults b.faults calm) w);
-  silent = λ calm z. b.silent (then_calm o.faults o'.faults o''.faults a.faults calm) (a.silent (first_calm o.faults o'.faults o''.faults a.faults b.faults calm) z);
+  told = λ m n opening first calm w. b.told m n opening first (calm_then o.faults o'.faults o''.faults a.faults calm) (a.told m n opening first (first_calm o.faults o'.faults o''.faults a.faults b.faults calm) w);
+  silent = λ calm z. b.silent (calm_then o.faults o'.faults o''.faults a.faults calm) (a.silent (first_calm o.faults o'.faults o''.faults a.faults b.faults calm) z);
   faults = (let x = a.faults in let y = b.faults in omega arith);
-  counts = λ none first h. b.counts (ap has_fail armed ∙ none) first (a.counts none first h);
+  counts = λ first h. b.counts first (a.counts first h);
   sheet = b.sheet ∙ a.sheet;
   answered = λ m n opening first w none.
       puts_then o o' o'' a.faults b.faults (a.answered m n opening first w none) (b.answered m n opening first (a.walks m n opening first w) (ap (λ (x : Sheet). list_any is_overwrite x.ops) a.sheet ∙ none));

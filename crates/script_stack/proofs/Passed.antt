@@ -15,5 +15,5 @@ pub use Rattle.script_run_laws.proofs.Shown.{accounted-run, has-cells, lies-on, 
 pub use Rattle.script_run_laws.proofs.Standing.{bound, or-none}
 pub use Rattle.script_run_laws.proofs.Suits.{stack-op, suits}
 pub use Rattle.script_run_laws.proofs.Units.{over-units}
-pub use Rattle.stack_core.proofs.NoMedium.{none_named, none_unscheduled}
+pub use Rattle.stack_core.proofs.NoMedium.{none_named, unfailing_lines}
 pub use Rattle.stack_core.proofs.ToldOps.{is_told}

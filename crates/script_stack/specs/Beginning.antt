@@ -1,5 +1,6 @@
 -- A script that is bound to a volume, and its run before the first step.
 use Rattle.std.specs.Prelude.{◌≡◌, ℕ, ◌+◌, ◌≤◌, Bool, true, List, length, map, None}
+use Rattle.fault_schedule.specs.declared.fault.FaultLine.{FaultLine}
 use Rattle.rig_api.specs.Log.{HasRoom, Room}
 use Rattle.rig_api.specs.Telling.{Standing, greatest_size, specs_of}
 use Rattle.script_run_laws.specs.Passed.{info_of}
@@ -41,7 +42,7 @@ pub record Begins (s : Script) (t : Table) (devices : List DeviceInfo) (r : Run)
   pub walks : BeginsWalks s t devices r.stack
   pub falling : BeginsFalling s t devices r.stack
   pub told : BeginsTold s t devices r.stack
-  pub counted : (first : ℕ) → HasCounted first r.stack first
+  pub counted : (faults : List FaultLine) (first : ℕ) → HasCounted faults first r.stack first
 
 -- A rig with as many devices has what the ops name; one that tells its image, where these are its devices.
 abbrev pub ReachesTheirs : List DeviceInfo → Stack → Type 0

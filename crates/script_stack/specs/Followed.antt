@@ -17,9 +17,8 @@ use Rattle.script_text.specs.declared.script.Script.{Script}
 use Rattle.script_run_laws.specs.Passed.{Backed, Carried, recorded, fates, info_of}
 use Rattle.script_run_laws.specs.Units.{all_blocks}
 use Rattle.dix_base.specs.Told.{Calm}
-use Rattle.fault_schedule.specs.Altered.{has_fail}
 use Rattle.fault_schedule.specs.declared.fault.FaultLine.{FaultLine}
-use Rattle.stack_core.specs.Mediums.{RoseBy, medium_lines, unscheduled_mediums}
+use Rattle.stack_core.specs.Mediums.{RoseBy, unscheduled_mediums}
 use Rattle.stack_core.specs.Passed.{pages_from, requests_from, script_replies, script_walk, Setting}
 use Rattle.stack_core.specs.declared.stack.Stack.{Stack}
 use Rattle.stack_core.specs.Stacks.{IsFinished, IsStack}
@@ -132,8 +131,8 @@ pub record Ran (s : Script) (t : Table) (devices : List DeviceInfo) (words : Lis
   pub backed : IsBackedBy s t devices more r.replies.items
   -- They are those that its steps send by these words.
   pub sends : SendsFor (by_words s words) t more r.replies.items
-  -- Without `fail` lines, those of the report that name the medium are at most as many as the count of faults rose.
-  pub medium : has_fail s.faults ≡ false → RoseBy (medium_lines r.replies.items) old.faults new.faults
+  -- Those of the report that name the medium, but for the blocks that `fail` lines name, are at most as many as the count of faults rose.
+  pub medium : RoseBy (unscheduled_mediums s.faults r.replies.items) old.faults new.faults
   -- Over known blocks, where no line names the medium but as `fail` lines say, the script's ops were done one after another at the target.
   pub walked : (known : KnownBlocks old new) → NoMediumLine s.faults r.replies.items → HasWalked s t known.before known.after r.pool more r.replies.items
   -- So they were where the count didn't rise.

@@ -5,7 +5,8 @@ use Rattle.std.proofs.lemmas.List.{get_or_past}
 use Rattle.bio_core.specs.declared.fate.Why.{Why}
 use Rattle.bio_core.specs.declared.fate.Why.TheVariants.{Medium, Short}
 use Rattle.dix_adapter.specs.Ways.{blocks_told}
-use Rattle.fault_schedule.specs.Altered.{fails_of}
+use Rattle.fault_schedule.specs.Altered.{fails_of, has_fail}
+use Rattle.fault_schedule.proofs.Unfailing.{unfailing}
 use Rattle.fault_schedule.specs.declared.fault.FaultLine.{FaultLine}
 use Rattle.range_gate.specs.Gates.{has_ended, is_waiting}
 use Rattle.rig_api.specs.Log.{LogEntry}
@@ -52,24 +53,20 @@ line_in faults op [] (suc i) = omega arith
 line_in faults op (r ∷ replies) zero = let z : op + 0 ≡ op = omega arith in rw z (omega arith)
 line_in faults op (r ∷ replies) (suc i) = let z : op + suc i ≡ suc op + i = omega arith in let h = line_in faults (suc op) replies i in rw z (omega (arith, h))
 
--- they are no more than all that name the medium
-fewer_listed : (faults : List FaultLine) (op : ℕ) (blocks : List BadBlock) → listed_unscheduled faults op blocks ≤ listed_mediums blocks
-fewer_listed faults op [] = omega arith
-fewer_listed faults op (b ∷ blocks) = let h = fewer_listed faults op blocks in let l = one (is_medium_why b.why) (fails_of faults (record { op = op; k = b.k })) in omega (arith, h, l) where
-  one : (c d : Bool) → (if c && not d then 1 else 0) ≤ (if c then 1 else 0)
-  one true true = omega arith
-  one true false = omega arith
-  one false d = omega arith
+-- without `fail` lines they are all that name the medium
+pub unfailing_lines : (faults : List FaultLine) (replies : List Reply) → has_fail faults ≡ false → unscheduled_mediums faults replies ≡ medium_lines replies
+unfailing_lines faults replies none = from 1 replies where
+  mark_is : (c d : Bool) → d ≡ false → ◌≡◌ {A = ℕ} (if c && not d then 1 else 0) (if c then 1 else 0)
+  mark_is true d e = rw e refl
+  mark_is false d e = refl
 
-fewer_from : (faults : List FaultLine) (op : ℕ) (replies : List Reply) → unscheduled_from faults op replies ≤ medium_lines replies
-fewer_from faults op [] = omega arith
-fewer_from faults op (r ∷ replies) = let h = fewer_from faults (suc op) replies in let l = fewer_listed faults op (bad_blocks r) in omega (arith, h, l)
+  listed : (op : ℕ) (blocks : List BadBlock) → listed_unscheduled faults op blocks ≡ listed_mediums blocks
+  listed op [] = refl
+  listed op (b ∷ blocks) = let l = mark_is (is_medium_why b.why) (fails_of faults (record { op = op; k = b.k })) (unfailing faults none (record { op = op; k = b.k })) in let h = listed op blocks in omega (arith, l, h)
 
-pub fewer_unscheduled : (faults : List FaultLine) (replies : List Reply) → unscheduled_mediums faults replies ≤ medium_lines replies
-fewer_unscheduled faults replies = fewer_from faults 1 replies
-
-pub none_unscheduled : (faults : List FaultLine) (replies : List Reply) → medium_lines replies ≡ 0 → unscheduled_mediums faults replies ≡ 0
-none_unscheduled faults replies e = let h = fewer_unscheduled faults replies in omega (arith, h, e)
+  from : (op : ℕ) (replies : List Reply) → unscheduled_from faults op replies ≡ medium_lines replies
+  from op [] = refl
+  from op (r ∷ replies) = let l = listed op (bad_blocks r) in let h = from (suc op) replies in omega (arith, l, h)
 
 reply_medium : (reply : Reply) → one_reply reply ≡ 0 → is_medium reply ≡ false
 reply_medium Silent e = refl

@@ -1,7 +1,8 @@
 -- What a step keeps: its steps can still be done over the rig, and the stack goes on.
-use Rattle.std.proofs.Common.{◌≡◌, ◌≤◌, ℕ, false, refl, arith}
+use Rattle.std.proofs.Common.{◌≡◌, ◌≤◌, ℕ, List, false, refl, sym, subst, arith}
 use Rattle.std.specs.List.{list_any}
 use Rattle.std.specs.Prelude.{is_some}
+use Rattle.fault_schedule.specs.declared.fault.FaultLine.{FaultLine}
 use Rattle.rig_api.specs.State.{RigState, Stays as RigStays}
 use Rattle.rig_api.specs.Telling.{IsStanding, units_told}
 use Rattle.record_laws.specs.Answered.{PutsAnswers}
@@ -33,28 +34,28 @@ stands-left s s' word cut c o o' n h a ch d is e st room t = record {
 }
 
 -- one that leaves the rig alone
-pub went-still : (s s' : Stack) (o : RigState) → IsStack s → StackStays s s' → WalksOn s s' → medium_replies s'.replies.items ≤ medium_replies s.replies.items → ((first : ℕ) → HasCounted first s o.faults → HasCounted first s' o.faults) → Went s o s' o
+pub went-still : (s s' : Stack) (o : RigState) → IsStack s → StackStays s s' → WalksOn s s' → medium_replies s'.replies.items ≤ medium_replies s.replies.items → ((first : ℕ) → HasCounted o.armed first s o.faults → HasCounted o.armed first s' o.faults) → Went s o s' o
 went-still s s' o k stays on few counts = record {
   walks = λ m n opening first w. walks_on m n opening first s s' o.standing o.log k stays on w;
   falling = λ m n opening first w. falling_on m n opening first s s' o.units o.armed o.standing o.log k stays on w;
   told = λ m n opening first calm w. told_on m n opening first s s' o.units o.armed o.standing o.log k stays on w;
   silent = λ calm z. omega (arith, few, z);
   faults = omega arith;
-  counts = λ none. counts;
+  counts = counts;
   sheet = stays.sheet;
   answered = λ m n opening first w none. puts_nothing o o refl refl refl refl;
 }
 
 -- one that admits an op
 pub went-entered : (s s' : Stack) (o o' : RigState) → IsStack s → StackStays s s' → Enters o o' s s' → RigStays o o' → o'.log ≡ o.log → o.units ≡ units_told o.standing o.image → IsStanding o.standing o.image →
-    FailsCounted s.replies.items s'.replies.items o.faults o'.faults → ((first : ℕ) → HasCounted first s o.faults → HasCounted first s' o'.faults) → (list_any is_overwrite s.sheet.ops ≡ false → PutsAnswers o o') → Went s o s' o'
+    FailsCounted s.replies.items s'.replies.items o.faults o'.faults → ((first : ℕ) → HasCounted o.armed first s o.faults → HasCounted o.armed first s' o'.faults) → (list_any is_overwrite s.sheet.ops ≡ false → PutsAnswers o o') → Went s o s' o'
 went-entered s s' o o' k stays enters rig log laid ready fails counts answered = record {
   walks = λ m n opening first w. rw (rig.standing, log) (walks_entered m n opening first s s' o o' k stays enters w);
   falling = λ m n opening first w. rw (rig.standing, log) (falling_entered m n opening first s s' o o' k stays enters laid ready rig.armed w);
   told = λ m n opening first calm w. rw (rig.standing, log) (told_entered m n opening first s s' o o' k stays enters laid ready rig.armed calm w);
   silent = still_silent s.replies.items s'.replies.items o.faults o'.faults fails;
   faults = rig.count;
-  counts = λ none. counts;
+  counts = λ first h. subst (λ (armed : List FaultLine). HasCounted armed first s' o'.faults) (sym rig.armed) (counts first h);
   sheet = stays.sheet;
   answered = λ m n opening first w none. answered none;
 }

@@ -10,7 +10,6 @@ use Rattle.stack_ops.specs.declared.op.Op.{Op}
 use Rattle.stack_ops.specs.declared.reply.Reply.{Reply}
 use Rattle.stack_ops.specs.Ops.{is_overwrite}
 use Rattle.stack_core.specs.declared.stack.Stack.{Stack}
-use Rattle.fault_schedule.specs.Altered.{has_fail}
 use Rattle.stack_core.specs.Mediums.{HasCounted, RoseBy, medium_replies}
 use Rattle.stack_core.specs.Stacks.{HasSpare, IsStack, Reaches}
 use Rattle.stack_core.specs.Walking.{Walks, WalksFalling, WalksTold}
@@ -21,7 +20,7 @@ pub record StandsOver (s : Stack) (rig : RigState) : Type 0 where
   pub reaches : Reaches s (is_some rig.image) rig.standing
   pub spare : HasSpare s rig.standing rig.room
 
--- A stack that follows the walk by what stands on record still does. So does one that follows it where store calls may fail; and where no fault line says that the medium fails a block, what failed there is still at most as much as the count of faults rose.
+-- A stack that follows the walk by what stands on record still does. So does one that follows it where store calls may fail; and what failed at the medium, but for the blocks of which a fault line says so, is still at most as much as the count of faults rose.
 -- Where that count didn't rise, none failed: a stack that follows the walk with the target behind the adapter still does, and no overwrite replied that its own did.
 -- Where no op overwrites a stored block, the records of a stack that follows the walk are what the rig's units answer.
 pub record Went (old : Stack) (before : RigState) (new : Stack) (after : RigState) : Type 0 where
@@ -32,7 +31,7 @@ pub record Went (old : Stack) (before : RigState) (new : Stack) (after : RigStat
       → WalksTold m n opening first new after.units after.armed after.standing after.log
   pub silent : Calm before.faults after.faults → medium_replies old.replies.items ≡ 0 → medium_replies new.replies.items ≡ 0
   pub faults : before.faults ≤ after.faults
-  pub counts : has_fail before.armed ≡ false → (first : ℕ) → HasCounted first old before.faults → HasCounted first new after.faults
+  pub counts : (first : ℕ) → HasCounted before.armed first old before.faults → HasCounted after.armed first new after.faults
   pub sheet : new.sheet ≡ old.sheet
   pub answered : (m : Setting) (n : ℕ) (opening : State) (first : ℕ) → Walks m n opening first old before.standing before.log → list_any is_overwrite old.sheet.ops ≡ false → PutsAnswers before after
 

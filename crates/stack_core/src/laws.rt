@@ -11,7 +11,7 @@ ghost use Rattle.stack_walk_laws.specs.Passed.{IsBoundRun, Backed, recorded, tol
 ghost use Rattle.stack_walk_laws.specs.Takes.{AllTakeAny};
 ghost use Rattle.dix_adapter.specs.Ways.{blocks_told};
 ghost use Rattle.stack_core.specs.declared.stack.Stack.{Stack as AnyStack};
-ghost use Rattle.stack_core.specs.Mediums.{HasCounted, RoseBy, medium_lines, unscheduled_mediums};
+ghost use Rattle.stack_core.specs.Mediums.{HasCounted, RoseBy, unscheduled_mediums};
 ghost use Rattle.stack_core.specs.OnRecord.{AreRecords, HasSent, ListsNone};
 ghost use Rattle.stack_core.specs.Stacks.{IsFinished, IsStack, plan_in};
 ghost use Rattle.stack_core.specs.Walking.{EndsFallen, EndsTold, HasFails, Walks, WalksFalling, WalksTold};
@@ -98,11 +98,12 @@ pub fn a_finished_stack_has_sent()
         → IsStack s → HasSent es s log → Walks m n opening first s st whole → IsFinished s → ListsNone s.replies.items → AreRecords (sends_of (plan_in s.sheet) es) log }
 {}
 
-/// And the lines of its replies that name the medium, of blocks and of overwrites, are at most as many as the count of
-/// faults rose, where each step kept `HasCounted`.
+/// And the lines of its replies that name the medium, of overwrites and of blocks of which no fault line says that it
+/// fails them, are at most as many as the count of faults rose, where each step kept `HasCounted`.
 pub fn a_finished_stack_names_the_medium_seldom()
-    ensures { (m : Setting) (n : ℕ) (opening : State) (begun first : ℕ) (s : AnyStack) (st : Standing) (log : List LogEntry) (count : ℕ) → IsStack s → Walks m n opening begun s st log
-        → IsFinished s → HasCounted first s count → RoseBy (medium_lines s.replies.items) first count }
+    ensures { (m : Setting) (n : ℕ) (opening : State) (begun : ℕ) (faults : List FaultLine) (first : ℕ) (s : AnyStack) (st : Standing) (log : List LogEntry) (count : ℕ)
+        → IsStack s → Walks m n opening begun s st log
+        → IsFinished s → HasCounted faults first s count → RoseBy (unscheduled_mediums faults s.replies.items) first count }
 {}
 
 /// Where no line of its replies names the medium but for blocks that a fault line says it fails, no store call failed: over a rig that tells its blocks it followed the

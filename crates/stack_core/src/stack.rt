@@ -14,6 +14,7 @@ ghost use Rattle.stack_core.specs.Done.{MadeBy, OpDone, Sealed, WriteMade, Write
 ghost use Rattle.stack_core.specs.Doing.{CanDo, CanReach, HasChangedBlocks};
 ghost use Rattle.stack_core.specs.Walking.{Enters, IsChosen, IsKnown, LeavesOwn, WalksOn, is_medium, units_left};
 ghost use Rattle.dix_base.specs.Told.{Calm};
+ghost use Rattle.fault_schedule.specs.declared.fault.FaultLine.{FaultLine};
 ghost use Rattle.rig_api.specs.Telling.{block_at, changed, frame_size, unit_at, with_block};
 ghost use Rattle.rig_api.specs.State.{Stays as RigStays};
 ghost use Rattle.rig_api.specs.Target.{Stored};
@@ -152,7 +153,7 @@ impl Stack {
         ensures walks { IsChosen self.old (Complete i) → WalksOn self.old self.new }
         ensures replies { self.new.replies.items ≡ self.old.replies.items }
         ensures traces { Traces (plan_in self.old.sheet) self.old.machine (Complete i) self.old.kept.starts.items self.old.kept.held.items self.new.kept.starts.items self.new.kept.held.items }
-        ensures counts { Counts (plan_in self.old.sheet) self.old.machine (Complete i) self.old.kept.held.items self.new.kept.held.items }
+        ensures counts { (faults : List FaultLine) → Counts faults self.old.sheet.ios.items (plan_in self.old.sheet) self.old.machine (Complete i) self.old.kept.held.items self.new.kept.held.items }
     {
         self.machine
             .complete(&self.sheet, i, &mut self.group, &mut self.fates);

@@ -1,7 +1,7 @@
-use Rattle.std.proofs.Common.{inr, refl, sym, ap, subst, ◌∙◌}
+use Rattle.std.proofs.Common.{List, inr, refl, sym, ap, subst, ◌∙◌}
 use Rattle.std.specs.Prelude.{is_some}
 use Rattle.std.proofs.lemmas.Result.{err_from_is_err_and}
-use Rattle.fault_schedule.specs.Altered.{has_fail}
+use Rattle.fault_schedule.specs.declared.fault.FaultLine.{FaultLine}
 use Rattle.rig_api.specs.State.{RigState}
 use Rattle.run_command.proofs.Completing.{stops_from_outside}
 use Rattle.run_command.proofs.Devices.{has_device, known_infos}
@@ -105,7 +105,8 @@ returns-clause-verdict g c =
               plan = begins.plan;
               first = begins.new.first;
               stays = c.run_all.ensures.stays;
-              counted = λ none. c.run_all.ensures.went.counts (ap (λ (s : RigState). has_fail s.armed) ready.armed ∙ none) told.faults (subst (HasCounted told.faults begun) (sym (ap (λ (s : RigState). s.faults) ready.armed)) (begins.counted told.faults));
+              counted = subst (λ (fs : List FaultLine). HasCounted fs told.faults r end.faults) (c.run_all.ensures.rig.armed ∙ ap (λ (s : RigState). s.armed) ready.armed)
+                  (c.run_all.ensures.went.counts told.faults (subst (HasCounted (g.R.Rig.state c.ready_script.new.rig).armed told.faults begun) (sym (ap (λ (s : RigState). s.faults) ready.armed)) (begins.counted (g.R.Rig.state c.ready_script.new.rig).armed told.faults)));
               sent = λ z. subst (λ (s : RigState). SendsBy (entries_of c.args.script.schedule) begun r s.log end.log) ready.armed
                   (subst (λ ws. SendsBy (entries_of ws) begun r (g.R.Rig.state c.ready_script.new.rig).log end.log) (c.as_slice.ensures ∙ begins.schedule) (c.run_all.ensures.sends z));
             };

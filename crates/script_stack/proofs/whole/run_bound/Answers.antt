@@ -2,13 +2,13 @@ use Rattle.std.proofs.Common.{◌≡◌, ◌≤◌, ◌++◌, List, Some, ap, ma
 use Rattle.std.specs.Prelude.{is_some}
 use Rattle.dix_base.specs.Told.{Calm}
 use Rattle.rig_api.specs.Telling.{Standing, specs_of}
-use Rattle.fault_schedule.specs.Altered.{has_fail}
+use Rattle.fault_schedule.specs.declared.fault.FaultLine.{FaultLine}
 use Rattle.rig_api.specs.State.{RigState}
 use Rattle.script_run_laws.specs.Passed.{info_of}
 use Rattle.rig_api.specs.Target.{Stored}
 use Rattle.dix_adapter.specs.Groups.{mode_of}
 use Rattle.dix_adapter.specs.declared.adapter.Adapter.{Adapter}
-use Rattle.stack_core.specs.Mediums.{RoseBy, medium_lines, medium_replies}
+use Rattle.stack_core.specs.Mediums.{HasCounted, RoseBy, medium_replies, unscheduled_mediums}
 use Rattle.stack_core.specs.declared.sheet.Sheet.{Sheet}
 use Rattle.script_stack.specs.Followed.{KnownBlocks, SizesAre}
 use Rattle.script_stack.proofs.Counted.{silent_replies}
@@ -60,7 +60,7 @@ returns-clause-ran g c =
       plan = begins.plan;
       first = begins.new.first;
       stays = c.run_all.ensures.stays;
-      counted = λ none. c.run_all.ensures.went.counts (ap (λ (x : RigState). has_fail x.armed) armed ∙ none) (g.R.Rig.state ready).faults (begins.counted (g.R.Rig.state ready).faults);
+      counted = subst (λ (fs : List FaultLine). HasCounted fs before.faults r after.faults) (c.run_all.ensures.rig.armed ∙ ap (λ (x : RigState). x.armed) armed) (c.run_all.ensures.went.counts before.faults (begins.counted before.armed before.faults));
       sent = c.run_all.ensures.sends;
     } in
     let since = λ (known : KnownBlocks (g.R.Rig.state asked) after). is_known before after known.before known.after (ap (λ (x : RigState). x.units) armed ∙ known.began) known.ended in
@@ -78,7 +78,7 @@ returns-clause-ran g c =
       armed_there = c.run_all.ensures.rig.armed ∙ ap (λ (x : RigState). x.armed) armed;
       backed = backed_by s t devices words begun r (g.R.Rig.state ready).image (g.R.Rig.state end).image before after c.a_script_run_is_backed.ensures o;
       sends = sent_by s t devices words begun r (g.R.Rig.state ready).image (g.R.Rig.state end).image before after c.a_finished_stack_has_sent.ensures.few c.a_finished_stack_has_sent.ensures.all o;
-      medium = λ none. subst (λ n. RoseBy (medium_lines r.replies.items) n (g.R.Rig.state end).faults) count (few_lines s t devices words begun r (g.R.Rig.state ready).image (g.R.Rig.state end).image before after c.a_finished_stack_names_the_medium_seldom.ensures o none);
+      medium = subst (λ n. RoseBy (unscheduled_mediums s.faults r.replies.items) n (g.R.Rig.state end).faults) count (few_lines s t devices words begun r (g.R.Rig.state ready).image (g.R.Rig.state end).image before after c.a_finished_stack_names_the_medium_seldom.ensures o);
       tells_blocks = still_told (g.R.Rig.state ready).image (g.R.Rig.state end).image before.standing after.standing before.units after.units o.laid o.laid_after o.tells ∙ ap (λ (x : RigState). is_some x.units) armed;
       walked = λ known none. walked_at s t devices words begun r (g.R.Rig.state ready).image (g.R.Rig.state end).image before after c.a_told_script_run_has_walked.ensures.unnamed o (since known) none;
       calm = λ known calm. calm_at s t devices words begun r (g.R.Rig.state ready).image (g.R.Rig.state end).image before after c.a_told_script_run_has_walked.ensures.calm o (since known) (subst (λ n. Calm n (g.R.Rig.state end).faults) (sym count) calm);

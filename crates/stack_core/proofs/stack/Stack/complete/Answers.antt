@@ -57,9 +57,9 @@ returns-clause-traces c =
     c.requires.stack c.requires.ready c.complete.ensures.lands (rw c.ios.ensures at c.settle_all.ensures.kept) (rw (c.ios.ensures, c.mode.ensures, c.deref.ensures.value, c.deref-2.ensures.value) at c.settle_all.ensures.settled)
 
 pub returns-clause-counts : goal.returns-clause-counts
-returns-clause-counts c =
-    let s = c.args.self.now.sheet in
+returns-clause-counts c = λ faults.
+    (let s = c.args.self.now.sheet in
     let k = completed s.ops s.shifted.items s.ios.items s.table s.limits s.devices c.args.self.now.machine c.args.i c.complete.new.bios.items c.complete.new.fates.items s.right.fine c.requires.ready c.complete.ensures.lands in
-    counts_done (plan_in s) c.args.self.now.machine c.args.i c.complete.new.bios.items c.complete.new.fates.items c.args.self.now.kept.held.items c.settle_all.new.kept.held.items c.complete.ensures.lands
-    (settled_counts (mode_of c.args.self.now.adapter) c.args.self.now.host s.ios.items c.args.self.now.kept.starts.items c.complete.new.bios.items c.complete.new.fates.items (record { pages = c.args.self.now.pool; held = c.args.self.now.kept.held.items }) (record { pages = c.settle_all.new.pool; held = c.settle_all.new.kept.held.items }) k.each
-    (rw (c.ios.ensures, c.mode.ensures, c.deref.ensures.value, c.deref-2.ensures.value) at c.settle_all.ensures.settled))
+    counts_done faults s.ios.items (plan_in s) c.args.self.now.machine c.args.i c.complete.new.bios.items c.complete.new.fates.items c.args.self.now.kept.held.items c.settle_all.new.kept.held.items c.complete.ensures.lands
+    (settled_counts faults (mode_of c.args.self.now.adapter) c.args.self.now.host s.ios.items c.args.self.now.kept.starts.items c.complete.new.bios.items c.complete.new.fates.items (record { pages = c.args.self.now.pool; held = c.args.self.now.kept.held.items }) (record { pages = c.settle_all.new.pool; held = c.settle_all.new.kept.held.items }) c.requires.stack.kept k.of k.each
+    (rw (c.ios.ensures, c.mode.ensures, c.deref.ensures.value, c.deref-2.ensures.value) at c.settle_all.ensures.settled)))

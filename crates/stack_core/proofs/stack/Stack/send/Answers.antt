@@ -1,6 +1,8 @@
-use Rattle.std.proofs.Common.{◌≡◌, ap, map, refl, subst, sym, ◌∙◌, arith}
+use Rattle.std.proofs.Common.{◌≡◌, List, ap, map, refl, subst, sym, ◌∙◌, arith}
 use Rattle.std.specs.Prelude.{is_some}
 use Rattle.record_laws.proofs.Going.{puts_nothing}
+use Rattle.fault_schedule.specs.declared.fault.FaultLine.{FaultLine}
+use Rattle.stack_core.specs.Mediums.{HasCounted}
 use Rattle.dix_adapter.proofs.Landing.{group-bytes}
 use Rattle.dix_adapter.proofs.Units.{unit-stands}
 use Rattle.page_pool.specs.Cells.{flat}
@@ -147,7 +149,7 @@ returns-clause-went g c = λ ch.
           (λ e q. ((unsent e q).0, (ap (λ (s : RigState). s.log) (ap g.R.Rig.state (unsent e q).1), ap (λ (s : RigState). s.units) (ap g.R.Rig.state (unsent e q).1)))) (λ e q. (out e q).sent.pool_is) (λ e. (back e).fetched.whole) (λ k e q. (out e q).recorded k) (λ k e. (back e).recorded k) (λ us u k e q. (out e q).went us u k) (λ us u k e. (back e).came us u k));
       silent = λ calm z. z;
       faults = c.carry.ensures.stays.count;
-      counts = λ none. sent_counts s after old.armed ch.0 c.args.d c.args.i old.faults new.faults none stays ch.1 ch.2 (returns-clause-spoils g c) refl refl;
+      counts = λ first h. subst (λ (armed : List FaultLine). HasCounted armed first after new.faults) (sym c.carry.ensures.stays.armed) (sent_counts s after old.armed ch.0 c.args.d c.args.i old.faults new.faults stays ch.1 ch.2 (returns-clause-spoils g c) refl refl first h);
       sheet = refl;
       answered = λ m n opening first w none us told armed calm.
           (let s = c.args.self.now in

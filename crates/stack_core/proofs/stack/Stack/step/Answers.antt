@@ -36,7 +36,7 @@ returns-in-End-clause-went g c =
     let h : Chooses (plan_in c.args.self.now.sheet) c.args.self.now.machine c.args.word (End c.in-End.q) = rw c.in-End.is at c.choose-choice.ensures in
     let n = (g.R.Rig.state c.args.rig.now).faults in
     went-still c.args.self.now c.end.new.self (g.R.Rig.state c.args.rig.now) c.requires.stands.stack c.end.ensures.stays (c.end.ensures.walks (c.args.word, h, c.requires.some)) c.end.ensures.few
-    (still_counts c.args.self.now c.end.new.self c.args.word c.args.cut n n (End c.in-End.q) tt tt c.end.ensures.stays h c.requires.some (c.end.ensures.step c.args.cut) c.end.ensures.kept (omega arith) (few_counts c.args.self.now.replies.items c.end.new.self.replies.items n c.end.ensures.few))
+    (still_counts (g.R.Rig.state c.args.rig.now).armed c.args.self.now c.end.new.self c.args.word c.args.cut n n (End c.in-End.q) tt tt c.end.ensures.stays h c.requires.some (c.end.ensures.step c.args.cut) c.end.ensures.kept (omega arith) (few_counts c.args.self.now.replies.items c.end.new.self.replies.items n c.end.ensures.few))
 
 pub returns-in-End-clause-sends : goal.returns-in-End-clause-sends
 returns-in-End-clause-sends g c =
@@ -67,7 +67,7 @@ returns-in-Complete-clause-went g c =
     let h : Chooses (plan_in c.args.self.now.sheet) c.args.self.now.machine c.args.word (Complete c.in-Complete.i) = rw c.in-Complete.is at c.choose-choice.ensures in
     let n = (g.R.Rig.state c.args.rig.now).faults in
     went-still c.args.self.now c.complete.new.self (g.R.Rig.state c.args.rig.now) c.requires.stands.stack c.complete.ensures.stays (c.complete.ensures.walks (c.args.word, h, c.requires.some)) (let e = ap medium_replies c.complete.ensures.replies in omega (arith, e))
-    (step_counts c.args.self.now c.complete.new.self c.args.word c.args.cut n n (Complete c.in-Complete.i) c.complete.ensures.stays h c.requires.some (c.complete.ensures.step c.args.cut) c.complete.ensures.counts (omega arith) (same_counts c.args.self.now.replies.items c.complete.new.self.replies.items n c.complete.ensures.replies))
+    (step_counts (g.R.Rig.state c.args.rig.now).armed c.args.self.now c.complete.new.self c.args.word c.args.cut n n (Complete c.in-Complete.i) c.complete.ensures.stays h c.requires.some (c.complete.ensures.step c.args.cut) (c.complete.ensures.counts (g.R.Rig.state c.args.rig.now).armed) (omega arith) (same_counts c.args.self.now.replies.items c.complete.new.self.replies.items n c.complete.ensures.replies))
 
 pub returns-in-Complete-clause-sends : goal.returns-in-Complete-clause-sends
 returns-in-Complete-clause-sends g c =
@@ -98,7 +98,7 @@ returns-in-Cut-clause-went g c =
     let h : Chooses (plan_in c.args.self.now.sheet) c.args.self.now.machine c.args.word (Cut c.in-Cut.q) = rw c.in-Cut.is at c.choose-choice.ensures in
     let n = (g.R.Rig.state c.args.rig.now).faults in
     went-still c.args.self.now c.cut.new.self (g.R.Rig.state c.args.rig.now) c.requires.stands.stack c.cut.ensures.stays (c.cut.ensures.walks (c.args.word, h, c.requires.some)) (let e = ap medium_replies c.cut.ensures.settles.replies in omega (arith, e))
-    (still_counts c.args.self.now c.cut.new.self c.args.word c.args.cut n n (Cut c.in-Cut.q) tt tt c.cut.ensures.stays h c.requires.some c.cut.ensures.step c.cut.ensures.settles.kept (omega arith) (same_counts c.args.self.now.replies.items c.cut.new.self.replies.items n c.cut.ensures.settles.replies))
+    (still_counts (g.R.Rig.state c.args.rig.now).armed c.args.self.now c.cut.new.self c.args.word c.args.cut n n (Cut c.in-Cut.q) tt tt c.cut.ensures.stays h c.requires.some c.cut.ensures.step c.cut.ensures.settles.kept (omega arith) (same_counts c.args.self.now.replies.items c.cut.new.self.replies.items n c.cut.ensures.settles.replies))
 
 pub returns-in-Cut-clause-sends : goal.returns-in-Cut-clause-sends
 returns-in-Cut-clause-sends g c =
@@ -129,7 +129,7 @@ returns-in-Join-clause-went g c =
     let h : Chooses (plan_in c.args.self.now.sheet) c.args.self.now.machine c.args.word (Join c.in-Join.d c.in-Join.i c.in-Join.j) = rw c.in-Join.is at c.choose-choice.ensures in
     let n = (g.R.Rig.state c.args.rig.now).faults in
     went-still c.args.self.now c.join.new.self (g.R.Rig.state c.args.rig.now) c.requires.stands.stack c.join.ensures.stays (c.join.ensures.walks (c.args.word, h, c.requires.some)) (let e = ap medium_replies c.join.ensures.settles.replies in omega (arith, e))
-    (still_counts c.args.self.now c.join.new.self c.args.word c.args.cut n n (Join c.in-Join.d c.in-Join.i c.in-Join.j) tt tt c.join.ensures.stays h c.requires.some (c.join.ensures.step c.args.cut) c.join.ensures.settles.kept (omega arith) (same_counts c.args.self.now.replies.items c.join.new.self.replies.items n c.join.ensures.settles.replies))
+    (still_counts (g.R.Rig.state c.args.rig.now).armed c.args.self.now c.join.new.self c.args.word c.args.cut n n (Join c.in-Join.d c.in-Join.i c.in-Join.j) tt tt c.join.ensures.stays h c.requires.some (c.join.ensures.step c.args.cut) c.join.ensures.settles.kept (omega arith) (same_counts c.args.self.now.replies.items c.join.new.self.replies.items n c.join.ensures.settles.replies))
 
 pub returns-in-Join-clause-sends : goal.returns-in-Join-clause-sends
 returns-in-Join-clause-sends g c =
@@ -160,7 +160,7 @@ returns-in-Admit-clause-went g c =
     let h : Chooses (plan_in c.args.self.now.sheet) c.args.self.now.machine c.args.word (Admit c.in-Admit.q) = rw c.in-Admit.is at c.choose-choice.ensures in
     let a = c.args.rig.now in
     went-entered c.args.self.now c.admit.new.self (g.R.Rig.state c.args.rig.now) (g.R.Rig.state c.admit.new.rig) c.requires.stands.stack c.admit.ensures.stays (c.admit.ensures.walks (c.args.word, h, c.requires.some)) c.admit.ensures.rig.stays c.admit.ensures.rig.keeps.log (g.met.R.Rig.laid a) (g.met.R.Rig.ready a) c.admit.ensures.fails
-    (still_counts c.args.self.now c.admit.new.self c.args.word c.args.cut (g.R.Rig.state c.args.rig.now).faults (g.R.Rig.state c.admit.new.rig).faults (Admit c.in-Admit.q) tt tt c.admit.ensures.stays h c.requires.some (c.admit.ensures.step c.args.cut) c.admit.ensures.kept c.admit.ensures.rig.stays.count c.admit.ensures.fails)
+    (still_counts (g.R.Rig.state c.args.rig.now).armed c.args.self.now c.admit.new.self c.args.word c.args.cut (g.R.Rig.state c.args.rig.now).faults (g.R.Rig.state c.admit.new.rig).faults (Admit c.in-Admit.q) tt tt c.admit.ensures.stays h c.requires.some (c.admit.ensures.step c.args.cut) c.admit.ensures.kept c.admit.ensures.rig.stays.count c.admit.ensures.fails)
     c.admit.ensures.rig.answered
 
 pub returns-in-Admit-clause-sends : goal.returns-in-Admit-clause-sends
