@@ -1,11 +1,13 @@
 //! Which premises of the theorems a script meets by its form.
 
 ghost use Rattle.std.specs.Prelude.{◌≡◌, ◌++◌, get_or, length, IfOk, OnOk, Some};
-ghost use Rattle.fault_marks.specs.Premises.{calm_at, escape_at, fault_line_at, op_line_at, overwrite_at, premise_line, premise_lines, shown_at};
-ghost use Rattle.run_premises.specs.Forms.{good_lines};
+ghost use Rattle.fault_marks.specs.Premises.{calm_at, escape_at, fault_line_at, known_at, op_line_at, overwrite_at, premise_line, premise_lines, shown_at};
+ghost use Rattle.run_premises.specs.Forms.{good_lines, known_lines};
 
 use crate::texts::add_number;
-use run_premises::{escapes_none, first_escape, first_overwrite, formed_lines, shows_by_form};
+use run_premises::{
+    accounts_by_form, escapes_none, first_escape, first_overwrite, formed_lines, shows_by_form,
+};
 use script_text::Script;
 use std::alloc::{AllocError, Global};
 
@@ -66,7 +68,22 @@ fn shown_at(alloc: Global, script: &Script) -> Result<Option<u32>, AllocError>
         return Ok(None);
     }
     let formed = formed_lines(alloc, kind, script.block, faults, ops)?;
-    match fault_line_at(script, formed) {
+    match fault_line_at(script, formed.shown) {
+        Some(line) => Ok(Some(line)),
+        None => Ok(overwrite_at(script)),
+    }
+}
+
+/// The first line whose fault isn't accounted for.
+fn known_at(alloc: Global, script: &Script) -> Result<Option<u32>, AllocError>
+    ensures { IfOk result (λ line. line ≡ known_at script.now) }
+{
+    let (kind, faults, ops) = (script.mode.kind, &script.faults, &script.ops);
+    if accounts_by_form(alloc, kind, script.block, faults, ops)? {
+        return Ok(None);
+    }
+    let formed = formed_lines(alloc, kind, script.block, faults, ops)?;
+    match fault_line_at(script, formed.known) {
         Some(line) => Ok(Some(line)),
         None => Ok(overwrite_at(script)),
     }
@@ -104,7 +121,9 @@ pub(crate) fn add_premises(
     ensures { OnOk result (out.new.items ≡ out.old.items ++ premise_lines script.now) }
 {
     let shown = shown_at(alloc, script)?;
+    let known = known_at(alloc, script)?;
     add_premise(out, b"calm", calm_at(script))?;
     add_premise(out, b"shown", shown)?;
+    add_premise(out, b"known", known)?;
     add_premise(out, b"unescaped", escape_at(script))
 }

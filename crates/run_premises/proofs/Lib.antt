@@ -11,6 +11,7 @@ mod Named
 pub mod Near
 pub mod OneWay
 pub mod Passed
+pub mod Prefixes
 pub mod Runs
 pub mod Shown
 pub mod Sums

@@ -81,9 +81,6 @@ module _ (m' : Setting) (ops : List Op) (even : m'.size % 2 ≡ 0) (flips : All 
   pub its_lines : (b : Block) (at : Crossing) → has_flip m b at ≡ true → is_shown n (kind_at kind at) (mask_of n faults at (route m b).label) ≡ true
   its_lines b at q = (the_line b at q).shown
 
-  crossed_fine : (b : Block) (at : Crossing) (x : List ℕ) → Fine x → Fine (crossed m b at x)
-  crossed_fine b at x h = fine_crossed m' even flips b (its_lines b) at x h
-
   pub mapped_fine : (from to : ℕ) (x : List ℕ) → Fine x → Fine (data_of n x ++ remapped_bytes One from to (drop n x))
   mapped_fine from to x h = fine_mapped m' from to x h
 
@@ -95,18 +92,6 @@ module _ (m' : Setting) (ops : List Op) (even : m'.size % 2 ≡ 0) (flips : All 
 
   pub received_right : (b : Block) (x : List ℕ) → Fine x → Right Crc x → Right kind (received (route m b) x)
   received_right b x h r = right_received m' b x h r
-
-  abbrev pub Kept : Block → WayOut → Type 0
-  Kept b w = KeptFrame m' even flips b (its_lines b) w
-
-  pub goes_shown : (b : Block) (f : List ℕ) → Fine f → (has_flip m b HostToAdapter ≡ true → Right kind f) → shows_out m b f ≡ true
-  goes_shown b f h brings = shown_out m' even flips b (its_lines b) f h brings
-
-  pub goes_kept : (b : Block) (f : List ℕ) → Fine f → Kept b (way_out faults m.site.device (route m b) f)
-  goes_kept b f h = kept_out m' even flips b (its_lines b) f h
-
-  pub comes_shown : (b : Block) (stored : List ℕ) → Fine stored → has_shift m b MediumToTarget ≡ false → (has_flip m b MediumToTarget ≡ true → Right Crc stored) → shows_in m b stored ≡ true
-  comes_shown b stored h unshifted right = shown_in m' even flips b (its_lines b) stored h unshifted right
 
   abbrev pub OfBytes : WayIn → Type 0
   OfBytes w = DeliversBytes w

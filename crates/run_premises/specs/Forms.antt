@@ -134,6 +134,10 @@ is_known_line kind size faults ops line = is_known_kind kind size faults ops lin
 abbrev pub accounts_by_form : GuardKind → (size : ℕ) → List FaultLine → List Op → Bool
 accounts_by_form kind size faults ops = list_all (is_known_line kind size faults ops) faults && not (list_any is_overwrite ops)
 
+-- how many lines stand before the first that isn't of these
+abbrev pub known_lines : GuardKind → (size : ℕ) → List FaultLine → List Op → ℕ
+known_lines kind size faults ops = prefix_len (is_known_line kind size faults ops) faults
+
 -- ---- escapes
 
 -- Neither a `write` with the application tag FFFFh nor a tuple that an application brings.

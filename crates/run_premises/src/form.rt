@@ -4,7 +4,7 @@ ghost use Rattle.std.specs.Prelude.{◌≡◌, ◌+◌, ◌∷◌, false, length
 ghost use Rattle.std.specs.List.{list_all, list_any, position};
 ghost use Rattle.run_laws.specs.Passed.{is_flip};
 ghost use Rattle.stack_ops.specs.Ops.{first_virt, is_overwrite};
-ghost use Rattle.run_premises.specs.Forms.{brings_tuples, escapes_none, good_lines, is_good_line, is_near, is_none, is_seen, is_shown, is_shown_line, is_stored_altered, kind_at, label_of, may_mend, may_undo, op_of, shows_by_form, stores, supplies_none, virt_of};
+ghost use Rattle.run_premises.specs.Forms.{accounts_by_form, brings_tuples, escapes_none, good_lines, is_good_line, is_known_line, is_led_away, is_near, is_none, is_seen, is_shown, is_shown_line, is_stored_altered, kind_at, known_lines, label_of, may_mend, may_undo, misdirects, op_of, shows_by_form, stores, supplies_none, virt_of};
 
 use fault_schedule::{Crossing, FaultKind, FaultLine, FaultList, Label, Tamper};
 use pi_guard::{GuardKind, crc16};
@@ -157,24 +157,76 @@ fn has_overwrite(ops: &[Op]) -> bool
     ops.iter().any(|op| op.is_overwrite())
 }
 
-/// How many lines stand before the first that isn't good; the bytes are room for a frame.
-fn good_lines(
+/// The faults and the ops of a script, by which the form of a line is judged.
+#[derive(Clone, Copy)]
+struct Scene<'a> {
     kind: GuardKind,
     size: usize,
-    tamper: &Tamper,
-    lines: &[FaultLine],
-    ops: &[Op],
-    frame: &mut [u8],
-) -> usize
-    requires room { length frame.old ≡ size + TUPLE }
-    requires armed { tamper.now ≡ lines.now }
-    ensures { result ≡ good_lines kind size lines.now ops.now }
+    tamper: &'a Tamper,
+    lines: &'a [FaultLine],
+    ops: &'a [Op],
+}
+
+/// Whether a line is a flip that is shown, mends no tuple and undoes no other. The bytes are room for a frame.
+fn is_good_line(scene: &Scene, line: &FaultLine, frame: &mut [u8]) -> bool
+    requires room { length frame.old ≡ scene.now.size + TUPLE }
+    requires armed { scene.now.tamper.now ≡ scene.now.lines.now }
+    ensures good { result ≡ is_good_line scene.now.kind scene.now.size scene.now.lines.now scene.now.ops.now line.now }
+    ensures room { length frame.new ≡ scene.now.size + TUPLE }
 {
-    let mut rest = lines;
+    is_shown_line(scene.kind, scene.size, scene.tamper, line, frame)
+        && !may_mend(scene.ops, line)
+        && !may_undo(scene.ops, scene.lines, line)
+}
+
+/// Whether a line leads the blocks of this op elsewhere when they are stored.
+fn misdirects(op: u32, line: &FaultLine) -> bool
+    ensures { result ≡ misdirects op line.now }
+{
+    line.at == Crossing::TargetToMedium
+        && line.op == op
+        && matches!(line.kind, FaultKind::Shift { .. })
+}
+
+fn is_misdirected(lines: &[FaultLine], op: u32) -> bool
+    ensures { result ≡ list_any (misdirects op) lines.now }
+{
+    lines.iter().any(|line| misdirects(op, line))
+}
+
+fn is_led_away(lines: &[FaultLine], line: &FaultLine) -> bool
+    ensures { result ≡ is_led_away lines.now line.now }
+{
+    line.at == Crossing::TargetToMedium && is_misdirected(lines, line.op)
+}
+
+/// Whether a line is accounted for by its form. The bytes are room for a frame.
+fn is_known_line(scene: &Scene, line: &FaultLine, frame: &mut [u8]) -> bool
+    requires room { length frame.old ≡ scene.now.size + TUPLE }
+    requires armed { scene.now.tamper.now ≡ scene.now.lines.now }
+    ensures known { result ≡ is_known_line scene.now.kind scene.now.size scene.now.lines.now scene.now.ops.now line.now }
+    ensures room { length frame.new ≡ scene.now.size + TUPLE }
+{
+    match line.kind {
+        FaultKind::Flip { .. } => {
+            is_good_line(scene, line, frame) && !is_led_away(scene.lines, line)
+        }
+        FaultKind::Shift { .. } => line.at == Crossing::TargetToMedium,
+        FaultKind::Keep { bytes } => bytes == 0,
+        FaultKind::Fail => true,
+    }
+}
+
+/// How many lines stand before the first that isn't good; the bytes are room for a frame.
+fn good_lines(scene: &Scene, frame: &mut [u8]) -> usize
+    requires room { length frame.old ≡ scene.now.size + TUPLE }
+    requires armed { scene.now.tamper.now ≡ scene.now.lines.now }
+    ensures { result ≡ good_lines scene.now.kind scene.now.size scene.now.lines.now scene.now.ops.now }
+{
+    let mut rest = scene.lines;
     let mut good = 0;
     while let [line, more @ ..] = rest {
-        let shown = is_shown_line(kind, size, tamper, line, frame);
-        if !shown || may_mend(ops, line) || may_undo(ops, lines, line) {
+        if !is_good_line(scene, line, frame) {
             return good;
         }
         good += 1;
@@ -183,28 +235,60 @@ fn good_lines(
     good
 }
 
-/// How many fault lines stand before the first that lacks the form (`shows_by_form`), in the same time. Its one failure
-/// is want of memory.
+/// How many lines stand before the first that isn't accounted for; the bytes are room for a frame.
+fn known_lines(scene: &Scene, frame: &mut [u8]) -> usize
+    requires room { length frame.old ≡ scene.now.size + TUPLE }
+    requires armed { scene.now.tamper.now ≡ scene.now.lines.now }
+    ensures { result ≡ known_lines scene.now.kind scene.now.size scene.now.lines.now scene.now.ops.now }
+{
+    let mut rest = scene.lines;
+    let mut known = 0;
+    while let [line, more @ ..] = rest {
+        if !is_known_line(scene, line, frame) {
+            return known;
+        }
+        known += 1;
+        rest = more;
+    }
+    known
+}
+
+/// How many fault lines stand before the first that lacks a form: before the first that tuples may not show
+/// (`shows_by_form`), and before the first that isn't accounted for (`accounts_by_form`).
+#[derive(Clone, Copy)]
+pub struct FormedLines {
+    /// Those that are shown.
+    pub shown: usize,
+    /// Those that are accounted for.
+    pub known: usize,
+}
+
+/// Counts the fault lines before the first that lacks a form. The time is the square of the number of lines, which is at
+/// most 256. Its one failure is want of memory.
 pub fn formed_lines(
     alloc: Global,
     kind: GuardKind,
     block: u32,
     faults: &FaultList,
     ops: &OpList,
-) -> Result<usize, AllocError>
-    ensures { IfOk result (λ n. n ≡ good_lines kind block faults.now ops.now) }
+) -> Result<FormedLines, AllocError>
+    ensures shown { IfOk result (λ n. n.shown ≡ good_lines kind block faults.now ops.now) }
+    ensures known { IfOk result (λ n. n.known ≡ known_lines kind block faults.now ops.now) }
 {
     let size = block as usize;
     let tamper = Tamper::new(faults.copy(alloc)?);
     let mut frame = vec![in alloc; 0u8; size + TUPLE]?;
-    Ok(good_lines(
+    let scene = Scene {
         kind,
         size,
-        &tamper,
-        faults.as_slice(),
-        ops.as_slice(),
-        frame.as_mut_slice(),
-    ))
+        tamper: &tamper,
+        lines: faults.as_slice(),
+        ops: ops.as_slice(),
+    };
+    Ok(FormedLines {
+        shown: good_lines(&scene, frame.as_mut_slice()),
+        known: known_lines(&scene, frame.as_mut_slice()),
+    })
 }
 
 /// The place of the first op that may supply an escape (`escapes_none`).
@@ -236,8 +320,25 @@ pub fn shows_by_form(
 ) -> Result<bool, AllocError>
     ensures { IfOk result (λ shows. shows ≡ shows_by_form kind block faults.now ops.now) }
 {
-    let good = formed_lines(alloc, kind, block, faults, ops)?;
-    Ok(good == faults.as_slice().len() && !has_overwrite(ops.as_slice()))
+    let formed = formed_lines(alloc, kind, block, faults, ops)?;
+    Ok(formed.shown == faults.as_slice().len() && !has_overwrite(ops.as_slice()))
+}
+
+/// Whether faults are accounted for by their form: each line is a flip as in `shows_by_form`, of no block that is stored
+/// elsewhere, or it loses a block, fails one, or leads a write elsewhere at the medium; and no op overwrites a stored
+/// block. Then, as there, each block of a read is the last write's that was stored at its place, or it is told who ends
+/// it. Time and failure are those of `formed_lines`.
+pub fn accounts_by_form(
+    alloc: Global,
+    kind: GuardKind,
+    block: u32,
+    faults: &FaultList,
+    ops: &OpList,
+) -> Result<bool, AllocError>
+    ensures { IfOk result (λ known. known ≡ accounts_by_form kind block faults.now ops.now) }
+{
+    let formed = formed_lines(alloc, kind, block, faults, ops)?;
+    Ok(formed.known == faults.as_slice().len() && !has_overwrite(ops.as_slice()))
 }
 
 fn supplies_none(op: &Op) -> bool

@@ -24,7 +24,10 @@ ghost use Rattle.pi_tuple.specs.declared.TheConstants.{TUPLE};
 
 mod form;
 
-pub use form::{escapes_none, first_escape, first_overwrite, formed_lines, shows_by_form};
+pub use form::{
+    FormedLines, accounts_by_form, escapes_none, first_escape, first_overwrite, formed_lines,
+    shows_by_form,
+};
 
 /// A law: bytes of data and guard that are altered within two neighbouring ones, which aren't both xored with FFh, are
 /// seen by either guard.

@@ -5,9 +5,9 @@ use Rattle.run_premises.proofs.form.good_lines.Given as goal
 
 abbrev pub invariant-loop-rest : goal.invariant-loop-rest
 invariant-loop-rest l = record {
-  frame : length l.frame ≡ l.size + 8;
-  good : l.good + prefix_len (is_good_line l.kind l.size l.lines l.ops) l.rest ≡ good_lines l.kind l.size l.lines l.ops;
-  some : l.good + length l.rest ≡ length l.lines;
+  frame : length l.frame ≡ l.scene.size + 8;
+  good : l.good + prefix_len (is_good_line l.scene.kind l.scene.size l.scene.lines.now l.scene.ops.now) l.rest ≡ good_lines l.scene.kind l.scene.size l.scene.lines.now l.scene.ops.now;
+  some : l.good + length l.rest ≡ length l.scene.lines.now;
 }
 
 abbrev pub decreases-loop-rest : goal.decreases-loop-rest

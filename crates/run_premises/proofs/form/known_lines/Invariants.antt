@@ -1,0 +1,14 @@
+use Rattle.std.proofs.Common.{◌≡◌, ◌+◌, length}
+use Rattle.std.specs.List.{prefix_len}
+use Rattle.run_premises.specs.Forms.{known_lines, is_known_line}
+use Rattle.run_premises.proofs.form.known_lines.Given as goal
+
+abbrev pub invariant-loop-rest : goal.invariant-loop-rest
+invariant-loop-rest l = record {
+  frame : length l.frame ≡ l.scene.size + 8;
+  known : l.known + prefix_len (is_known_line l.scene.kind l.scene.size l.scene.lines.now l.scene.ops.now) l.rest ≡ known_lines l.scene.kind l.scene.size l.scene.lines.now l.scene.ops.now;
+  some : l.known + length l.rest ≡ length l.scene.lines.now;
+}
+
+abbrev pub decreases-loop-rest : goal.decreases-loop-rest
+decreases-loop-rest l = length l.rest
