@@ -2,7 +2,6 @@
 use Rattle.std.proofs.Common.{◌≡◌, ◌<◌, ℕ, true, false, List, [], map, Some, None, sym, ap, subst, ◌∙◌}
 use Rattle.std.specs.Prelude.{All, Option, IfOk, Result, Ok, Err}
 use Rattle.dix_base.specs.Told.{Calm}
-use Rattle.fault_schedule.specs.Altered.{has_fail}
 use Rattle.pi_tuple.specs.Finds.{is_zero}
 use Rattle.pi_tuple.specs.declared.checks.PiType.TheVariants.{One}
 use Rattle.rig_api.specs.Headers.{is_layout}
@@ -45,7 +44,6 @@ use Rattle.image_rig.proofs.FreshHead.{right_head, units_back}
 use Rattle.headline.proofs.FreshLegs.{equal_legs}
 use Rattle.image_laws.proofs.Got.{got_intact as ran_intact, got_plain, got_walked}
 use Rattle.headline.proofs.GotMirrored.{got_intact, got_served}
-use Rattle.headline.proofs.Unfailing.{formed_unfailing}
 use Rattle.image_laws.proofs.Told.{IsAfter, after, head_asked, image_after, units_asked}
 
 -- ---- over the image
@@ -219,7 +217,7 @@ faultless script image image' units run o fresh app p = record {
 
 -- ---- a mirror
 
--- what a run on a mirror did, where no line says that the medium fails a block
+-- what a run on a mirror did
 pub record MirroredOver (script : Script) (image image' : List ℕ) (run : Mirrored) : Type 0 where
   pub left : List Stored
   pub after : IsAfter image image' left
@@ -227,13 +225,13 @@ pub record MirroredOver (script : Script) (image image' : List ℕ) (run : Mirro
   pub served : HasServedMirror script (devices_of image) (own_units image) left run.mirror.state.pool run.mirror.replies.items run.mirror.state.marks.items run.repair.repaired run.repair.lost
   pub legs : OnIntactLegs script (devices_of image) (own_units image) left run.repair.lost
 
-mirrored_over : (script : Script) (image text image' : List ℕ) (f : Facts) (name : List ℕ) (run : Mirrored) → IsCalled Mirror image text image' f → head_fault (head_of image) ≡ None → has_fail script.faults ≡ false → HasMirrored run script name f.rig f.rig_after → MirroredOver script image image' run
-mirrored_over script image text image' f name run called right served r =
+mirrored_over : (script : Script) (image text image' : List ℕ) (f : Facts) (name : List ℕ) (run : Mirrored) → IsCalled Mirror image text image' f → head_fault (head_of image) ≡ None → HasMirrored run script name f.rig f.rig_after → MirroredOver script image image' run
+mirrored_over script image text image' f name run called right r =
     let ds : r.devices ≡ devices_of image = image_devices name r.devices f.rig r.told image r.asked called.image_is in
     let us = own_units image in
     let units : r.told.units ≡ Some us = units_asked name r.devices f.rig r.told image called.image_is r.asked in
-    let s = got_served run script name f.rig f.rig_after us r units served called.faults in
-    let e = got_intact run script name f.rig f.rig_after us r units served called.faults in
+    let s = got_served run script name f.rig f.rig_after us r units called.faults in
+    let e = got_intact run script name f.rig f.rig_after us r units called.faults in
     record {
       left = s.0;
       made = subst (λ (d : List DeviceInfo). MadeFor (table_over script.entries d) d script.block) ds r.bound.made;
@@ -273,7 +271,8 @@ mended script image image' text' run result o is p legs =
       clean = legs.clean;
       equal = legs.equal;
       no_escape = p.no_escape;
-      shown = p.shown;
+      accounted = p.accounted;
+      kept = p.kept;
       one_good = p.one_good;
     } in
     mended_by script image image' text' run result o is (o.legs.enough premise)
@@ -334,12 +333,12 @@ headlined way image text image' text' f o n result called memory sink carries = 
   mirrored = λ script is right fits.
       let c = mirror_at script is right fits in
       let over = mirror_over_at script is right fits c in
-      let done = λ (served : has_fail script.faults ≡ false). mirrored script image image' text' c.run result right (over served) c.status_is c.text_is in
+      let done = mirrored script image image' text' c.run result right over c.status_is c.text_is in
       record {
         walked = done;
-        mended = λ p. mended script image image' text' c.run result (over p.served) (done p.served) p;
-        mended_formed = λ p. let served = formed_unfailing script _ p.form in mended_formed script image image' text' c.run result (over served) (done served) p;
-        mended_still = λ p. let served = ap has_fail p.still.faults in mended_still script image image' text' c.run result (over served) (done served) p;
+        mended = mended script image image' text' c.run result over done;
+        mended_formed = mended_formed script image image' text' c.run result over done;
+        mended_still = mended_still script image image' text' c.run result over done;
       };
   fresh_ran = λ script units is fresh fits app.
       let right = fresh_head units fresh in
@@ -356,12 +355,12 @@ headlined way image text image' text' f o n result called memory sink carries = 
       let right = fresh_head units fresh in
       let c = mirror_at script is right fits in
       let over = mirror_over_at script is right fits c in
-      let done = λ (served : has_fail script.faults ≡ false). mirrored script image image' text' c.run result right (over served) c.status_is c.text_is in
-      let legs = λ (served : has_fail script.faults ≡ false). fresh_legs script image image' units c.run (over served) fresh app in
+      let done = mirrored script image image' text' c.run result right over c.status_is c.text_is in
+      let legs = fresh_legs script image image' units c.run over fresh app in
       record {
-        mended = λ p. mended script image image' text' c.run result (over p.served) (done p.served) p (legs p.served p.ty);
-        mended_formed = λ p. let served = formed_unfailing script _ p.form in mended_formed script image image' text' c.run result (over served) (done served) p (legs served p.ty);
-        mended_still = λ p. let served = ap has_fail p.still.faults in mended_still script image image' text' c.run result (over served) (done served) p (legs served p.ty);
+        mended = λ p. mended script image image' text' c.run result over done p (legs p.ty);
+        mended_formed = λ p. mended_formed script image image' text' c.run result over done p (legs p.ty);
+        mended_still = λ p. mended_still script image image' text' c.run result over done p (legs p.ty);
       };
 }
   where
@@ -381,8 +380,8 @@ headlined way image text image' text' f o n result called memory sink carries = 
     mirror_at : (script : Script) → way ≡ Mirror → head_fault (head_of image) ≡ None → FitsMirror script image text → CameToMirror script f result text'
     mirror_at script is right fits = came_to_mirror script image text image' text' f o n result (subst (λ w. IsCalled w image text image' f) is called) right fits memory sink carries
 
-    mirror_over_at : (script : Script) → way ≡ Mirror → head_fault (head_of image) ≡ None → FitsMirror script image text → (c : CameToMirror script f result text') → has_fail script.faults ≡ false → MirroredOver script image image' c.run
-    mirror_over_at script is right fits c served = mirrored_over script image text image' f _ c.run (subst (λ w. IsCalled w image text image' f) is called) right served c.ran
+    mirror_over_at : (script : Script) → way ≡ Mirror → head_fault (head_of image) ≡ None → FitsMirror script image text → (c : CameToMirror script f result text') → MirroredOver script image image' c.run
+    mirror_over_at script is right fits c = mirrored_over script image text image' f _ c.run (subst (λ w. IsCalled w image text image' f) is called) right c.ran
 
 -- ---- what a call answers
 

@@ -1,6 +1,5 @@
 mod FreshLegs
 mod GotMirrored
-mod Unfailing
 mod Coming
 mod Refused
 mod Headlined

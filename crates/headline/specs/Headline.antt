@@ -1,7 +1,6 @@
 -- What a script does to an image, from bytes to bytes. The schedule, which says in what order commands are sent, merged and answered, is part of the script's text; no sentence here hangs on it, nor on the script's limits.
 use Rattle.std.specs.Prelude.{ℕ, ◌≡◌, ◌+◌, ◌<◌, true, false, List, [], get_or, Option, Some, None, Result, Ok, Err}
 use Rattle.std.specs.List.{list_any}
-use Rattle.fault_schedule.specs.Altered.{has_fail}
 use Rattle.pi_tuple.specs.declared.checks.PiType.TheVariants.{One}
 use Rattle.rig_api.specs.Headers.{is_layout}
 use Rattle.rig_api.specs.Image.{formatted}
@@ -28,7 +27,7 @@ use Rattle.script_text.specs.declared.script.Script.{Script}
 use Rattle.image_laws.specs.Passed.{has_bad, AllReadRightly, AllReadStored, devices_of}
 use Rattle.mirror_script.specs.MirrorFaults.{mirror_fault}
 use Rattle.mirror_laws.specs.Mirror.{mirror_replies}
-use Rattle.mirror_laws.specs.OneGood.{OneGood, script_asks}
+use Rattle.mirror_laws.specs.OneGood.{OneGood, loses_none, script_asks}
 use Rattle.mirror_laws.specs.Repair.{WalkedRepair}
 use Rattle.mirror_form_laws.specs.Forms.{leaves_a_leg, shows_on_legs}
 use Rattle.dix_run.specs.Passed.{repair_over, is_any_lost, mirror_text, AllReadLast, BothHoldLast, half_of, mirror_setting}
@@ -148,16 +147,17 @@ pub record IsAccountableText (script : Script) (image : List ℕ) : Type 0 where
   pub no_escape : NoEscape (setting_over script image) 1 script.ops (opening_over script image)
   pub accounted : accounted (setting_over script image) (steps_from (setting_over script image) 1 script.ops) (opening_over script image) ≡ true
 
--- The volume is of type 1, and commands have protect field 001b. No line says that the medium fails a block, no write supplies an escape, each alteration can be shown, and each block has a leg on which no fault line alters it on its way, and no overwrite in its place.
+-- The volume is of type 1, and commands have protect field 001b. No write supplies an escape, each alteration can be shown, a block of which the medium stores a part is found, and no block is lost: a leg that lies is believed.
+-- Each block has a leg on which no fault line alters it on its way, and no overwrite in its place, and whose medium does what is asked of it; on the other leg the medium may fail blocks.
 pub record HasGoodLegs (script : Script) (image : List ℕ) : Type 0 where
   pub ty : (volume_over script image).ty ≡ One
   pub protect : script.mode.protect ≡ 1
-  pub served : has_fail script.faults ≡ false
   pub no_escape : NoneEscapes (mirror_over script image) (asked_of_legs script image) (opening_over script image)
-  pub shown : detectable (mirror_over script image) (asked_of_legs script image) (opening_over script image) ≡ true
-  pub one_good : OneGood (mirror_over script image) (half_over script image) script.ops
+  pub accounted : accounted (mirror_over script image) (asked_of_legs script image) (opening_over script image) ≡ true
+  pub kept : loses_none (mirror_over script image) (asked_of_legs script image) ≡ true
+  pub one_good : OneGood (mirror_over script image) (half_over script image) script.ops (opening_over script image)
 
--- The same by the script's form: the faults have the form under which each is shown, none names a block that another names on the other leg, there is no overwrite, and no `write` has the application tag FFFFh.
+-- The same by the script's form: the faults have the form under which each is shown, or is of a block that the medium fails, none names a block that another names on the other leg, there is no overwrite, and no `write` has the application tag FFFFh.
 pub record HasFormedLegs (script : Script) (image : List ℕ) : Type 0 where
   pub ty : (volume_over script image).ty ≡ One
   pub protect : script.mode.protect ≡ 1
@@ -248,8 +248,8 @@ pub record RunLeaves (script : Script) (image : List ℕ) (status : Status) (rep
 
 -- What `mirror` leaves of it.
 pub record MirrorLeaves (script : Script) (image : List ℕ) (status : Status) (report' image' : List ℕ) : Type 0 where
-  -- Where no line says that the medium fails a block, it is as if the ops were done one after another on both legs, and the repair behind them.
-  pub walked : has_fail script.faults ≡ false → IsMirrored script image status report' image'
+  -- Whatever the schedule, it is as if the ops were done one after another on both legs, and the repair behind them.
+  pub walked : IsMirrored script image status report' image'
   -- In type 1 under protect field 001b, over clean and equal legs, one good leg for each block is enough.
   pub mended : HasGoodLegs script image → AreEqualLegs script image → IsMended script image report' image'
   -- So it is by the script's form.

@@ -1,9 +1,8 @@
 -- A script that was run on a mirror over an image.
 use Rattle.std.proofs.Common.{◌≡◌, ℕ, List, [], ◌++◌, length, map, Some, sym, ap, ◌∙◌, subst}
-use Rattle.std.specs.Prelude.{false, is_some}
-use Rattle.dix_base.specs.Told.{AreOctets, Calm}
+use Rattle.std.specs.Prelude.{is_some}
+use Rattle.dix_base.specs.Told.{AreOctets}
 use Rattle.rig_api.specs.Telling.{IsStanding, Standing, units_told}
-use Rattle.fault_schedule.specs.Altered.{has_fail}
 use Rattle.rig_api.specs.State.{RigState}
 use Rattle.rig_discovery.specs.Discovery.{info_of}
 use Rattle.rig_api.specs.Target.{Stored}
@@ -13,7 +12,7 @@ use Rattle.script_text.specs.declared.script.Script.{Script}
 use Rattle.run_command.specs.Passed.{KnownBlocks, SizesAre}
 use Rattle.run_command.proofs.Devices.{has_device, image_holds, known_infos}
 use Rattle.run_command.specs.Verdict.{HoldsBlocks, WasAsked}
-use Rattle.mirror_volume.specs.Passed.{NamesNoMedium, HasLegDevices, IsBoundMirror, IsMirrorOver, IsRepairedAs}
+use Rattle.mirror_volume.specs.Passed.{NoneUnscheduled, HasLegDevices, IsBoundMirror, IsMirrorOver, IsRepairedAs}
 use Rattle.mirror_volume.proofs.Passed.{calm-unnamed}
 use Rattle.mirror_volume.specs.declared.mirror.Mirror.{Mirror}
 use Rattle.mirror_volume.proofs.Enough.{repaired-all}
@@ -90,7 +89,7 @@ module _ (law : EnoughLaw) (by_form : FormedLaw) (unfaulted : StillLaw) (s : Scr
   -- by one of the laws, what it asks being `P`
   by-law : (P : List Stored → Type 0) → ((us left : List Stored) (marks : List Marks) (repaired lost : ℕ) → IsMirrorOver s devices us → HoldsBytes us → P us → IsRepairedAs s devices us (length s.ops) marks repaired lost left → WasEnough s devices us left lost)
       → (run : Mirrored) → (ended : Finished s devices (stage_of begun [] told) run.mirror run.repair.repaired run.repair.lost new)
-      → (known : KnownBlocks told new) → NamesNoMedium (ended.stage.runs ++ ended.runs) run.mirror.replies.items → P known.before → WasEnough s devices known.before known.after run.repair.lost
+      → (known : KnownBlocks told new) → NoneUnscheduled (ended.stage.runs ++ ended.runs) run.mirror.replies.items → P known.before → WasEnough s devices known.before known.after run.repair.lost
   by-law P says run ended known none p =
       let us = known.before in
       let x = ended.told us known.began none in
@@ -99,11 +98,11 @@ module _ (law : EnoughLaw) (by_form : FormedLaw) (unfaulted : StillLaw) (s : Scr
       (as-repaired s devices us x.0 run.mirror.state.pool run.mirror.replies.items run.mirror.state.marks.items run.repair.repaired run.repair.lost x.1.1))
 
   enough : (run : Mirrored) → (ended : Finished s devices (stage_of begun [] told) run.mirror run.repair.repaired run.repair.lost new)
-      → (known : KnownBlocks told new) → NamesNoMedium (ended.stage.runs ++ ended.runs) run.mirror.replies.items → IsOneGoodRun s devices known.before → WasEnough s devices known.before known.after run.repair.lost
+      → (known : KnownBlocks told new) → NoneUnscheduled (ended.stage.runs ++ ended.runs) run.mirror.replies.items → IsOneGoodRun s devices known.before → WasEnough s devices known.before known.after run.repair.lost
   enough = by-law (IsOneGoodRun s devices) (law s devices)
 
   still : (run : Mirrored) → (ended : Finished s devices (stage_of begun [] told) run.mirror run.repair.repaired run.repair.lost new)
-      → (known : KnownBlocks told new) → NamesNoMedium (ended.stage.runs ++ ended.runs) run.mirror.replies.items → IsStillMirror s devices known.before → WasEnough s devices known.before known.after run.repair.lost
+      → (known : KnownBlocks told new) → NoneUnscheduled (ended.stage.runs ++ ended.runs) run.mirror.replies.items → IsStillMirror s devices known.before → WasEnough s devices known.before known.after run.repair.lost
   still = by-law (IsStillMirror s devices) (unfaulted s devices)
 
   pub mirrored : (run : Mirrored) → Finished s devices (stage_of begun [] told) run.mirror run.repair.repaired run.repair.lost new → HasMirrored run s name old new
@@ -118,6 +117,7 @@ module _ (law : EnoughLaw) (by_form : FormedLaw) (unfaulted : StillLaw) (s : Scr
     tells = tells;
     tells_blocks = still_told told.image new.image told.standing new.standing told.units new.units up.laid laid tells;
     holds = holds ended.stretches.standing;
+    silent = calm-unnamed (ended.stage.runs ++ ended.runs) run.mirror.replies.items told.faults new.faults ended.unscheduled;
     intact = λ known none. record {
       enough = enough run ended known none;
       formed = λ p. enough run ended known none (by_form s devices known.before (over-told s name devices old told begun known.before up known.began) (bytes-told s name devices old told begun known.before up known.began) p);
@@ -141,12 +141,6 @@ module _ (law : EnoughLaw) (by_form : FormedLaw) (unfaulted : StillLaw) (s : Scr
     tells = tells;
     holds = holds (broke.under_way.standing ∙ broke.served.stretches.standing);
   }
-
--- Without `fail` lines, and while the count of faults doesn't rise, no line names the medium: neither of the report nor of a request on a leg.
-pub calm-names-none : (run : Mirrored) (s : Script) (name : List ℕ) (old new : RigState) (m : HasMirrored run s name old new) → has_fail s.faults ≡ false → Calm m.told.faults new.faults
-    → NamesNoMedium (m.ended.stage.runs ++ m.ended.runs) run.mirror.replies.items
-calm-names-none run s name old new m none calm =
-    calm-unnamed (m.ended.stage.runs ++ m.ended.runs) run.mirror.replies.items m.told.faults new.faults (m.ended.stretches.medium none) (m.ended.lines none) calm
 
 -- A rig that told these blocks tells some afterwards.
 abbrev pub known-told : (run : Mirrored) (s : Script) (name : List ℕ) (old new : RigState) (m : HasMirrored run s name old new) (us : List Stored) → m.told.units ≡ Some us → KnownBlocks m.told new

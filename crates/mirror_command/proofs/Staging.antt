@@ -5,7 +5,6 @@ use Rattle.std.proofs.Math.Seq.{take-length}
 use Rattle.std.proofs.lemmas.List.{length_push}
 use Rattle.std.proofs.lemmas.List.Elements.{All-push}
 use Rattle.page_pool.specs.Cells.{flat}
-use Rattle.fault_schedule.specs.Altered.{has_fail}
 use Rattle.rig_api.specs.Target.{Stored}
 use Rattle.block_path.specs.Serial.{plain}
 use Rattle.stack_ops.specs.declared.op.Op.{Op}
@@ -15,7 +14,7 @@ use Rattle.volume_table.specs.declared.device.DeviceInfo.{DeviceInfo}
 use Rattle.volume_table.specs.Tables.{Table}
 use Rattle.walk_laws.specs.Past.{steps_from}
 use Rattle.script_text.specs.declared.script.Script.{Script}
-use Rattle.run_command.specs.Passed.{table_of, RoseBy, medium_lines}
+use Rattle.run_command.specs.Passed.{table_of, RoseBy, medium_lines, medium_replies}
 use Rattle.run_command.specs.Layers.{NamesFaults}
 use Rattle.mirror_laws.specs.Mirror.{Mirror as Walk, count_of, done, mirror_opened, replies_from}
 use Rattle.mirror_laws.specs.Repair.{WalkedRepair, mirror_repair}
@@ -23,12 +22,12 @@ use Rattle.mirror_laws.specs.declared.marks.Marks.{Marks}
 use Rattle.mirror_volume.specs.declared.mirror.Mirror.{Mirror}
 use Rattle.std.specs.declared.alloc.AllocError.{AllocError}
 use Rattle.mirror_volume.specs.declared.repair.Repair.{Repair as Done}
-use Rattle.mirror_volume.specs.Passed.{AllBacked, AllOwn, GoOn, LegRun, NamesNoMedium, NoneFails, RanLegs, all_mediums, all_records, armed_after, IsRepairOf, RepairBy, stretches_in, OpAsks, OpBy, OpRan, OpTells, Sides, HasLegDevices, IsRepairedAs, KeepsToWalk, RepairsAsWalk, StandsAt, half_of, mirror_setting, op_at, walked}
+use Rattle.mirror_volume.specs.Passed.{AllBacked, AllOwn, GoOn, LegRun, NoneUnscheduled, RanLegs, all_records, all_unscheduled, armed_after, IsRepairOf, RepairBy, stretches_in, OpAsks, OpBy, OpRan, OpTells, Sides, HasLegDevices, IsRepairedAs, KeepsToWalk, RepairsAsWalk, StandsAt, half_of, mirror_setting, op_at, walked}
 use Rattle.mirror_volume.specs.declared.legs.Plan.{Plan}
 use Rattle.mirror_volume.specs.Enough.{opening_over}
 use Rattle.mirror_volume.specs.Plans.{IsMirror}
 use Rattle.mirror_volume.specs.Running.{CanGoOn}
-use Rattle.mirror_volume.proofs.Passed.{lines-append, op-lines, op-unfailing, repair-unfailing, rose-later, unnamed-first, unnamed-last, all_backed-append, all_mediums-append, all_records-append, armed-append, go_on-append, rose-add}
+use Rattle.mirror_volume.proofs.Passed.{lines-append, op-lines, op-unscheduled, overwrites-append, rose-later, unnamed-first, unnamed-last, all_backed-append, all_records-append, all_unscheduled-append, armed-append, go_on-append, rose-add}
 use Rattle.mirror_command.proofs.Naming.{op-named}
 use Rattle.mirror_command.specs.Stages.{Broke, Finished, HasServedMirror, InStretches, OneMore, Served, Stage, repair_over, walk_over}
 use Rattle.rig_api.specs.State.{RigState}
@@ -46,7 +45,7 @@ pub record Fell (t : Table) (devices : List DeviceInfo) (runs : List LegRun) (be
   pub faults : before.faults ≤ after.faults
   pub records : after.log ≡ before.log ++ all_records runs
   pub backed : AllBacked t devices runs
-  pub medium : NoneFails runs → RoseBy (all_mediums runs) before.faults after.faults
+  pub medium : RoseBy (all_unscheduled runs) before.faults after.faults
   pub armed : after.armed ≡ armed_after runs before.armed
 
 ran-fell : (t : Table) (devices : List DeviceInfo) (runs : List LegRun) (before after : RigState) → RanLegs t devices runs before after → Fell t devices runs before after
@@ -54,7 +53,7 @@ ran-fell t devices runs before after h = record { standing = h.standing; faults 
 
 altered-fell : (t : Table) (devices : List DeviceInfo) (runs : List LegRun) (before after : RigState) → runs ≡ [] → after.standing ≡ before.standing → before.faults ≤ after.faults → after.log ≡ before.log → after.armed ≡ before.armed → Fell t devices runs before after
 altered-fell t devices runs before after none standing faults log armed = subst (λ (rs : List LegRun). Fell t devices rs before after) (sym none)
-    (record { standing = standing; faults = faults; records = log ∙ sym (append-nil before.log); backed = tt; medium = λ none. inl (omega (arith, faults)); armed = armed })
+    (record { standing = standing; faults = faults; records = log ∙ sym (append-nil before.log); backed = tt; medium = inl (omega (arith, faults)); armed = armed })
 
 op-fell : (op : Op) (t : Table) (devices : List DeviceInfo) (runs : List LegRun) (before after : RigState) → OpRan op t devices runs before after → Fell t devices runs before after
 op-fell (Fill seg byte) t devices runs before after h = ran-fell t devices runs before after h
@@ -68,18 +67,24 @@ op-fell (FetchPi v n body tuples) t devices runs before after h = ran-fell t dev
 op-fell (Overwrite dev lba change) t devices runs before after h = altered-fell t devices runs before after h.none h.standing h.faults h.records h.armed
 op-fell Wait t devices runs before after h = ran-fell t devices runs before after h
 
-stretches-more : (s : Script) (devices : List DeviceInfo) (runs more : List LegRun) (used used' : ℕ) (before between after : RigState) → InStretches s devices runs used before between → Fell (table_of s devices) devices more between after → (has_fail s.faults ≡ false → NoneFails more)
+stretches-more : (s : Script) (devices : List DeviceInfo) (runs more : List LegRun) (used used' : ℕ) (before between after : RigState) → InStretches s devices runs used before between → Fell (table_of s devices) devices more between after
     → GoOn s.schedule used more used' → InStretches s devices (runs ++ more) used' before after
-stretches-more s devices runs more used used' before between after h k u g = record {
+stretches-more s devices runs more used used' before between after h k g = record {
   standing = k.standing ∙ h.standing;
   faults = (let a = h.faults in let b = k.faults in omega (arith, a, b));
   records = k.records ∙ ap (λ es. es ++ all_records more) h.records ∙ append_assoc before.log (all_records runs) (all_records more) ∙ ap (λ es. before.log ++ es) (sym (all_records-append runs more));
   backed = all_backed-append (table_of s devices) devices runs more h.backed k.backed;
-  medium = λ none. subst (λ n. RoseBy n before.faults after.faults) (sym (all_mediums-append runs more))
-      (rose-add (all_mediums runs) (all_mediums more) before.faults between.faults after.faults h.faults k.faults (h.medium none) (k.medium (u none)));
+  medium = subst (λ n. RoseBy n before.faults after.faults) (sym (all_unscheduled-append runs more))
+      (rose-add (all_unscheduled runs) (all_unscheduled more) before.faults between.faults after.faults h.faults k.faults h.medium k.medium);
   armed = k.armed ∙ ap (armed_after more) h.armed ∙ sym (armed-append runs more before.armed);
   goes = go_on-append s.schedule 0 used used' runs more h.goes g;
 }
+
+both-append : (xs ys : List LegRun) (first last : List Reply) → (all_unscheduled xs + medium_replies first) + (all_unscheduled ys + medium_replies last) ≡ all_unscheduled (xs ++ ys) + medium_replies (first ++ last)
+both-append xs ys first last = let a = all_unscheduled-append xs ys in let b = overwrites-append first last in omega (arith, a, b)
+
+legs-append : (xs ys : List LegRun) (replies : List Reply) → (all_unscheduled xs + medium_replies replies) + all_unscheduled ys ≡ all_unscheduled (xs ++ ys) + medium_replies replies
+legs-append xs ys replies = let a = all_unscheduled-append xs ys in omega (arith, a)
 
 -- A mirror that could go on still can, over a rig that stands as before.
 pub goes-on : {old new : Mirror} {before after : RigState} → CanGoOn old before → new.plan ≡ old.plan → IsMirror new → new.failed ≡ false → is_some after.image ≡ is_some before.image → after.standing ≡ before.standing → CanGoOn new after
@@ -105,10 +110,12 @@ module _ (s : Script) (devices : List DeviceInfo) (begun : Stage) where
       faults = omega arith;
       records = sym (append-nil begun.outside.log) ∙ ap (λ (rs : List LegRun). begun.outside.log ++ all_records rs) (sym runs);
       backed = subst (λ (rs : List LegRun). AllBacked t devices rs) (sym runs) tt;
-      medium = λ none. subst (λ (rs : List LegRun). RoseBy (all_mediums rs) begun.outside.faults begun.outside.faults) (sym runs) (inl (omega arith));
+      medium = subst (λ (rs : List LegRun). RoseBy (all_unscheduled rs) begun.outside.faults begun.outside.faults) (sym runs) (inl (omega arith));
       armed = sym (ap (λ (rs : List LegRun). armed_after rs begun.outside.armed) runs);
       goes = subst (λ (rs : List LegRun). GoOn s.schedule 0 rs begun.used) (sym runs) used;
     };
+    unscheduled = subst (λ (rs : List Reply). RoseBy (all_unscheduled begun.runs + medium_replies rs) begun.outside.faults begun.outside.faults) (sym replies)
+        (subst (λ (rs : List LegRun). RoseBy (all_unscheduled rs + 0) begun.outside.faults begun.outside.faults) (sym runs) (inl (omega arith)));
     lines = λ none. subst (λ (rs : List Reply). RoseBy (medium_lines rs) begun.outside.faults begun.outside.faults) (sym replies) (inl (omega arith));
     told = λ us e none. (us, (e, subst (λ (rs : List Reply). StandsAt s devices us begun.sides rs us) (sym replies) (stands us)));
     faults = λ us e. (us, (e, subst (λ (rs : List Reply). All NamesFaults rs) (sym replies) (λ i d l. absurd (omega arith))));
@@ -127,12 +134,17 @@ module _ (s : Script) (devices : List DeviceInfo) (begun : Stage) where
         stood = (old, (served.stood, subst (λ n. OneMore s devices n old new) e one));
         count = omega (arith, e, l, c);
         stretches = subst (λ (rs : List LegRun). InStretches s devices rs new.used begun.outside new.outside) (sym runs_are)
-            (stretches-more s devices old.runs runs old.used new.used begun.outside old.outside new.outside served.stretches fell (λ none. op-unfailing s (half_of s devices) none (length old.replies + 1) (op_at s.ops (length old.replies)) old.sides new.sides runs reply by) goes);
+            (stretches-more s devices old.runs runs old.used new.used begun.outside old.outside new.outside served.stretches fell goes);
+        unscheduled = subst (λ (rs : List LegRun). RoseBy (all_unscheduled rs + medium_replies new.replies) begun.outside.faults new.outside.faults) (sym runs_are)
+            (subst (λ (rs : List Reply). RoseBy (all_unscheduled (old.runs ++ runs) + medium_replies rs) begun.outside.faults new.outside.faults) (sym replies_are)
+            (subst (λ n. RoseBy n begun.outside.faults new.outside.faults) (both-append old.runs runs old.replies (reply ∷ []))
+            (rose-add (all_unscheduled old.runs + medium_replies old.replies) (all_unscheduled runs + medium_replies (reply ∷ [])) begun.outside.faults old.outside.faults new.outside.faults served.stretches.faults fell.faults served.unscheduled
+            (op-unscheduled s t devices (half_of s devices) (length old.replies + 1) (op_at s.ops (length old.replies)) old.sides new.sides runs reply old.outside new.outside by ran tells))));
         lines = λ none. subst (λ n. RoseBy n begun.outside.faults new.outside.faults) (sym (ap medium_lines replies_are ∙ lines-append old.replies (reply ∷ [])))
             (rose-add (medium_lines old.replies) (medium_lines (reply ∷ [])) begun.outside.faults old.outside.faults new.outside.faults served.stretches.faults fell.faults (served.lines none)
             (op-lines s t devices (half_of s devices) (length old.replies + 1) (op_at s.ops (length old.replies)) old.sides new.sides runs reply old.outside new.outside none by ran tells));
         told = λ us u none.
-            (let all : NamesNoMedium (old.runs ++ runs) (old.replies ++ (reply ∷ [])) = subst (λ (rs : List Reply). NamesNoMedium (old.runs ++ runs) rs) replies_are (subst (λ (rs : List LegRun). NamesNoMedium rs new.replies) runs_are none) in
+            (let all : NoneUnscheduled (old.runs ++ runs) (old.replies ++ (reply ∷ [])) = subst (λ (rs : List Reply). NoneUnscheduled (old.runs ++ runs) rs) replies_are (subst (λ (rs : List LegRun). NoneUnscheduled rs new.replies) runs_are none) in
             let x = served.told us u (unnamed-first old.runs runs old.replies (reply ∷ []) all) in
             let y = on us x.0 x.1.0 (unnamed-last old.runs runs old.replies (reply ∷ []) all) x.1.1 in
             (y.0, (y.1.0, subst (λ (rs : List Reply). StandsAt s devices us new.sides rs y.0) (sym replies_are) y.1.1)));
@@ -209,13 +221,16 @@ finishes s devices begun old new repaired lost after runs served ran goes mended
       runs = runs;
       ran = ran;
       mended = mended;
-      stretches = stretches-more s devices old.runs runs old.used new.state.used begun.outside old.outside after served.stretches fell (λ none. repair-unfailing s (half_of s devices) none 0 (stretches_in (half_of s devices)) (record { marks = old.sides.marks; repaired = 0; lost = 0 }) (record { marks = new.state.marks.items; repaired = repaired; lost = lost }) runs mended) goes;
+      stretches = stretches-more s devices old.runs runs old.used new.state.used begun.outside old.outside after served.stretches fell goes;
+      unscheduled = subst (λ (rs : List Reply). RoseBy (all_unscheduled (old.runs ++ runs) + medium_replies rs) begun.outside.faults after.faults) (sym replies)
+          (subst (λ n. RoseBy n begun.outside.faults after.faults) (legs-append old.runs runs old.replies)
+          (rose-add (all_unscheduled old.runs + medium_replies old.replies) (all_unscheduled runs) begun.outside.faults old.outside.faults after.faults served.stretches.faults fell.faults served.unscheduled fell.medium));
       lines = λ none. subst (λ (rs : List Reply). RoseBy (medium_lines rs) begun.outside.faults after.faults) (sym replies) (rose-later (medium_lines old.replies) begun.outside.faults old.outside.faults after.faults fell.faults (served.lines none));
       told = λ us u none.
-          (let all : NamesNoMedium (old.runs ++ runs) old.replies = subst (λ (rs : List Reply). NamesNoMedium (old.runs ++ runs) rs) replies none in
-          let many = all_mediums-append old.runs runs in
+          (let all : NoneUnscheduled (old.runs ++ runs) old.replies = subst (λ (rs : List Reply). NoneUnscheduled (old.runs ++ runs) rs) replies none in
+          let many = all_unscheduled-append old.runs runs in
           let legs = all.legs in
-          let x = served.told us u (record { legs = omega (arith, many, legs); report = all.report }) in
+          let x = served.told us u (record { legs = omega (arith, many, legs); overwrites = all.overwrites }) in
           let y = on us x.0 x.1.0 (omega (arith, many, legs)) x.1.1 in
           (y.0, (y.1.0, served-as s devices us old.replies served.count old.sides x.0 y.0 new.state.pool new.replies.items new.state.marks.items repaired lost x.1.1 y.1.1 pool replies)));
       faults = λ us u. subst (λ (rs : List Reply). All NamesFaults rs) (sym replies) (served.faults us u).1.1;

@@ -6,13 +6,13 @@ use Rattle.volume_table.specs.declared.device.DeviceInfo.{DeviceInfo}
 use Rattle.dix_adapter.specs.Ways.{blocks_told, shapes_of}
 use Rattle.stack_ops.specs.declared.reply.Reply.{Reply}
 use Rattle.script_text.specs.declared.script.Script.{Script}
-use Rattle.run_command.specs.Passed.{table_of, RoseBy, medium_lines}
+use Rattle.run_command.specs.Passed.{table_of, RoseBy, medium_lines, medium_replies}
 use Rattle.run_command.specs.Layers.{NamesFaults}
 use Rattle.mirror_laws.specs.declared.marks.Marks.{Marks}
 use Rattle.mirror_laws.specs.Mirror.{Mirror as Walk, mirror_replies, mirror_walk}
 use Rattle.mirror_laws.specs.Repair.{WalkedRepair, mirror_repair}
 use Rattle.mirror_volume.specs.declared.mirror.Mirror.{Mirror}
-use Rattle.mirror_volume.specs.Passed.{AllBacked, AllOwn, GoOn, LegRun, NamesNoMedium, RanLegs, all_mediums, all_records, armed_after, IsRepairOf, RepairBy, stretches_in, OpAsks, OpBy, OpRan, OpTells, Sides, StandsAt, half_of, mirror_setting, op_at}
+use Rattle.mirror_volume.specs.Passed.{AllBacked, AllOwn, GoOn, LegRun, NoneUnscheduled, RanLegs, all_records, all_unscheduled, armed_after, IsRepairOf, RepairBy, stretches_in, OpAsks, OpBy, OpRan, OpTells, Sides, StandsAt, half_of, mirror_setting, op_at}
 use Rattle.mirror_volume.specs.Enough.{opening_over}
 use Rattle.mirror_volume.specs.Plans.{sides_of}
 use Rattle.fault_schedule.specs.Altered.{has_fail}
@@ -52,25 +52,27 @@ Stood s devices begun zero now = now ≡ begun
 Stood s devices begun (suc k) now = (old : Stage) × (Stood s devices begun k old × OneMore s devices k old now)
 
 -- The records between these moments are those of the runs, a stretch for each and in their order, and each stretch backs its run's replies,
--- whose lines that name the medium, in a script without `fail` lines, are at most as many as the count of faults rose. The last one's faults are armed. The runs go on in the schedule, one where the one before it ended.
+-- whose lines that name the medium, but for the blocks that `fail` lines name, are at most as many as the count of faults rose. The last one's faults are armed. The runs go on in the schedule, one where the one before it ended.
 pub record InStretches (s : Script) (devices : List DeviceInfo) (runs : List LegRun) (used : ℕ) (before after : RigState) : Type 0 where
   pub standing : after.standing ≡ before.standing
   pub faults : before.faults ≤ after.faults
   pub records : after.log ≡ before.log ++ all_records runs
   pub backed : AllBacked (table_of s devices) devices runs
-  pub medium : has_fail s.faults ≡ false → RoseBy (all_mediums runs) before.faults after.faults
+  pub medium : RoseBy (all_unscheduled runs) before.faults after.faults
   pub armed : after.armed ≡ armed_after runs before.armed
   pub goes : GoOn s.schedule 0 runs used
 
--- After k ops, over any rig: in a script without `fail` lines, the lines of the replies that name the medium are at most as many as the count of faults rose.
--- And over one that tells its blocks: where no line names the medium, of the report or of a request on a leg, pages, marks, stored blocks and replies are those of the mirror's walk;
+-- After k ops, over any rig: the lines that name the medium on the legs, but for the blocks that `fail` lines name, and the overwrites that failed are together at most as many as the count of faults rose;
+-- and in a script without `fail` lines so are the lines of the replies that name it.
+-- And over one that tells its blocks: where no request on a leg names the medium but as `fail` lines say, and no overwrite failed, pages, marks, stored blocks and replies are those of the mirror's walk;
 -- and whatever lines name it, no block is listed as refused or short.
 pub record Served (s : Script) (devices : List DeviceInfo) (begun : Stage) (k : ℕ) (now : Stage) : Type 0 where
   pub stood : Stood s devices begun k now
   pub count : length now.replies ≡ k
   pub stretches : InStretches s devices now.runs now.used begun.outside now.outside
+  pub unscheduled : RoseBy (all_unscheduled now.runs + medium_replies now.replies) begun.outside.faults now.outside.faults
   pub lines : has_fail s.faults ≡ false → RoseBy (medium_lines now.replies) begun.outside.faults now.outside.faults
-  pub told : (us : List Stored) → begun.outside.units ≡ Some us → NamesNoMedium now.runs now.replies
+  pub told : (us : List Stored) → begun.outside.units ≡ Some us → NoneUnscheduled now.runs now.replies
       → (left : List Stored) × ((now.outside.units ≡ Some left) × StandsAt s devices us now.sides now.replies left)
   pub faults : (us : List Stored) → begun.outside.units ≡ Some us → (left : List Stored) × ((now.outside.units ≡ Some left) × All NamesFaults now.replies)
 
@@ -111,8 +113,8 @@ pub record HasServedMirror (s : Script) (devices : List DeviceInfo) (us left : L
   pub repaired_is : repaired ≡ (repair_over s devices us).repaired
   pub lost_is : lost ≡ (repair_over s devices us).lost
 
--- All ops were done, and then the repair, whose requests left what they may, whatever lines name the medium. Over any rig, in a script without `fail` lines, the lines of the replies that name the medium are at most as many as the count of faults rose.
--- Over one that tells its blocks: where no line names the medium, of the report or of a request on a leg, it is the mirror's walk and its repair; and whatever lines name it, no block is listed as refused or short.
+-- All ops were done, and then the repair, whose requests left what they may, whatever lines name the medium. Over any rig, the lines that name the medium on the legs, but for the blocks that `fail` lines name, and the overwrites that failed are together at most as many as the count of faults rose; and in a script without `fail` lines so are the lines of the replies that name it.
+-- Over one that tells its blocks: where no request on a leg names the medium but as `fail` lines say, and no overwrite failed, it is the mirror's walk and its repair; and whatever lines name it, no block is listed as refused or short.
 pub record Finished (s : Script) (devices : List DeviceInfo) (begun : Stage) (r : Mirror) (repaired lost : ℕ) (after : RigState) : Type 0 where
   pub stage : Stage
   pub served : Served s devices begun (length s.ops) stage
@@ -122,7 +124,8 @@ pub record Finished (s : Script) (devices : List DeviceInfo) (begun : Stage) (r 
   pub ran : RanLegs (table_of s devices) devices runs stage.outside after
   pub mended : RepairBy s (half_of s devices) 0 (stretches_in (half_of s devices)) (record { marks = stage.sides.marks; repaired = 0; lost = 0 }) (record { marks = r.state.marks.items; repaired = repaired; lost = lost }) runs
   pub stretches : InStretches s devices (stage.runs ++ runs) r.state.used begun.outside after
+  pub unscheduled : RoseBy (all_unscheduled (stage.runs ++ runs) + medium_replies r.replies.items) begun.outside.faults after.faults
   pub lines : has_fail s.faults ≡ false → RoseBy (medium_lines r.replies.items) begun.outside.faults after.faults
-  pub told : (us : List Stored) → begun.outside.units ≡ Some us → NamesNoMedium (stage.runs ++ runs) r.replies.items
+  pub told : (us : List Stored) → begun.outside.units ≡ Some us → NoneUnscheduled (stage.runs ++ runs) r.replies.items
       → (left : List Stored) × ((after.units ≡ Some left) × HasServedMirror s devices us left r.state.pool r.replies.items r.state.marks.items repaired lost)
   pub faults : (us : List Stored) → begun.outside.units ≡ Some us → All NamesFaults r.replies.items

@@ -19,7 +19,7 @@ use Rattle.call_refusal.specs.declared.refusal.Refusal.TheVariants as refusal
 use Rattle.mirror_script.specs.MirrorFaults.{mirror_fault}
 use Rattle.mirror_laws.specs.Mirror.{fresh}
 use Rattle.mirror_volume.specs.Plans.{IsMirror}
-use Rattle.mirror_volume.specs.Passed.{NamesNoMedium, IsBoundMirror, half_of}
+use Rattle.mirror_volume.specs.Passed.{NoneUnscheduled, IsBoundMirror, half_of}
 use Rattle.mirror_volume.specs.declared.mirror.Mirror.{Mirror}
 use Rattle.mirror_volume.specs.Enough.{WasEnough}
 use Rattle.mirror_volume.specs.Premises.{IsFormedMirror, IsOneGoodRun, IsStillMirror}
@@ -40,7 +40,7 @@ pub record IsBegun (s : Script) (devices : List DeviceInfo) (begun : Mirror) : T
 
 -- ---- a script that was run on a mirror
 
--- What holds of a mirror over known blocks, where no line names the medium, neither of the report nor of a request on a leg: one good leg is enough.
+-- What holds of a mirror over known blocks, where no request on a leg names the medium but as `fail` lines say, and no overwrite failed: one good leg is enough.
 pub record OnIntactLegs (s : Script) (devices : List DeviceInfo) (before after : List Stored) (lost : ℕ) : Type 0 where
   -- In type 1 under protect field 001b, over clean and equal legs, of which each block has one where no fault line alters it:
   -- each read is whole and last accepted, no block is lost, and both legs hold what was last accepted.
@@ -66,8 +66,10 @@ pub record HasMirrored (run : Mirrored) (s : Script) (name : List ℕ) (old new 
   pub tells_blocks : is_some new.units ≡ is_some told.units
   -- A told image is the first 512 bytes that it had, and then the told blocks.
   pub holds : HoldsBlocks told new
-  -- Over known blocks, where no line names the medium, neither of the report nor of a request on a leg, one good leg is enough.
-  pub intact : (known : KnownBlocks told new) → NamesNoMedium (ended.stage.runs ++ ended.runs) run.mirror.replies.items → OnIntactLegs s devices known.before known.after run.repair.lost
+  -- Over any rig, while the count of faults doesn't rise, no request on a leg names the medium but as `fail` lines say, and no overwrite fails.
+  pub silent : Calm told.faults new.faults → NoneUnscheduled (ended.stage.runs ++ ended.runs) run.mirror.replies.items
+  -- Over known blocks, where none does and none fails, one good leg is enough.
+  pub intact : (known : KnownBlocks told new) → NoneUnscheduled (ended.stage.runs ++ ended.runs) run.mirror.replies.items → OnIntactLegs s devices known.before known.after run.repair.lost
   -- Over known blocks, whatever store calls failed, each block that is listed was found bad by the check of a layer, or failed at the medium.
   pub failing : KnownBlocks told new → All NamesFaults run.mirror.replies.items
   -- And of each block with a leg on which nothing alters it and no request names it for the medium, where what lines and overwrites do to it on the other is shown: each read is right, and the repair leaves it right on that leg.

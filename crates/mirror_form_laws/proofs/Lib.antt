@@ -1,4 +1,4 @@
-mod Apart
+mod Lines
 mod Escapes
 mod Places
 mod Legs

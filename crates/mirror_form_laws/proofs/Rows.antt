@@ -62,9 +62,20 @@ not_undone = refl
 lost : shows_on_legs Crc 512 4 (record { op = 1; k = 0; at = TargetToMedium; kind = Keep 0 } ∷ []) ops ≡ false
 lost = refl
 
--- A block that the medium of a leg fails.
-failed : shows_on_legs Crc 512 4 (record { op = 1; k = 0; at = TargetToMedium; kind = Fail } ∷ []) ops ≡ false
+-- A part of a block is stored, even all of it.
+torn : (shows_on_legs Crc 512 4 (record { op = 1; k = 0; at = TargetToMedium; kind = Keep 17 } ∷ []) ops ≡ false) × (shows_on_legs Crc 512 4 (record { op = 1; k = 0; at = TargetToMedium; kind = Keep 520 } ∷ []) ops ≡ false)
+torn = (refl, refl)
+
+-- The medium of a leg fails a block, of a write and of a read, beside a flip on the other leg. On both legs that leaves it no leg.
+abbrev failing : (op k : ℕ) → FaultLine
+failing op k = record { op = op; k = k; at = TargetToMedium; kind = Fail }
+
+failed : shows_on_legs Crc 512 4 (failing 1 0 ∷ failing 2 1 ∷ line 1 3 AdapterToTarget ∷ []) ops ≡ true
+unfolding crc
 failed = refl
+
+fails_leave : (leaves_a_leg 4 (failing 1 0 ∷ failing 2 0 ∷ line 1 3 AdapterToTarget ∷ []) ops ≡ true) × (leaves_a_leg 4 (failing 1 0 ∷ failing 2 2 ∷ []) ops ≡ false)
+fails_leave = (refl, refl)
 
 -- A shift, and an overwrite.
 shifted : shows_on_legs Crc 512 4 (record { op = 1; k = 0; at = AdapterToTarget; kind = Shift (pos 1) } ∷ []) ops ≡ false

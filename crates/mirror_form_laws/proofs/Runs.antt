@@ -1,12 +1,12 @@
--- Along all that a script asks of the legs, under faults that have the form: what stands in the pages and on the volume, and that each fault is shown.
--- A line names a block of a mirror on either leg, and a step is asked of both: so blocks and steps are told otherwise here than in `run_premises/proofs/Runs`, whose `all_shown` it uses.
+-- Along all that a script asks of the legs, under faults that have the form: what stands in the pages and on the volume, and that each fault is shown or is of a block that the medium fails.
+-- A line names a block of a mirror on either leg, and a step is asked of both: so blocks and steps are told otherwise here than in `run_premises/proofs/Known`; both use its `all_accounted`.
 use Rattle.std.proofs.Common.{◌≡◌, ◌<◌, ◌≤◌, ℕ, zero, suc, ◌+◌, ◌-◌, ◌%◌, ◌^◌, Bool, true, false, eqb, ◌&&◌, not, List, [], ◌∷◌, ◌++◌, length, get_or, refl, sym, ap, subst, ◌∙◌, arith}
-use Rattle.std.specs.Prelude.{All}
+use Rattle.std.specs.Prelude.{All, nat_abs, pos}
 use Rattle.std.specs.List.{list_all, list_any}
 use Rattle.std.proofs.lemmas.Bool.{and_from, and_parts, eq-eqb, false≢true, not-true, or_parts}
-use Rattle.fault_schedule.specs.Altered.{is_line_of, is_same}
+use Rattle.fault_schedule.specs.Altered.{is_line_of, is_same, shift_of}
 use Rattle.fault_schedule.specs.declared.fault.Crossing.{Crossing}
-use Rattle.fault_schedule.specs.declared.fault.Crossing.TheVariants.{MediumToTarget, TargetToMedium}
+use Rattle.fault_schedule.specs.declared.fault.Crossing.TheVariants.{AdapterToTarget, MediumToTarget, TargetToMedium}
 use Rattle.fault_schedule.specs.declared.fault.FaultLine.{FaultLine}
 use Rattle.integrity_payload.specs.declared.payload.Owner.{Owner}
 use Rattle.integrity_payload.specs.declared.payload.Owner.TheVariants.{Block as OfBlock}
@@ -16,8 +16,8 @@ use Rattle.volume_table.specs.Places.{volume_len}
 use Rattle.block_path.specs.Acts.{State}
 use Rattle.block_path.proofs.Cells.{AllBelow, below}
 use Rattle.walk_laws.specs.CalmRun.{LiesInImage}
-use Rattle.walk_laws.specs.Detectable.{detectable}
-use Rattle.walk_laws.specs.FirstLayer.{has_flip, is_flip}
+use Rattle.walk_laws.specs.Detectable.{accounted}
+use Rattle.walk_laws.specs.FirstLayer.{has_flip, is_flip, is_misdirected, keeps_none, keeps_part, tears}
 use Rattle.walk_laws.specs.Past.{steps_from}
 use Rattle.walk_laws.specs.Settings.{Block, Setting, block_of, route}
 use Rattle.walk_laws.specs.Steps.{Alters, Reads, Seals, Sets, Shows, Step, Writes, WritesPi, body_of, each_from, steps_of}
@@ -27,18 +27,17 @@ use Rattle.walk_laws.proofs.TupleFrames.{below_replicate}
 use Rattle.run_laws.proofs.Layers.{checked}
 use Rattle.run_laws.proofs.Reading.{checked_form}
 use Rattle.stack_ops.specs.Ops.{first_virt, is_overwrite}
-use Rattle.run_premises.specs.Forms.{is_good_line, is_shown_line, op_of}
+use Rattle.run_premises.specs.Forms.{is_shown, is_shown_line, kind_at, label_of, mask_of, op_of}
 use Rattle.run_premises.specs.FormedRun.{IsOfBytes}
 use Rattle.run_premises.proofs.Lines.{IsLineOf, line_of, none_of, pick}
 use Rattle.run_premises.proofs.Runs.{if_all}
-use Rattle.run_premises.proofs.Accounts.{AllSuit, Suits, both_suit}
-use Rattle.run_premises.proofs.Shown.{all_shown, begins}
+use Rattle.run_premises.proofs.Accounts.{AllSuit, Suits, all_accounted, begins, both_suit}
 use Rattle.volume_table.specs.declared.device.DeviceInfo.{DeviceInfo}
 use Rattle.mirror_laws.specs.Mirror.{Mirror, all_asked, asked, asks, blocks_in, count_of, done, mirror_opened, twin}
-use Rattle.mirror_laws.specs.OneGood.{AllBind, Binds, script_asks}
+use Rattle.mirror_laws.specs.OneGood.{AllBind, Binds, loses_none, script_asks, step_loses}
 use Rattle.mirror_form_laws.specs.Forms.{is_altered_on_legs, is_good_on_legs, may_undo_on_legs, virt_in, virt_on_legs}
 use Rattle.mirror_form_laws.specs.FormedMirror.{AllPutBytes, HasFormedLegs, PutsBytes}
-use Rattle.mirror_form_laws.proofs.Apart.{apart, good_apart}
+use Rattle.mirror_form_laws.proofs.Lines.{all_either, flip_is_good, is_either, keeps_none_of, shifts_none}
 use Rattle.mirror_form_laws.proofs.Places.{on_leg0, on_leg1}
 
 module _ (m' : Setting) (half : ℕ) (ops : List Op) (even : m'.size % 2 ≡ 0) (flips : All (λ (line : FaultLine). IsOfBytes line.kind) m'.site.faults)
@@ -54,10 +53,6 @@ module _ (m' : Setting) (half : ℕ) (ops : List Op) (even : m'.size % 2 ≡ 0) 
 
   abbrev faults : List FaultLine
   faults = m'.site.faults
-
-  -- the form on ops that share no virtual block, by which the ways of a block are known
-  pub good : list_all (is_good_line m'.mode.kind n faults (apart faults)) faults ≡ true
-  good = good_apart m'.mode.kind n half faults ops form
 
   -- the block is the one that its op names at its place, on the leg of that place
   abbrev pub IsNamed : Block → Type 0
@@ -86,19 +81,70 @@ module _ (m' : Setting) (half : ℕ) (ops : List Op) (even : m'.size % 2 ≡ 0) 
       and_from (is_same line.at TargetToMedium) (eqb (virt_on_legs half ops line) b.virt) (ap (λ at. is_same at TargetToMedium) l.crossing) (eq-eqb (virt_on_legs half ops line) b.virt (virt_is b TargetToMedium line l e)))
       h
 
+  -- ---- what the form gives
+
+  -- a line that alters the block at this crossing
+  record Line (b : Block) (at : Crossing) : Type 0 where
+    line : FaultLine
+    is : IsLineOf line at (route m b).label
+    shown : is_shown n (kind_at m'.mode.kind at) (mask_of n faults at (route m b).label) ≡ true
+    undoes : may_undo_on_legs half ops faults line ≡ false
+
+  the_line : (b : Block) (at : Crossing) → has_flip m b at ≡ true → Line b at
+  the_line b at h =
+      let kind = m'.mode.kind in
+      let c = pick (λ line. is_line_of line at (route m b).label && is_flip line.kind) (is_good_on_legs kind n half faults ops) faults h form in
+      let l = line_of c.line at (route m b).label c.one in
+      let p = and_parts (is_shown_line kind n faults c.line) (not (may_undo_on_legs half ops faults c.line)) (flip_is_good kind n half faults ops c.line l.flips c.other) in
+      let q = and_parts (is_flip c.line.kind) (is_shown n (kind_at kind c.line.at) (mask_of n faults c.line.at (label_of c.line))) p.0 in
+      record {
+        line = c.line;
+        is = l;
+        shown = subst (λ at. is_shown n (kind_at kind at) (mask_of n faults at (route m b).label) ≡ true) l.crossing
+            (subst (λ label. is_shown n (kind_at kind c.line.at) (mask_of n faults c.line.at label) ≡ true) l.labelled q.1);
+        undoes = not-true _ p.1;
+      }
+
+  either : list_all is_either faults ≡ true
+  either = all_either m'.mode.kind n half faults ops faults form
+
+  lines : (b : Block) (at : Crossing) → has_flip m b at ≡ true → is_shown n (kind_at m'.mode.kind at) (mask_of n faults at (route m b).label) ≡ true
+  lines b at q = (the_line b at q).shown
+
+  unmoved : (at : Crossing) (op : ℕ) → shift_of faults at op ≡ pos 0
+  unmoved at op = shifts_none faults either at op
+
+  straight : (b : Block) → has_flip m b TargetToMedium ≡ true → is_misdirected m b ≡ false
+  straight b q = ap (λ z. not (eqb (nat_abs z) 0)) (unmoved TargetToMedium b.op)
+
+  untorn : (b : Block) → tears m b ≡ false
+  untorn b = ap keeps_part (keeps_none_of faults either (route m b).label)
+
   -- a block that is altered on its way from the medium isn't on its way there
   whole_there : (b : Block) → IsNamed b → has_flip m b MediumToTarget ≡ true → is_altered_on_legs half ops faults b.virt ≡ false
   whole_there b e q =
-      let c = pick (λ line. is_line_of line MediumToTarget (route m b).label && is_flip line.kind) (is_good_on_legs m'.mode.kind n half faults ops) faults q form in
-      let l = line_of c.line MediumToTarget (route m b).label c.one in
-      let same : is_same c.line.at MediumToTarget ≡ true = ap (λ at. is_same at MediumToTarget) l.crossing in
-      let undoes = not-true _ (and_parts (is_shown_line m'.mode.kind n faults c.line) (not (may_undo_on_legs half ops faults c.line)) c.other).1 in
-      ap (is_altered_on_legs half ops faults) (sym (virt_is b MediumToTarget c.line l e)) ∙ if_all (is_same c.line.at MediumToTarget) (is_altered_on_legs half ops faults (virt_on_legs half ops c.line)) undoes same
+      let c = the_line b MediumToTarget q in
+      let same : is_same c.line.at MediumToTarget ≡ true = ap (λ at. is_same at MediumToTarget) c.is.crossing in
+      ap (is_altered_on_legs half ops faults) (sym (virt_is b MediumToTarget c.line c.is e)) ∙ if_all (is_same c.line.at MediumToTarget) (is_altered_on_legs half ops faults (virt_on_legs half ops c.line)) c.undoes same
 
-  pub steps_shown : (steps : List Step) (s : State) → AllFitting steps → NoneEscapes m steps s → s.blocks ≡ image → AllBelow 256 s.bytes → AreClean m s.blocks → detectable m steps s ≡ true
-  steps_shown steps s fit e same pages clean =
-      all_shown m' (apart faults) even flips good image lies IsNamed Brings (is_altered_on_legs half ops faults) kept_there whole_there (λ b h. absurd h) steps s fit e
-      (begins m' (apart faults) even flips good image lies IsNamed Brings (is_altered_on_legs half ops faults) kept_there whole_there (λ b h. absurd h) s same pages clean)
+  pub steps_accounted : (steps : List Step) (s : State) → AllFitting steps → NoneEscapes m steps s → s.blocks ≡ image → AllBelow 256 s.bytes → AreClean m s.blocks → accounted m steps s ≡ true
+  steps_accounted steps s fit e same pages clean =
+      all_accounted m' even flips lines (unmoved AdapterToTarget) (unmoved MediumToTarget) untorn straight image lies IsNamed Brings (is_altered_on_legs half ops faults) kept_there whole_there (λ b h. absurd h) steps s fit e
+      (begins m' even flips lines (unmoved AdapterToTarget) (unmoved MediumToTarget) untorn straight image lies IsNamed Brings (is_altered_on_legs half ops faults) kept_there whole_there (λ b h. absurd h) s same pages clean)
+
+  -- no block is lost
+  step_kept : (step : Step) → step_loses m step ≡ false
+  step_kept (Sets at values) = refl
+  step_kept (Shows at) = refl
+  step_kept (Seals body tuple app rtag) = refl
+  step_kept (Writes b app body) = ap keeps_none (keeps_none_of faults either (route m b).label)
+  step_kept (WritesPi b frame) = ap keeps_none (keeps_none_of faults either (route m b).label)
+  step_kept (Reads b owner to) = refl
+  step_kept (Alters dev lba change) = refl
+
+  pub steps_kept : (steps : List Step) → loses_none m steps ≡ true
+  steps_kept [] = refl
+  steps_kept (step ∷ steps) = and_from (not (step_loses m step)) (loses_none m steps) (ap not (step_kept step)) (steps_kept steps)
 
   -- ---- what a script asks of the legs
 
@@ -183,14 +229,22 @@ module _ (m' : Setting) (half : ℕ) (ops : List Op) (even : m'.size % 2 ≡ 0) 
       all_asked_suit (steps_from m 1 ops) (mirror_opened half opening)
       (ops_ask devices (length opening.bytes) long 1 ops (λ j. let z : 1 + j - 1 ≡ j = omega arith in ap (λ v. get_or ops v Wait) z) bind puts none)
 
-formed : (m' : Setting) (devices : List DeviceInfo) (half : ℕ) (ops : List Op) (opening : State) → HasFormedLegs (checked m') devices half ops opening → detectable (checked m') (script_asks (checked m') half ops opening) opening ≡ true
+-- each fault is shown, or is of a block that the medium fails, and no block is lost
+pub record IsKnown (m : Setting) (half : ℕ) (ops : List Op) (opening : State) : Type 0 where
+  pub accounted : accounted m (script_asks m half ops opening) opening ≡ true
+  pub kept : loses_none m (script_asks m half ops opening) ≡ true
+
+formed : (m' : Setting) (devices : List DeviceInfo) (half : ℕ) (ops : List Op) (opening : State) → HasFormedLegs (checked m') devices half ops opening → IsKnown (checked m') half ops opening
 formed m' devices half ops opening run =
     let p = and_parts (list_all (is_good_on_legs m'.mode.kind m'.size half m'.site.faults ops) m'.site.faults) (not (list_any is_overwrite ops)) run.form in
-    steps_shown m' half ops run.even run.flips p.0 opening.blocks run.lies (script_asks (checked m') half ops opening) opening
-    (script_suits m' half ops run.even run.flips p.0 opening.blocks run.lies devices opening run.long run.bind run.puts (not-true _ p.1))
-    run.no_escape refl (below 256 opening.bytes run.pages) run.clean
+    record {
+      accounted = steps_accounted m' half ops run.even run.flips p.0 opening.blocks run.lies (script_asks (checked m') half ops opening) opening
+          (script_suits m' half ops run.even run.flips p.0 opening.blocks run.lies devices opening run.long run.bind run.puts (not-true _ p.1))
+          run.no_escape refl (below 256 opening.bytes run.pages) run.clean;
+      kept = steps_kept m' half ops run.even run.flips p.0 opening.blocks run.lies (script_asks (checked m') half ops opening);
+    }
 
-pub shown_by_form : (m : Setting) (devices : List DeviceInfo) (half : ℕ) (ops : List Op) (opening : State) → HasFormedLegs m devices half ops opening → detectable m (script_asks m half ops opening) opening ≡ true
-shown_by_form m devices half ops opening run =
+pub known_by_form : (m : Setting) (devices : List DeviceInfo) (half : ℕ) (ops : List Op) (opening : State) → HasFormedLegs m devices half ops opening → IsKnown m half ops opening
+known_by_form m devices half ops opening run =
     let e = checked_form m run.checked in
-    subst (λ x. detectable x (script_asks x half ops opening) opening ≡ true) (sym e) (formed m devices half ops opening (subst (λ x. HasFormedLegs x devices half ops opening) e run))
+    subst (λ x. IsKnown x half ops opening) (sym e) (formed m devices half ops opening (subst (λ x. HasFormedLegs x devices half ops opening) e run))

@@ -35,6 +35,7 @@ use Rattle.stack_ops.specs.Ops.{is_overwrite}
 use Rattle.mirror_laws.specs.Mirror.{Mirror, all_asked, asked, asks, count_of, done, mirror_opened, mirror_past, mirror_walk, marks_of, twin}
 use Rattle.mirror_laws.specs.OneGood.{AllBind, AreBytes, Binds, HoldsProper, IsMirrorRun, IsRepaired, ReadsLast, last_of, on_leg, script_asks}
 use Rattle.mirror_laws.specs.Repair.{WalkedRepair, mirror_repair}
+use Rattle.mirror_laws.proofs.Known.{all_accounted, all_kept}
 use Rattle.mirror_form_laws.specs.FormedMirror.{HasStillLegs, ServesLast}
 use Rattle.mirror_form_laws.proofs.Escapes.{none_supplied}
 use Rattle.mirror_form_laws.proofs.Legs.{one_good}
@@ -197,6 +198,9 @@ module _ (m' : Setting) (p : ℕ) (devices : List DeviceInfo) (half : ℕ) (ops 
         none = passes_if m'.mode.app 0 (ref_tag (address_of m' v)) (crc (data_of m'.size frame)) t (from_both t (crc (data_of m'.size frame)) (ref_tag (address_of m' v)) (record { guard = c.guard; rtag = c.rtag refl })) (unmasked m'.mode.app t);
       }
 
+  shown : detectable one (script_asks one half ops opening) opening ≡ true
+  shown = all-shown m' (script_asks one half ops opening) opening (all-plain one half (count_of ops) (steps_from one 1 ops) (mirror_opened half opening) (ops-plain one 1 ops is.overwrites))
+
   run : IsMirrorRun one devices half ops opening
   run = record {
     checked = record { ty = refl; dix = refl; dif = refl; protect = refl; device = refl };
@@ -208,8 +212,9 @@ module _ (m' : Setting) (p : ℕ) (devices : List DeviceInfo) (half : ℕ) (ops 
     equal = is.equal;
     bind = bound;
     no_escape = none_supplied one half ops opening is.escapes;
-    shown = all-shown m' (script_asks one half ops opening) opening (all-plain one half (count_of ops) (steps_from one 1 ops) (mirror_opened half opening) (ops-plain one 1 ops is.overwrites));
-    one_good = one_good one half ops refl is.overwrites;
+    accounted = all_accounted one (script_asks one half ops opening) opening shown;
+    kept = all_kept one (script_asks one half ops opening) opening shown;
+    one_good = one_good one half ops opening refl is.overwrites;
   }
 
   -- ---- the walks are the same

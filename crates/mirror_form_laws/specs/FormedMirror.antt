@@ -20,7 +20,7 @@ use Rattle.run_premises.specs.FormedRun.{IsOfBytes}
 use Rattle.mirror_laws.specs.OneGood.{AllBind, AreBytes, IsRepaired, ReadsLast, script_asks}
 use Rattle.mirror_form_laws.specs.Forms.{shows_on_legs}
 
--- What is asked of a script on a mirror so that its faults are shown by their form.
+-- What is asked of a script on a mirror so that its faults are known by their form.
 
 -- What an op puts in the pages is bytes.
 abbrev pub PutsBytes : Op → Type 0
@@ -40,7 +40,7 @@ AllPutBytes [] = Unit {0}
 AllPutBytes (op ∷ ops) = PutsBytes op × AllPutBytes ops
 
 -- The volume is of type 1, tuples pass all the way, commands have protect field 001b, and blocks have an even number of bytes.
--- What stands in the pages and on the volume is bytes, each block of both legs is clean, requests lie on the mirror, and no write supplies an escape. The faults have the form.
+-- What stands in the pages and on the volume is bytes, each block of both legs is clean, requests lie on the mirror, and no write supplies an escape. The faults have the form: flips that are shown, and blocks that the medium fails.
 pub record HasFormedLegs (m : Setting) (devices : List DeviceInfo) (half : ℕ) (ops : List Op) (opening : State) : Type 0 where
   pub checked : IsChecked m
   pub even : m.size % 2 ≡ 0

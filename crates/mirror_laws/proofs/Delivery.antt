@@ -1,7 +1,7 @@
 -- A read of a mirror is delivered, with what was last accepted.
-use Rattle.std.proofs.Common.{◌≡◌, ◌<◌, ℕ, ◌+◌, Bool, true, false, ◌||◌, if◌then◌else◌, List, [], ◌∷◌, ◌++◌, length, map, get_or, Option, Some, None, refl, sym, ap, subst, ◌∙◌, arith}
+use Rattle.std.proofs.Common.{◌≡◌, ◌<◌, ℕ, ◌+◌, Bool, true, false, ◌||◌, if◌then◌else◌, List, [], ◌∷◌, ◌++◌, length, map, Option, Some, None, refl, sym, ap, subst, ◌∙◌, arith}
 use Rattle.std.specs.Prelude.{pos}
-use Rattle.std.proofs.lemmas.Bool.{and_from, and_parts, false≢true}
+use Rattle.std.proofs.lemmas.Bool.{and_parts, false≢true}
 use Rattle.pi_tuple.specs.declared.tuple.Tuple.{Tuple}
 use Rattle.page_pool.specs.Cells.{scatter}
 use Rattle.fault_schedule.specs.Altered.{shift_of}
@@ -15,21 +15,21 @@ use Rattle.rig_api.specs.Frames.{data_of, tuple_of}
 use Rattle.block_path.specs.Acts.{State, act, effect, tell}
 use Rattle.block_path.specs.Blocks.{fetched_cell}
 use Rattle.block_path.specs.Serial.{plain, plain_tells}
-use Rattle.walk_laws.specs.Detectable.{detectable, step_shows}
-use Rattle.walk_laws.specs.FirstLayer.{AtAdapter, AtOwner, AtTarget, Layer, first_layer, has_flip, has_shift, is_hit, last_accepted}
+use Rattle.walk_laws.specs.Detectable.{step_accounts}
+use Rattle.walk_laws.specs.FirstLayer.{AtAdapter, AtOwner, AtTarget, Layer, first_layer, has_flip, has_shift, is_hit, is_served, last_accepted}
 use Rattle.walk_laws.specs.Past.{Brought, Event, past_after}
 use Rattle.walk_laws.specs.ScriptWalk.{act_of}
 use Rattle.walk_laws.specs.Settings.{Block, Setting, route}
 use Rattle.walk_laws.specs.Steps.{Reads, Step}
-use Rattle.walk_laws.specs.UnderMap.{NoneEscapes, home}
+use Rattle.walk_laws.specs.UnderMap.{home}
 use Rattle.run_laws.specs.ShownRun.{HasCells, LiesOn}
 use Rattle.walk_laws.proofs.InSteps.{scatter_length}
 use Rattle.mirror_laws.specs.Mirror.{Mirror, accepted, all_asked, asked, asks, done, is_none, listed, marks_of, mirror_past, neither}
 use Rattle.mirror_laws.specs.declared.marks.Marks.{Marks}
 use Rattle.mirror_laws.specs.OneGood.{AllSpare, IsUnnamed, on_leg}
-use Rattle.run_laws.proofs.Along.{read_as}
-use Rattle.run_laws.proofs.Counted.{EndsAs, IsHanded}
-use Rattle.mirror_laws.proofs.Holds.{fetched_at, last_at, last_same, no_shift, second}
+use Rattle.run_laws.proofs.Counted.{EndsAs, EndsWhereServed, IsHanded, ends_as}
+use Rattle.mirror_laws.proofs.Holds.{fetched_at, last_at, last_same, no_shift, place, second}
+use Rattle.mirror_laws.proofs.Known.{AreKnown, first_known, head_known, tail_known, then_known}
 use Rattle.run_laws.proofs.Layers.{checked}
 use Rattle.mirror_laws.proofs.Steps.{AllFitMirror, FitsMirror, HasIn, Held, asks_fit, held_after, marks_long, read_fits, step_has}
 
@@ -40,19 +40,6 @@ neither_none (Some why) = refl
 pub none_is : (w : Option Why) → true ≡ is_none w → w ≡ None
 none_is None h = refl
 none_is (Some why) h = absurd (false≢true (sym h))
-
--- lists of steps, one after another
-module _ (m : Setting) where
-  pub split_shown : (xs ys : List Step) (s : State) → detectable m (xs ++ ys) s ≡ true → (detectable m xs s ≡ true) × (detectable m ys (plain act (map (act_of m) xs) s) ≡ true)
-  split_shown [] ys s d = (refl, d)
-  split_shown (x ∷ xs) ys s d =
-      let p = and_parts (step_shows m x s) (detectable m (xs ++ ys) (act (act_of m x) s)) d in
-      let q = split_shown xs ys (act (act_of m x) s) p.1 in
-      (and_from (step_shows m x s) (detectable m xs (act (act_of m x) s)) p.0 q.0, q.1)
-
-  pub split_escapes : (xs ys : List Step) (s : State) → NoneEscapes m (xs ++ ys) s → NoneEscapes m xs s × NoneEscapes m ys (plain act (map (act_of m) xs) s)
-  split_escapes [] ys s h = (tt, h)
-  split_escapes (x ∷ xs) ys s h = let q = split_escapes xs ys (act (act_of m x) s) h.1 in ((h.0, q.0), q.1)
 
 module _ (m' : Setting) (opening : State) (half : ℕ) (count : ℕ → ℕ) (still : (at : Crossing) (op : ℕ) → shift_of m'.site.faults at op ≡ pos 0) (devices : List DeviceInfo)
     (lies : LiesOn (checked m') devices) (cells : HasCells (checked m') devices opening.blocks) (long : volume_len m'.entries ≡ half + half) where
@@ -135,22 +122,25 @@ module _ (m' : Setting) (opening : State) (half : ℕ) (count : ℕ → ℕ) (st
   if_delivered b owner to (Some layer) e s h w = absurd (let x = sym w ∙ h.listed in cc)
 
   -- one read
-  ends : (b : Block) (owner : Owner) (to : List ℕ) (past : List Event) (s : State) → b.virt < half + half → detectable m (Reads b owner to ∷ []) s ≡ true → HeldIn past s.blocks →
-      EndsAs m b owner to (first_layer m past b) (last_accepted m opening b past) s
-  ends b owner to past s l d h =
-      let p = and_parts (step_shows m (Reads b owner to) s) true d in
-      read_as m' devices lies opening cells b owner to past s (read_fits m' opening half count still devices lies cells long b owner to l) p.0 h
+  ends : (virt : ℕ) (b : Block) (owner : Owner) (to : List ℕ) (past : List Event) (s : State) → b.virt < half + half → AreKnown m virt (Reads b owner to ∷ []) s → HeldIn past s.blocks → (served : Bool) → is_served m b ≡ served →
+      EndsWhereServed m' devices lies opening cells (λ a. true) served b owner to past s
+  ends virt b owner to past s l d h served q =
+      let p = and_parts (step_accounts m (Reads b owner to) s) true d.accounted in
+      ends_as m' devices lies opening cells (λ a. true) b owner to past s (read_fits m' opening half count still devices lies cells long b owner to l) p.0 h served q
 
-  free_ends : (b : Block) (owner : Owner) (to : List ℕ) (past : List Event) (s : State) (e : Brought) → b.virt < half + half → detectable m (Reads b owner to ∷ []) s ≡ true → HeldIn past s.blocks → IsUnnamed m b →
+  free_ends : (b : Block) (owner : Owner) (to : List ℕ) (past : List Event) (s : State) (e : Brought) → b.virt < half + half → AreKnown m b.virt (Reads b owner to ∷ []) s → HeldIn past s.blocks → IsUnnamed m b →
       is_hit m (home m b.virt) past ≡ false → last_in b.virt past ≡ e → Gets (Reads b owner to ∷ []) s to e
   free_ends b owner to past s e l d h free unhit q =
       single b owner to s (last_accepted m opening b past) e
-      (subst (λ o. EndsAs m b owner to o (last_accepted m opening b past) s) (no_layer b past free unhit) (ends b owner to past s l d h)) (last_same m' opening half count still b past ∙ q)
+      (subst (λ o. EndsAs m b owner to o (last_accepted m opening b past) s) (no_layer b past free unhit) (ends b.virt b owner to past s l d h true (d.serves.0 refl))) (last_same m' opening half count still b past ∙ q)
 
-  fresh_ends : (b : Block) (owner : Owner) (to : List ℕ) (past : List Event) (s : State) (e : Brought) → b.virt < half + half → detectable m (Reads b owner to ∷ []) s ≡ true → HeldIn past s.blocks →
+  -- what is delivered was served
+  fresh_ends : (virt : ℕ) (b : Block) (owner : Owner) (to : List ℕ) (past : List Event) (s : State) (e : Brought) → b.virt < half + half → AreKnown m virt (Reads b owner to ∷ []) s → HeldIn past s.blocks →
       (tell (act_of m (Reads b owner to)) s).why ≡ None → last_in b.virt past ≡ e → Gets (Reads b owner to ∷ []) s to e
-  fresh_ends b owner to past s e l d h w q =
-      single b owner to s (last_accepted m opening b past) e (if_delivered b owner to (first_layer m past b) (last_accepted m opening b past) s (ends b owner to past s l d h) w) (last_same m' opening half count still b past ∙ q)
+  fresh_ends virt b owner to past s e l d h w q = by (is_served m b) refl where
+    by : (served : Bool) → is_served m b ≡ served → Gets (Reads b owner to ∷ []) s to e
+    by false k = absurd (let x = sym w ∙ ends virt b owner to past s l d h false k in cc)
+    by true k = single b owner to s (last_accepted m opening b past) e (if_delivered b owner to (first_layer m past b) (last_accepted m opening b past) s (ends virt b owner to past s l d h true k) w) (last_same m' opening half count still b past ∙ q)
 
   module _ (b : Block) (owner : Owner) (to : List ℕ) (s : State) (past mirror : List Event) (inside : b.virt < half) (held : HeldIn past s.blocks) where
     abbrev r0 : Step
@@ -168,37 +158,39 @@ module _ (m' : Setting) (opening : State) (half : ℕ) (count : ℕ → ℕ) (st
     high : half + b.virt < half + half
     high = omega (arith, inside)
 
+    abbrev there : Bool → ℕ
+    there leg = place m' opening half count still leg b.virt
+
     gets : (leg f0 f1 d : Bool) → d ≡ is_none (tell (act_of m r0) s).why → IsUnnamed m (on_leg leg b (twin_of b)) → HasBlockIn b.virt leg (record { leg0 = f0; leg1 = f1 }) past mirror →
-        detectable m (asked f0 f1 d r0 r1) s ≡ true → Gets (asked f0 f1 d r0 r1) s to e
-    gets false false f1 d q free has shown = absurd (false≢true has.good)
-    gets false true true true q free has shown = free_ends b owner to past s e low shown held free has.unhit (has.on0 refl)
-    gets false true true false q free has shown =
-        let p = and_parts (step_shows m r0 s) (detectable m (r1 ∷ []) (act (act_of m r0) s)) shown in
-        let g = free_ends b owner to past s e low (and_from (step_shows m r0 s) true p.0 refl) held free has.unhit (has.on0 refl) in
+        AreKnown m (there leg) (asked f0 f1 d r0 r1) s → Gets (asked f0 f1 d r0 r1) s to e
+    gets false false f1 d q free has known = absurd (false≢true has.good)
+    gets false true true true q free has known = free_ends b owner to past s e low known held free has.unhit (has.on0 refl)
+    gets false true true false q free has known =
+        let g = free_ends b owner to past s e low (head_known m b.virt r0 (r1 ∷ []) s known) held free has.unhit (has.on0 refl) in
         absurd (false≢true (q ∙ ap is_none g.why))
-    gets false true false d q free has shown = free_ends b owner to past s e low shown held free has.unhit (has.on0 refl)
-    gets true f0 false d q free has shown = absurd (false≢true has.good)
-    gets true true true true q free has shown = fresh_ends b owner to past s e low shown held (none_is (tell (act_of m r0) s).why q) (has.on0 refl)
-    gets true true true false q free has shown =
-        let p = and_parts (step_shows m r0 s) (detectable m (r1 ∷ []) (act (act_of m r0) s)) shown in
-        after_first b (twin_of b) owner to s e (free_ends (twin_of b) owner to past (act (act_of m r0) s) e high p.1 held free has.unhit (has.on1 refl))
-    gets true false true d q free has shown = free_ends (twin_of b) owner to past s e high shown held free has.unhit (has.on1 refl)
+    gets false true false d q free has known = free_ends b owner to past s e low known held free has.unhit (has.on0 refl)
+    gets true f0 false d q free has known = absurd (false≢true has.good)
+    gets true true true true q free has known = fresh_ends (half + b.virt) b owner to past s e low known held (none_is (tell (act_of m r0) s).why q) (has.on0 refl)
+    gets true true true false q free has known =
+        after_first b (twin_of b) owner to s e (free_ends (twin_of b) owner to past (act (act_of m r0) s) e high (tail_known m (half + b.virt) r0 (r1 ∷ []) s known) held free has.unhit (has.on1 refl))
+    gets true false true d q free has known = free_ends (twin_of b) owner to past s e high known held free has.unhit (has.on1 refl)
 
   -- a read, after the steps before it
   pub read_along : (leg : Bool) (earlier later : List Step) (b : Block) (owner : Owner) (to : List ℕ) (s : Mirror) (past mirror : List Event) → b.virt < half → AllSpare m half count leg b.virt (earlier ++ (Reads b owner to ∷ later)) →
-      AllFitIn (earlier ++ (Reads b owner to ∷ later)) → NoneEscapes m (all_asked m half count (earlier ++ (Reads b owner to ∷ later)) s) s.state →
-      detectable m (all_asked m half count (earlier ++ (Reads b owner to ∷ later)) s) s.state ≡ true → length s.marks ≡ half → HeldIn past s.state.blocks → HasBlockIn b.virt leg (marks_of s.marks b.virt) past mirror →
+      AllFitIn (earlier ++ (Reads b owner to ∷ later)) → AreKnown m (place m' opening half count still leg b.virt) (all_asked m half count (earlier ++ (Reads b owner to ∷ later)) s) s.state →
+      length s.marks ≡ half → HeldIn past s.state.blocks → HasBlockIn b.virt leg (marks_of s.marks b.virt) past mirror →
       let now = plain (done m half count) earlier s in
       Gets (asks m half count (Reads b owner to) now) now.state to (last_in b.virt (mirror_past m half count earlier s mirror))
-  read_along leg [] later b owner to s past mirror l spares f x d z held has =
-      let q = split_shown m (asks m half count (Reads b owner to) s) (all_asked m half count later (done m half count (Reads b owner to) s)) s.state d in
-      gets b owner to s.state past mirror l held leg (marks_of s.marks b.virt).leg0 (marks_of s.marks b.virt).leg1 (is_none (tell (act_of m (Reads b owner to)) s.state).why) refl (spares.0 refl) has q.0
-  read_along leg (step ∷ earlier) later b owner to s past mirror l spares f x d z held has =
+  read_along leg [] later b owner to s past mirror l spares f d z held has =
+      let q = first_known m (place m' opening half count still leg b.virt) (asks m half count (Reads b owner to) s) (all_asked m half count later (done m half count (Reads b owner to) s)) s.state d in
+      gets b owner to s.state past mirror l held leg (marks_of s.marks b.virt).leg0 (marks_of s.marks b.virt).leg1 (is_none (tell (act_of m (Reads b owner to)) s.state).why) refl (spares.0 refl) has q
+  read_along leg (step ∷ earlier) later b owner to s past mirror l spares f d z held has =
+      let v = place m' opening half count still leg b.virt in
       let rest = earlier ++ (Reads b owner to ∷ later) in
       let next = done m half count step s in
-      let q = split_shown m (asks m half count step s) (all_asked m half count rest next) s.state d in
-      let y = split_escapes m (asks m half count step s) (all_asked m half count rest next) s.state x in
-      read_along leg earlier later b owner to next (past_after m (asks m half count step s) s.state past) (accepted m half count step s ++ mirror) l spares.1 f.1 y.1 q.1
+      let q = first_known m v (asks m half count step s) (all_asked m half count rest next) s.state d in
+      read_along leg earlier later b owner to next (past_after m (asks m half count step s) s.state past) (accepted m half count step s ++ mirror) l spares.1 f.1
+      (then_known m v (asks m half count step s) (all_asked m half count rest next) s.state d)
       (marks_long m' opening half count still devices lies cells long step s ∙ z)
-      (held_after m' opening half count still devices lies cells long (asks m half count step s) past s.state (asks_fit m' opening half count still devices lies cells long step s f.0) y.0 q.0 held)
-      (step_has m' opening half count still devices lies cells long b.virt leg step s past mirror l spares.0 f.0 y.0 q.0 z has)
+      (held_after m' opening half count still devices lies cells long v (asks m half count step s) past s.state (asks_fit m' opening half count still devices lies cells long step s f.0) q held)
+      (step_has m' opening half count still devices lies cells long b.virt leg step s past mirror l spares.0 f.0 q z has)

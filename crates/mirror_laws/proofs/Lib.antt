@@ -1,5 +1,6 @@
 pub mod Ways
 pub mod Holds
+pub mod Known
 mod Steps
 mod Delivery
 mod Whole

@@ -14,13 +14,12 @@ use Rattle.page_pool.specs.Cells.{gather}
 use Rattle.block_path.specs.Acts.{State, act, effect}
 use Rattle.block_path.specs.Serial.{plain}
 use Rattle.block_path.proofs.Cells.{below}
-use Rattle.walk_laws.specs.Detectable.{detectable}
 use Rattle.walk_laws.specs.FirstLayer.{is_hit}
 use Rattle.walk_laws.specs.Past.{Brought, Event, event_of, past_after, steps_from}
 use Rattle.walk_laws.specs.ScriptWalk.{act_of}
 use Rattle.walk_laws.specs.Settings.{Block, Setting}
 use Rattle.walk_laws.specs.Steps.{Alters, Reads, Seals, Sets, Shows, Step, Writes, WritesPi}
-use Rattle.walk_laws.specs.UnderMap.{NoneEscapes, home}
+use Rattle.walk_laws.specs.UnderMap.{home}
 use Rattle.walk_laws.proofs.TupleFrames.{frame_small}
 use Rattle.run_laws.specs.ShownRun.{HasCells, LiesOn}
 use Rattle.walk_laws.proofs.InSteps.{scatter_length}
@@ -30,13 +29,14 @@ use Rattle.mirror_laws.specs.OneGood.{AllSpare, AreBytes, HoldsProper, IsMirrorR
 use Rattle.mirror_laws.specs.Repair.{WalkedRepair, mirror_repair, repair_block, repair_from, steady}
 use Rattle.run_laws.proofs.Along.{begins}
 use Rattle.run_laws.proofs.CleanWhereRead.{on_clean_volume}
-use Rattle.mirror_laws.proofs.Delivery.{AllFitIn, FitsIn, last_in, split_escapes, split_shown}
+use Rattle.mirror_laws.proofs.Delivery.{AllFitIn, FitsIn, last_in}
 use Rattle.mirror_laws.proofs.Holds.{on_medium, refused_last}
+use Rattle.mirror_laws.proofs.Known.{AreKnown, first_known, then_known}
 use Rattle.run_laws.proofs.Layers.{checked}
 use Rattle.run_laws.proofs.Reading.{checked_form}
 use Rattle.mirror_laws.proofs.Mending.{After, Before, Mended, SoundAs, SpoiltAt, at0, at1, block_mended}
 use Rattle.mirror_laws.proofs.Steps.{HasIn, Held, asks_fit, held_after, marks_long, step_has}
-use Rattle.mirror_laws.proofs.Whole.{script_fits, starts}
+use Rattle.mirror_laws.proofs.Whole.{known_at, script_fits, starts}
 use Rattle.pi_tuple.proofs.TupleLaws.{same_fields}
 
 smaller : (w u : ℕ) → w < suc u → (w ≡ u → ⊥) → w < u
@@ -100,17 +100,18 @@ module _ (m' : Setting) (opening : State) (half : ℕ) (count : ℕ → ℕ) (st
     below : (last u mirror).app < 2 ^ 16
 
   ends : (u : ℕ) (leg : Bool) (steps : List Step) (s : Mirror) (past mirror : List Event) → u < half → AllSpare m half count leg u steps → AllFitIn m' opening half count still devices lies cells long steps →
-      NoneEscapes m (all_asked m half count steps s) s.state → detectable m (all_asked m half count steps s) s.state ≡ true → length s.marks ≡ half → HeldHere past s.state.blocks → HasHere u leg (marks_of s.marks u) past mirror →
+      AreKnown m (on_leg leg u (half + u)) (all_asked m half count steps s) s.state → length s.marks ≡ half → HeldHere past s.state.blocks → HasHere u leg (marks_of s.marks u) past mirror →
       (last u mirror).app < 2 ^ 16 → Ends u leg (plain (done m half count) steps s) (mirror_past m half count steps s mirror)
-  ends u leg [] s past mirror l spares f x d z held has below = record { past = past; held = held; has = has; sized = z; below = below }
-  ends u leg (step ∷ steps) s past mirror l spares f x d z held has below =
+  ends u leg [] s past mirror l spares f d z held has below = record { past = past; held = held; has = has; sized = z; below = below }
+  ends u leg (step ∷ steps) s past mirror l spares f d z held has below =
+      let v = on_leg leg u (half + u) in
       let next = done m half count step s in
-      let q = split_shown m (asks m half count step s) (all_asked m half count steps next) s.state d in
-      let y = split_escapes m (asks m half count step s) (all_asked m half count steps next) s.state x in
-      ends u leg steps next (past_after m (asks m half count step s) s.state past) (accepted m half count step s ++ mirror) l spares.1 f.1 y.1 q.1
+      let q = first_known m v (asks m half count step s) (all_asked m half count steps next) s.state d in
+      ends u leg steps next (past_after m (asks m half count step s) s.state past) (accepted m half count step s ++ mirror) l spares.1 f.1
+      (then_known m v (asks m half count step s) (all_asked m half count steps next) s.state d)
       (marks_long m' opening half count still devices lies cells long step s ∙ z)
-      (held_after m' opening half count still devices lies cells long (asks m half count step s) past s.state (asks_fit m' opening half count still devices lies cells long step s f.0) y.0 q.0 held)
-      (step_has m' opening half count still devices lies cells long u leg step s past mirror l spares.0 f.0 y.0 q.0 z has)
+      (held_after m' opening half count still devices lies cells long v (asks m half count step s) past s.state (asks_fit m' opening half count still devices lies cells long step s f.0) q held)
+      (step_has m' opening half count still devices lies cells long u leg step s past mirror l spares.0 f.0 q z has)
       (step_below u step s mirror f.0 below)
 
   abbrev SoundHere : (v : ℕ) → Brought → List ℕ → Type 0
@@ -218,7 +219,7 @@ module _ (m' : Setting) (devices : List DeviceInfo) (half : ℕ) (ops : List Op)
   at_end u l =
       let good = run.one_good u l in
       ends m' opening half (count_of ops) run.unshifted devices run.lies run.cells run.long u good.leg (steps_from base 1 ops) (mirror_opened half opening) [] [] l good.spares (script_fits m' devices half ops opening run)
-      run.no_escape run.shown (length-replicate half fresh) (begins m' devices run.lies opening run.cells (on_clean_volume (checked m') devices opening.blocks refl run.unshifted run.clean)) (starts m' devices half ops opening run u good.leg l) (short u l)
+      (known_at m' devices half ops opening run u l) (length-replicate half fresh) (begins m' devices run.lies opening run.cells (on_clean_volume (checked m') devices opening.blocks refl run.unshifted run.clean)) (starts m' devices half ops opening run u good.leg l) (short u l)
 
   begun : (u : ℕ) → u < half → Before m' opening half u (last_one u) (marks_of now.marks u) (get_or now.state.blocks (home base u) []) (get_or now.state.blocks (home base (half + u)) [])
   begun u l =

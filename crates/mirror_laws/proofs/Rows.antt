@@ -19,14 +19,14 @@ use Rattle.block_path.specs.WayIn.{from_wire}
 use Rattle.block_path.specs.WayOut.{to_wire}
 use Rattle.walk_laws.specs.Past.{brought_by}
 use Rattle.walk_laws.specs.Settings.{Setting}
-use Rattle.walk_laws.proofs.ScriptRows.{fail, flip, formatted, seg}
+use Rattle.walk_laws.proofs.ScriptRows.{fail, flip, formatted, keep, seg}
 use Rattle.mirror_laws.specs.Mirror.{Mirror, fresh, mirror_replies, mirror_walk}
 use Rattle.mirror_laws.specs.OnLegs.{all_landed, blocks_on, come, comes_from, listed_written, marks_written, why_of, whys_written}
 use Rattle.mirror_laws.specs.LegByLeg.{brought_of}
 use Rattle.mirror_laws.specs.Stretches.{On0, good0, good1, needs}
 use Rattle.mirror_laws.specs.Repair.{WalkedRepair, mirror_repair, steady}
 
-abbrev with_faults : List FaultLine → Setting
+abbrev pub with_faults : List FaultLine → Setting
 with_faults faults = record {
   mode = record { kind = Crc; dix = true; dif = true; protect = 1; app = 0; mask = 0 };
   ty = One;
@@ -81,7 +81,7 @@ unfolding crc ip found_in to_medium from_medium to_wire from_wire run
 unread_counts = (refl, (refl, refl))
 
 -- The medium of leg 0 can't store the block: as where the leg refuses it, and the repair writes it anew.
-abbrev unstored : Setting
+abbrev pub unstored : Setting
 unstored = with_faults (fail 2 0)
 
 unstored_replies : mirror_replies unstored 1 ops opening ≡ Silent ∷ Whole ∷ Whole ∷ Shown (0xAA ∷ 0 ∷ []) ∷ []
@@ -100,17 +100,67 @@ unfolding crc ip found_in to_medium from_medium to_wire from_wire run
 unstored_counts = (refl, (refl, refl))
 
 -- It can't send it: the other leg serves it, and both stay fresh. Where neither medium sends it, the block is listed.
-unsent_replies : mirror_replies (with_faults (fail 3 0)) 1 ops opening ≡ Silent ∷ Whole ∷ Whole ∷ Shown (0xAA ∷ 0 ∷ []) ∷ []
+abbrev pub unsent : Setting
+unsent = with_faults (fail 3 0)
+
+unsent_replies : mirror_replies unsent 1 ops opening ≡ Silent ∷ Whole ∷ Whole ∷ Shown (0xAA ∷ 0 ∷ []) ∷ []
 unfolding crc ip found_in to_medium from_medium to_wire from_wire run
 unsent_replies = refl
 
-unsent_marks : (mirror_walk (with_faults (fail 3 0)) 1 ops opening).marks ≡ fresh ∷ []
+unsent_marks : (mirror_walk unsent 1 ops opening).marks ≡ fresh ∷ []
 unfolding crc ip found_in to_medium from_medium to_wire from_wire run
 unsent_marks = refl
 
 both_unsent : mirror_replies (with_faults (fail 3 0 ++ fail 3 1)) 1 ops opening ≡ Silent ∷ Whole ∷ Bad (record { k = 0; why = Medium } ∷ []) ∷ Shown (0 ∷ 0 ∷ []) ∷ []
 unfolding crc ip found_in to_medium from_medium to_wire from_wire run
 both_unsent = refl
+
+-- Neither medium can store the block: it is listed, and both legs keep the old data.
+abbrev pub neither_stored : Setting
+neither_stored = with_faults (fail 2 0 ++ fail 2 1)
+
+neither_replies : mirror_replies neither_stored 1 ops opening ≡ Silent ∷ Bad (record { k = 0; why = Medium } ∷ []) ∷ Whole ∷ Shown (0 ∷ 0 ∷ []) ∷ []
+unfolding crc ip found_in to_medium from_medium to_wire from_wire run
+neither_replies = refl
+
+-- Leg 0 refuses the block, and the medium of leg 1 can't store it: the same.
+abbrev pub good_failed : Setting
+good_failed = with_faults (flip 2 0 HostToAdapter 0 1 ++ fail 2 1)
+
+good_failed_replies : mirror_replies good_failed 1 ops opening ≡ Silent ∷ Bad (record { k = 0; why = Adapter Guard } ∷ []) ∷ Whole ∷ Shown (0 ∷ 0 ∷ []) ∷ []
+unfolding crc ip found_in to_medium from_medium to_wire from_wire run
+good_failed_replies = refl
+
+-- The medium of leg 0 says that it has stored the block, and stores one byte of it. The target finds that, the other leg serves the read, and the repair writes it anew.
+abbrev pub torn : Setting
+torn = with_faults (keep 2 0 1)
+
+torn_replies : mirror_replies torn 1 ops opening ≡ Silent ∷ Whole ∷ Whole ∷ Shown (0xAA ∷ 0 ∷ []) ∷ []
+unfolding crc ip found_in to_medium from_medium to_wire from_wire run
+torn_replies = refl
+
+torn_marks : (mirror_walk torn 1 ops opening).marks ≡ fresh ∷ []
+unfolding crc ip found_in to_medium from_medium to_wire from_wire run
+torn_marks = refl
+
+abbrev torn_repair : WalkedRepair
+torn_repair = mirror_repair torn 1 (mirror_walk torn 1 ops opening)
+
+torn_counts : (torn_repair.repaired ≡ 1) × ((torn_repair.lost ≡ 0) × (torn_repair.marks ≡ fresh ∷ []))
+unfolding crc ip found_in to_medium from_medium to_wire from_wire run
+torn_counts = (refl, (refl, refl))
+
+-- All but the last byte are stored, and that one is as it was: that can't be told from the whole block.
+abbrev pub unfound : Setting
+unfound = with_faults (keep 2 0 519)
+
+-- It says so, and stores nothing: its leg is believed, and the read has the old data.
+abbrev pub lost : Setting
+lost = with_faults (keep 2 0 0)
+
+lost_replies : mirror_replies lost 1 ops opening ≡ Silent ∷ Whole ∷ Whole ∷ Shown (0 ∷ 0 ∷ []) ∷ []
+unfolding crc ip found_in to_medium from_medium to_wire from_wire run
+lost_replies = refl
 
 -- ---- leg by leg
 

@@ -1,7 +1,7 @@
 -- One step of a mirror: what is stored, and what holds of one block.
-use Rattle.std.proofs.Common.{◌≡◌, ◌<◌, ◌^◌, ℕ, ◌+◌, Bool, true, false, eqb, ◌||◌, List, [], ◌∷◌, ◌++◌, length, set, map, Option, None, refl, sym, ap, subst, ◌∙◌, arith}
+use Rattle.std.proofs.Common.{◌≡◌, ◌<◌, ◌^◌, ℕ, ◌+◌, Bool, true, false, eqb, ◌&&◌, ◌||◌, not, List, [], ◌∷◌, ◌++◌, length, set, map, Option, None, refl, sym, ap, subst, ◌∙◌, arith}
 use Rattle.std.specs.Prelude.{pos}
-use Rattle.std.proofs.lemmas.Bool.{and_parts, eqb-false, eqb-true, ne_eqb}
+use Rattle.std.proofs.lemmas.Bool.{and_from, and_parts, eqb-false, eqb-true, false≢true, ne_eqb, not-true, not_from_false}
 use Rattle.std.proofs.lemmas.List.{length-set, get_or-set_same, get_or-set_other}
 use Rattle.pi_guard.specs.Guards.{guard_of}
 use Rattle.pi_tuple.specs.Finds.{is_escaped}
@@ -21,22 +21,23 @@ use Rattle.block_path.specs.Blocks.{own_frame, own_tuple, written_by}
 use Rattle.block_path.specs.Serial.{plain}
 use Rattle.block_path.specs.WayOut.{Fails, Refuses, Stores, WayOut, way_out}
 use Rattle.block_path.proofs.Cells.{gather_length}
-use Rattle.walk_laws.specs.Detectable.{detectable, shows_out, step_shows}
-use Rattle.walk_laws.specs.FirstLayer.{is_all, is_hit, is_served, is_stored_whole}
+use Rattle.walk_laws.specs.Detectable.{accounted, shows_out, step_accounts}
+use Rattle.walk_laws.specs.FirstLayer.{has_shift, is_all, is_hit, is_served, is_stored_whole, loses}
 use Rattle.walk_laws.specs.Past.{Event, events_of, past_after}
 use Rattle.walk_laws.specs.PlainMap.{as_expected}
 use Rattle.walk_laws.specs.ScriptWalk.{act_of}
 use Rattle.walk_laws.specs.Settings.{Block, Setting, route}
 use Rattle.walk_laws.specs.Steps.{Alters, Reads, Seals, Sets, Shows, Step, Writes, WritesPi}
-use Rattle.walk_laws.specs.UnderMap.{NoneEscapes, home}
+use Rattle.walk_laws.specs.UnderMap.{home}
 use Rattle.walk_laws.proofs.TupleFrames.{data_is, tuple_is}
 use Rattle.run_laws.specs.ShownRun.{HasBlock, HasCells, LiesOn}
 use Rattle.mirror_laws.specs.Mirror.{Mirror, accepted, asked, asks, fresh, marked, marks_after, marks_of}
 use Rattle.mirror_laws.specs.declared.marks.Marks.{Marks}
-use Rattle.mirror_laws.specs.OneGood.{IsUnnamed, Spares, on_leg}
-use Rattle.run_laws.proofs.Along.{Marks as Stands, marks_after as stands_after, own_bare, own_small}
-use Rattle.run_laws.proofs.Counted.{AllFit, Fits}
-use Rattle.mirror_laws.proofs.Holds.{Follows, Has, elsewhere, here, near, on_medium, on_wire, place, second}
+use Rattle.mirror_laws.specs.OneGood.{AllServe, IsUnnamed, Spares, loses_none, on_leg, step_loses, stores_all}
+use Rattle.run_laws.proofs.Along.{Marks as Stands, own_bare, own_small}
+use Rattle.run_laws.proofs.Counted.{AllFit, Fits, IsPlaced, Placed, marks_after as stands_after}
+use Rattle.mirror_laws.proofs.Holds.{Follows, Has, elsewhere, here, near, no_shift, on_medium, on_wire, place, second}
+use Rattle.mirror_laws.proofs.Known.{AreKnown, tail_known}
 use Rattle.run_laws.proofs.Layers.{checked}
 use Rattle.mirror_laws.proofs.Ways.{Expects, IsStored, accepted_expects, unnamed_stores}
 
@@ -95,13 +96,30 @@ module _ (m' : Setting) (opening : State) (half : ℕ) (count : ℕ → ℕ) (st
   asks_fit (Reads b owner to) s f = asked_fit (marks_of s.marks b.virt).leg0 (marks_of s.marks b.virt).leg1 _ b owner to f
   asks_fit (Alters dev lba change) s f = (f, tt)
 
+  -- a block of a write that isn't lost counts
+  placed_block : (b : Block) → loses m b ≡ false → IsPlaced m' devices lies opening cells (λ a. true) b
+  placed_block b k =
+      let direct = no_shift m' opening half count still b TargetToMedium in
+      record { lands = λ q. absurd (false≢true (sym direct ∙ q)); counted = sym (λ i. not (k i) && not (direct i)) }
+
+  placed_step : (step : Step) → step_loses m step ≡ false → Placed m' devices lies opening cells (λ a. true) step
+  placed_step (Sets at values) k = tt
+  placed_step (Shows at) k = tt
+  placed_step (Seals body tuple app rtag) k = tt
+  placed_step (Writes b app body) k = placed_block b k
+  placed_step (WritesPi b frame) k = placed_block b k
+  placed_step (Reads b owner to) k = tt
+  placed_step (Alters dev lba change) k = tt
+
   -- what is stored after steps
-  pub held_after : (xs : List Step) (past : List Event) (s : State) → AllFit m devices xs → NoneEscapes m xs s → detectable m xs s ≡ true → Held past s.blocks →
+  pub held_after : (virt : ℕ) (xs : List Step) (past : List Event) (s : State) → AllFit m devices xs → AreKnown m virt xs s → Held past s.blocks →
       Held (past_after m xs s past) (plain act (map (act_of m) xs) s).blocks
-  held_after [] past s f e d h = h
-  held_after (x ∷ xs) past s f e d h =
-      let q = and_parts (step_shows m x s) (detectable m xs (act (act_of m x) s)) d in
-      held_after xs (events_of m x s ++ past) (act (act_of m x) s) f.1 e.1 q.1 (stands_after m' devices lies opening cells x past s f.0 e.0 q.0 h)
+  held_after virt [] past s f d h = h
+  held_after virt (x ∷ xs) past s f d h =
+      let p = and_parts (step_accounts m x s) (accounted m xs (act (act_of m x) s)) d.accounted in
+      let q = and_parts (not (step_loses m x)) (loses_none m xs) d.kept in
+      held_after virt xs (events_of m x s ++ past) (act (act_of m x) s) f.1 (tail_known m virt x xs s d)
+      (stands_after m' devices lies opening cells (λ a. true) x past s f.0 (placed_step x (not-true _ q.0)) d.escapes.0 p.0 h)
 
   -- a write that is accepted, and one of a block that no fault names
   expects_none : (b : Block) (f back : List ℕ) (log : List (List ℕ)) (w : WayOut) → Expects m' b f w → (written_by (route m b) w back log).answer.why ≡ None → as_expected m (tuple_of n f).app ≡ true
@@ -135,22 +153,25 @@ module _ (m' : Setting) (opening : State) (half : ℕ) (count : ℕ → ℕ) (st
         (record { guard = ap (λ (t : Tuple). t.guard) tuple_there ∙ ap (guard_of m'.mode.kind) (sym body_there); rtag = ap (λ (t : Tuple). t.rtag) tuple_there })
         (subst (λ a. as_expected m a ≡ true) (sym app_there) e) free served (on_wire m' opening half count still b))
 
-  -- where each fault of a write to both legs is shown, both blocks are stored whole
-  both_whole : (b : Block) (app : ℕ) (body : List ℕ) (s : State) → detectable m (Writes b app body ∷ Writes (twin_of b) app body ∷ []) s ≡ true → (is_stored_whole m b ≡ true) × (is_stored_whole m (twin_of b) ≡ true)
-  both_whole b app body s d =
-      let first = step_shows m (Writes b app body) s in
-      let next = act (act_of m (Writes b app body)) s in
-      let p = and_parts first (detectable m (Writes (twin_of b) app body ∷ []) next) d in
-      let q = and_parts (step_shows m (Writes (twin_of b) app body) next) true p.1 in (
-        (and_parts (is_stored_whole m b) (shows_out m b (own_frame (route m b) app (gather 0 body s.bytes))) p.0).0,
-        (and_parts (is_stored_whole m (twin_of b)) (shows_out m (twin_of b) (own_frame (route m (twin_of b)) app (gather 0 body s.bytes))) q.0).0,
-      )
+  -- a block of a write that the medium stores, all of it, is stored whole
+  stored_whole : (b : Block) → stores_all m b ≡ true → is_stored_whole m b ≡ true
+  stored_whole b h =
+      let all = is_all (keep_of m'.site.faults (route m b).label) in
+      let p = and_parts (is_served m b) all h in
+      and_from (is_served m b) (all && not (has_shift m b TargetToMedium)) p.0
+      (and_from all (not (has_shift m b TargetToMedium)) p.1 (not_from_false (has_shift m b TargetToMedium) (no_shift m' opening half count still b TargetToMedium)))
+
+  -- of a write to both legs, that of the good leg
+  good_stored : (leg : Bool) (u : ℕ) (b : Block) (app : ℕ) (body : List ℕ) → b.virt ≡ u → AllServe m (place m' opening half count still leg u) (Writes b app body ∷ Writes (twin_of b) app body ∷ []) →
+      stores_all m (on_leg leg b (twin_of b)) ≡ true
+  good_stored false u b app body same h = h.0 same
+  good_stored true u b app body same h = h.1.0 (ap (λ v. half + v) same)
 
   -- The good leg of a write accepts what the other accepts.
-  follows : (leg : Bool) (b : Block) (app : ℕ) (body : List ℕ) (s : State) → FitsMirror (Writes b app body) → NoneEscapes m (Writes b app body ∷ Writes (twin_of b) app body ∷ []) s →
-      detectable m (Writes b app body ∷ Writes (twin_of b) app body ∷ []) s ≡ true → IsUnnamed m (on_leg leg b (twin_of b)) →
+  follows : (virt : ℕ) (leg : Bool) (b : Block) (app : ℕ) (body : List ℕ) (s : State) → FitsMirror (Writes b app body) → AreKnown m virt (Writes b app body ∷ Writes (twin_of b) app body ∷ []) s →
+      is_served m (on_leg leg b (twin_of b)) ≡ true → IsUnnamed m (on_leg leg b (twin_of b)) →
       Follows m' opening half count still leg (tell (act_of m (Writes b app body)) s).why (tell (act_of m (Writes (twin_of b) app body)) (act (act_of m (Writes b app body)) s)).why
-  follows leg b app body s f e d free = by leg free where
+  follows virt leg b app body s f d served free = by leg served free where
     x : List ℕ
     x = gather 0 body s.bytes
 
@@ -160,26 +181,22 @@ module _ (m' : Setting) (opening : State) (half : ℕ) (count : ℕ → ℕ) (st
     next : State
     next = act (act_of m (Writes b app body)) s
 
-    all : (is_stored_whole m b ≡ true) × (is_stored_whole m (twin_of b) ≡ true)
-    all = both_whole b app body s d
-
-    served : (c : Block) → is_stored_whole m c ≡ true → is_served m c ≡ true
-    served c h = (and_parts (is_served m c) _ h).0
-
     both : (shows_out m b (own_frame (route m b) app (gather 0 body s.bytes)) ≡ true) × (shows_out m (twin_of b) (own_frame (route m (twin_of b)) app (gather 0 body s.bytes)) ≡ true)
     both =
-        let first = step_shows m (Writes b app body) s in
+        let first = step_accounts m (Writes b app body) s in
         let next = act (act_of m (Writes b app body)) s in
-        let p = and_parts first (detectable m (Writes (twin_of b) app body ∷ []) next) d in
-        let q = and_parts (step_shows m (Writes (twin_of b) app body) next) true p.1 in (
-          (and_parts (is_stored_whole m b) (shows_out m b (own_frame (route m b) app (gather 0 body s.bytes))) p.0).1,
-          (and_parts (is_stored_whole m (twin_of b)) (shows_out m (twin_of b) (own_frame (route m (twin_of b)) app (gather 0 body s.bytes))) q.0).1,
+        let p = and_parts first (accounted m (Writes (twin_of b) app body ∷ []) next) d.accounted in
+        let q = and_parts (step_accounts m (Writes (twin_of b) app body) next) true p.1 in (
+          (and_parts (shows_out m b (own_frame (route m b) app (gather 0 body s.bytes))) _ p.0).0,
+          (and_parts (shows_out m (twin_of b) (own_frame (route m (twin_of b)) app (gather 0 body s.bytes))) _ q.0).0,
         )
 
-    by : (leg : Bool) → IsUnnamed m (on_leg leg b (twin_of b)) →
+    by : (leg : Bool) → is_served m (on_leg leg b (twin_of b)) ≡ true → IsUnnamed m (on_leg leg b (twin_of b)) →
         Follows m' opening half count still leg (tell (act_of m (Writes b app body)) s).why (tell (act_of m (Writes (twin_of b) app body)) (act (act_of m (Writes b app body)) s)).why
-    by false free k = takes_unnamed b app (gather 0 body s.bytes) size f.1.0 (e.0 refl) [] _ (takes_expected (twin_of b) app (gather 0 body s.bytes) size f.1.0 (e.1.0 refl) [] _ both.1 k) free (served b all.0)
-    by true free k = takes_unnamed (twin_of b) app (gather 0 body s.bytes) size f.1.0 (e.1.0 refl) [] _ (takes_expected b app (gather 0 body s.bytes) size f.1.0 (e.0 refl) [] _ both.0 k) free (served (twin_of b) all.1)
+    by false served free k =
+        takes_unnamed b app (gather 0 body s.bytes) size f.1.0 (d.escapes.0 refl) [] _ (takes_expected (twin_of b) app (gather 0 body s.bytes) size f.1.0 (d.escapes.1.0 refl) [] _ both.1 k) free served
+    by true served free k =
+        takes_unnamed (twin_of b) app (gather 0 body s.bytes) size f.1.0 (d.escapes.1.0 refl) [] _ (takes_expected b app (gather 0 body s.bytes) size f.1.0 (d.escapes.0 refl) [] _ both.0 k) free served
 
   pub read_past : (f0 f1 d : Bool) (b c : Block) (owner : Owner) (to : List ℕ) (s : State) (past : List Event) → past_after m (asked f0 f1 d (Reads b owner to) (Reads c owner to)) s past ≡ past
   read_past true true true b c owner to s past = refl
@@ -197,16 +214,16 @@ module _ (m' : Setting) (opening : State) (half : ℕ) (count : ℕ → ℕ) (st
   marks_long (Alters dev lba change) s = refl
 
   -- One step keeps what holds of block u.
-  pub step_has : (u : ℕ) (leg : Bool) (step : Step) (s : Mirror) (past mirror : List Event) → u < half → Spares m half count leg u step → FitsMirror step → NoneEscapes m (asks m half count step s) s.state →
-      detectable m (asks m half count step s) s.state ≡ true → length s.marks ≡ half → HasIn u leg (marks_of s.marks u) past mirror →
+  pub step_has : (u : ℕ) (leg : Bool) (step : Step) (s : Mirror) (past mirror : List Event) → u < half → Spares m half count leg u step → FitsMirror step →
+      AreKnown m (place m' opening half count still leg u) (asks m half count step s) s.state → length s.marks ≡ half → HasIn u leg (marks_of s.marks u) past mirror →
       HasIn u leg (marks_of (marks_after m half count step s) u) (past_after m (asks m half count step s) s.state past) (accepted m half count step s ++ mirror)
-  step_has u leg (Sets at values) s past mirror l spares f e d z h = h
-  step_has u leg (Shows at) s past mirror l spares f e d z h = h
-  step_has u leg (Seals body tuple app rtag) s past mirror l spares f e d z h = h
-  step_has u leg (WritesPi b frame) s past mirror l spares f e d z h = h
-  step_has u leg (Reads b owner to) s past mirror l spares f e d z h =
+  step_has u leg (Sets at values) s past mirror l spares f d z h = h
+  step_has u leg (Shows at) s past mirror l spares f d z h = h
+  step_has u leg (Seals body tuple app rtag) s past mirror l spares f d z h = h
+  step_has u leg (WritesPi b frame) s past mirror l spares f d z h = h
+  step_has u leg (Reads b owner to) s past mirror l spares f d z h =
       subst (λ p. HasIn u leg (marks_of s.marks u) p mirror) (sym (read_past (marks_of s.marks b.virt).leg0 (marks_of s.marks b.virt).leg1 _ b (twin_of b) owner to s.state past)) h
-  step_has u leg (Alters dev lba change) s past mirror l spares f e d z h = record {
+  step_has u leg (Alters dev lba change) s past mirror l spares f d z h = record {
     on0 = h.on0;
     on1 = h.on1;
     good = h.good;
@@ -220,7 +237,7 @@ module _ (m' : Setting) (opening : State) (half : ℕ) (count : ℕ → ℕ) (st
     off x =
         let v = place m' opening half count still leg u in
         let p = cells.apart dev lba (place_in m'.entries v).0 (place_in m'.entries v).1 f (lies.inside v (inside leg)) x in spares p.0 p.1
-  step_has u leg (Writes b app body) s past mirror l spares f e d z h = by (eqb b.virt u) refl where
+  step_has u leg (Writes b app body) s past mirror l spares f d z h = by (eqb b.virt u) refl where
     w0 : Option Why
     w0 = (tell (act_of m (Writes b app body)) s.state).why
 
@@ -230,20 +247,18 @@ module _ (m' : Setting) (opening : State) (half : ℕ) (count : ℕ → ℕ) (st
     below : b.virt < length s.marks
     below = let k = f.0 in omega (arith, k, z)
 
-    whole : (leg : Bool) → is_stored_whole m (on_leg leg b (twin_of b)) ≡ true
-    whole false = (both_whole b app body s.state d).0
-    whole true = (both_whole b app body s.state d).1
-
     by : (t : Bool) → eqb b.virt u ≡ t →
         HasIn u leg (marks_of (marks_after m half count (Writes b app body) s) u) (past_after m (asks m half count (Writes b app body) s) s.state past) (accepted m half count (Writes b app body) s ++ mirror)
     by true q =
         let same = eqb-true b.virt u q in
         let free = spares same in
+        let all = good_stored leg u b app body same d.serves in
+        let served = (and_parts (is_served m (on_leg leg b (twin_of b))) _ all).0 in
         let there : marks_of (set s.marks b.virt (marked w0 w1 (marks_of s.marks b.virt))) u ≡ marked w0 w1 (marks_of s.marks b.virt) =
         ap (λ i. marks_of (set s.marks b.virt (marked w0 w1 (marks_of s.marks b.virt))) i) (sym same) ∙ get_or-set_same s.marks b.virt (marked w0 w1 (marks_of s.marks b.virt)) fresh below in
         subst (λ k. HasIn u leg k (past_after m (asks m half count (Writes b app body) s) s.state past) (accepted m half count (Writes b app body) s ++ mirror)) (sym there)
         (here m' opening half count still devices lies cells long u l b (record { body = gather 0 body s.state.bytes; app = app }) f.0 same leg w0 w1 (marks_of s.marks b.virt) past mirror
-        (follows leg b app body s.state f e d free) (free TargetToMedium) (whole leg) (subst (λ i. HasIn u leg (marks_of s.marks i) past mirror) (sym same) h))
+        (follows (place m' opening half count still leg u) leg b app body s.state f d served free) (free TargetToMedium) (stored_whole (on_leg leg b (twin_of b)) all) (subst (λ i. HasIn u leg (marks_of s.marks i) past mirror) (sym same) h))
     by false q =
         let apart = eqb-false b.virt u q in
         subst (λ k. HasIn u leg k (past_after m (asks m half count (Writes b app body) s) s.state past) (accepted m half count (Writes b app body) s ++ mirror))

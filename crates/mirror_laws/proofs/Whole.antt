@@ -15,9 +15,7 @@ use Rattle.block_path.specs.Blocks.{ActAnswer}
 use Rattle.block_path.specs.Serial.{plain, plain_tells}
 use Rattle.block_path.proofs.Cells.{AllBelow, below, distinct, gather_past}
 use Rattle.block_path.proofs.InTurn.{plain_append}
-use Rattle.walk_laws.specs.Detectable.{detectable}
 use Rattle.walk_laws.specs.FirstLayer.{last_accepted}
-use Rattle.walk_laws.specs.UnderMap.{NoneEscapes}
 use Rattle.walk_laws.specs.Past.{Brought, Event, steps_from}
 use Rattle.walk_laws.specs.ScriptWalk.{act_of, bad_from, reply_of, request_reply, whole_or_bad}
 use Rattle.walk_laws.specs.Settings.{Block, Setting, block_of}
@@ -26,13 +24,14 @@ use Rattle.walk_laws.proofs.CalmRuns.{part_length}
 use Rattle.walk_laws.proofs.InSteps.{acts_stepped, each_split, same_pages, steps_split}
 use Rattle.run_laws.proofs.Parts.{block_below, block_distinct, blocks_apart, landed}
 use Rattle.mirror_laws.specs.Mirror.{Mirror, accepted, all_asked, answer, asked, asks, count_of, done, fresh, marks_of, mirror_opened, mirror_past, mirror_replies, replies_from, twin}
-use Rattle.mirror_laws.specs.OneGood.{AllBind, AllSpare, Binds, IsMirrorRun, ReadsLast, last_of, on_leg}
+use Rattle.mirror_laws.specs.OneGood.{AllBind, AllSpare, Binds, IsMirrorRun, ReadsLast, last_of, on_leg, script_asks}
 use Rattle.run_laws.proofs.Along.{begins}
 use Rattle.run_laws.proofs.CleanWhereRead.{on_clean_volume}
 use Rattle.run_laws.proofs.Layers.{checked}
 use Rattle.run_laws.proofs.Reading.{checked_form}
 use Rattle.mirror_laws.proofs.Delivery.{AllFitIn, Gets, read_along}
 use Rattle.mirror_laws.proofs.Holds.{Has}
+use Rattle.mirror_laws.proofs.Known.{AreKnown}
 
 -- what reads leave alone
 module _ (m : Setting) (half : ℕ) (count : ℕ → ℕ) where
@@ -123,6 +122,10 @@ module _ (m' : Setting) (devices : List DeviceInfo) (half : ℕ) (ops : List Op)
   pub script_fits : FitAll (steps_from m 1 ops)
   script_fits = ops_fit (length opening.bytes) 1 ops run.bind
 
+  -- what is asked of the legs, of which a block is served on its good leg
+  pub known_at : (u : ℕ) (l : u < half) → AreKnown m (on_leg (run.one_good u l).leg u (half + u)) (script_asks m half ops opening) opening
+  known_at u l = record { escapes = run.no_escape; accounted = run.accounted; kept = run.kept; serves = (run.one_good u l).serves }
+
   pub fresh_at : (u : ℕ) → u < half → marks_of (replicate half fresh) u ≡ fresh
   fresh_at u l = get_or-replicate half u fresh fresh l
 
@@ -188,8 +191,7 @@ module _ (m' : Setting) (devices : List DeviceInfo) (half : ℕ) (ops : List Op)
         (mirror_opened half opening) [] [] (within k l)
         (subst (AllSpare m half (count_of ops) good.leg (v + k)) e good.spares)
         (subst FitAll e script_fits)
-        (subst (λ steps. NoneEscapes m (all_asked m half (count_of ops) steps (mirror_opened half opening)) opening) e run.no_escape)
-        (subst (λ steps. detectable m (all_asked m half (count_of ops) steps (mirror_opened half opening)) opening ≡ true) e run.shown)
+        (subst (λ steps. AreKnown m (on_leg good.leg (v + k) (half + (v + k))) (all_asked m half (count_of ops) steps (mirror_opened half opening)) opening) e (known_at (v + k) (within k l)))
         (length-replicate half fresh)
         (begins m' devices run.lies opening run.cells (on_clean_volume (checked m') devices opening.blocks refl run.unshifted run.clean))
         (starts (v + k) good.leg (within k l))

@@ -1,8 +1,8 @@
-use Rattle.std.specs.Prelude.{ℕ, ◌≡◌, ◌+◌, ◌*◌, ◌<◌, ◌≤◌, ◌^◌, Bool, true, false, List, [], ◌∷◌, ◌++◌, length, get_or, pos}
+use Rattle.std.specs.Prelude.{ℕ, ◌≡◌, ◌+◌, ◌*◌, ◌<◌, ◌≤◌, ◌^◌, Bool, true, false, not, ◌&&◌, List, [], ◌∷◌, ◌++◌, length, get_or, pos}
 use Rattle.std.specs.List.{All}
 use Rattle.pi_guard.specs.Guards.{crc}
 use Rattle.pi_tuple.specs.Tuples.{ref_tag}
-use Rattle.fault_schedule.specs.Altered.{shift_of}
+use Rattle.fault_schedule.specs.Altered.{keep_of, shift_of}
 use Rattle.fault_schedule.specs.declared.fault.Crossing.{Crossing}
 use Rattle.page_pool.specs.declared.segs.Seg.{Seg}
 use Rattle.page_pool.specs.Cells.{gather}
@@ -17,10 +17,10 @@ use Rattle.rig_api.specs.Frames.{data_of, tuple_of}
 use Rattle.block_path.specs.Acts.{State}
 use Rattle.block_path.specs.Moves.{AreCells}
 use Rattle.block_path.specs.Serial.{plain}
-use Rattle.walk_laws.specs.Detectable.{detectable}
-use Rattle.walk_laws.specs.FirstLayer.{has_flip, last_accepted}
+use Rattle.walk_laws.specs.Detectable.{accounted}
+use Rattle.walk_laws.specs.FirstLayer.{has_flip, is_all, is_served, last_accepted, loses}
 use Rattle.walk_laws.specs.Past.{Brought, brought_by, steps_from}
-use Rattle.walk_laws.specs.Settings.{Block, Setting}
+use Rattle.walk_laws.specs.Settings.{Block, Setting, route}
 use Rattle.walk_laws.specs.Steps.{Alters, Reads, Seals, Sets, Shows, Step, Writes, WritesPi, body_of}
 use Rattle.walk_laws.specs.UnderMap.{AreClean, NoneEscapes, address_of, home}
 use Rattle.run_laws.specs.ShownRun.{HasBlock, HasCells, IsChecked, LiesOn}
@@ -28,7 +28,7 @@ use Rattle.mirror_laws.specs.Mirror.{all_asked, count_of, done, fresh, marks_of,
 use Rattle.mirror_laws.specs.Repair.{mirror_repair}
 use Rattle.pi_tuple.specs.declared.TheConstants.{TUPLE}
 
--- One good leg: for each block of a mirror there is a leg on which no fault line alters it on its way, and no overwrite in its place.
+-- One good leg: for each block of a mirror there is a leg on which no fault line alters it on its way, and no overwrite in its place, and whose medium does what is asked of it.
 
 -- one thing for leg 0, another for leg 1
 abbrev pub on_leg : {X : Type 0} → (leg : Bool) → X → X → X
@@ -54,12 +54,50 @@ module _ (m : Setting) (half : ℕ) (count : ℕ → ℕ) (leg : Bool) (u : ℕ)
   AllSpare [] = Unit {0}
   AllSpare (step ∷ steps) = Spares step × AllSpare steps
 
-pub record HasGoodLeg (m : Setting) (half : ℕ) (ops : List Op) (u : ℕ) : Type 0 where
+-- all that a script asks of the legs
+abbrev pub script_asks : Setting → (half : ℕ) → List Op → State → List Step
+script_asks m half ops opening = all_asked m half (count_of ops) (steps_from m 1 ops) (mirror_opened half opening)
+
+-- The medium stores this block of a write, all of it, wherever it does.
+abbrev pub stores_all : Setting → Block → Bool
+stores_all m b = is_served m b && is_all (keep_of m.site.faults (route m b).label)
+
+module _ (m : Setting) (virt : ℕ) where
+  -- The medium does what a step that is asked of the legs wants of this virtual block: it stores all of it, or sends it.
+  abbrev pub Serves : Step → Type 0
+  Serves (Sets at values) = Unit {0}
+  Serves (Shows at) = Unit {0}
+  Serves (Seals body tuple app rtag) = Unit {0}
+  Serves (Writes b app body) = b.virt ≡ virt → stores_all m b ≡ true
+  Serves (WritesPi b frame) = b.virt ≡ virt → stores_all m b ≡ true
+  Serves (Reads b owner to) = b.virt ≡ virt → is_served m b ≡ true
+  Serves (Alters dev lba change) = Unit {0}
+
+  abbrev pub AllServe : List Step → Type 0
+  AllServe [] = Unit {0}
+  AllServe (step ∷ steps) = Serves step × AllServe steps
+
+pub record HasGoodLeg (m : Setting) (half : ℕ) (ops : List Op) (opening : State) (u : ℕ) : Type 0 where
   pub leg : Bool
   pub spares : AllSpare m half (count_of ops) leg u (steps_from m 1 ops)
+  pub serves : AllServe m (on_leg leg u (half + u)) (script_asks m half ops opening)
 
-abbrev pub OneGood : Setting → (half : ℕ) → List Op → Type 0
-OneGood m half ops = (u : ℕ) → u < half → HasGoodLeg m half ops u
+abbrev pub OneGood : Setting → (half : ℕ) → List Op → State → Type 0
+OneGood m half ops opening = (u : ℕ) → u < half → HasGoodLeg m half ops opening u
+
+-- A leg that lies is believed: it says that it has stored a block, so it is fresh and is read. So no block of a write may be lost on either leg.
+abbrev pub step_loses : Setting → Step → Bool
+step_loses m (Sets at values) = false
+step_loses m (Shows at) = false
+step_loses m (Seals body tuple app rtag) = false
+step_loses m (Writes b app body) = loses m b
+step_loses m (WritesPi b frame) = loses m b
+step_loses m (Reads b owner to) = false
+step_loses m (Alters dev lba change) = false
+
+abbrev pub loses_none : Setting → List Step → Bool
+loses_none m [] = true
+loses_none m (step ∷ steps) = not (step_loses m step) && loses_none m steps
 
 -- What binding a mirror's script has seen to: requests lie on the mirror, with their data, and have no tuples of the application's.
 abbrev pub Binds : Setting → List DeviceInfo → (half bytes : ℕ) → Op → Type 0
@@ -78,11 +116,8 @@ abbrev pub AllBind : Setting → List DeviceInfo → (half bytes : ℕ) → List
 AllBind m devices half bytes [] = Unit {0}
 AllBind m devices half bytes (op ∷ ops) = Binds m devices half bytes op × AllBind m devices half bytes ops
 
--- all that a script asks of the legs
-abbrev pub script_asks : Setting → (half : ℕ) → List Op → State → List Step
-script_asks m half ops opening = all_asked m half (count_of ops) (steps_from m 1 ops) (mirror_opened half opening)
-
--- The premises: type 1 with tuples passed, no shift; both legs clean and with the same data and application tags; no escape is written, each write is stored whole, the medium fails no read, each alteration can be shown, and each block has one good leg.
+-- The premises: type 1 with tuples passed, no shift; both legs clean and with the same data and application tags; no escape is written; each alteration can be shown, a block of which the medium stores a part is found, none is lost, and each has one good leg.
+-- On the other leg the medium may fail a block: that is known, so it is taken from the good one.
 pub record IsMirrorRun (m : Setting) (devices : List DeviceInfo) (half : ℕ) (ops : List Op) (opening : State) : Type 0 where
   pub checked : IsChecked m
   pub unshifted : (at : Crossing) (op : ℕ) → shift_of m.site.faults at op ≡ pos 0
@@ -93,8 +128,9 @@ pub record IsMirrorRun (m : Setting) (devices : List DeviceInfo) (half : ℕ) (o
   pub equal : (u : ℕ) → u < half → brought_by m.size (get_or opening.blocks (home m (half + u)) []) ≡ brought_by m.size (get_or opening.blocks (home m u) [])
   pub bind : AllBind m devices half (length opening.bytes) ops
   pub no_escape : NoneEscapes m (script_asks m half ops opening) opening
-  pub shown : detectable m (script_asks m half ops opening) opening ≡ true
-  pub one_good : OneGood m half ops
+  pub accounted : accounted m (script_asks m half ops opening) opening ≡ true
+  pub kept : loses_none m (script_asks m half ops opening) ≡ true
+  pub one_good : OneGood m half ops opening
 
 -- the last accepted write of block u of the mirror, after these steps of its script; before any, what leg 0 has
 abbrev pub last_of : Setting → (half : ℕ) → (count : ℕ → ℕ) → List Step → State → (u : ℕ) → Brought

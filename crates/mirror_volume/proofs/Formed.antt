@@ -17,12 +17,12 @@ use Rattle.script_laws.specs.Keeping.{Each, IsOp as KeepsRules}
 use Rattle.script_stack.proofs.Passed.{cell-there, are-bytes}
 use Rattle.script_stack.specs.Causes.{table_of}
 use Rattle.walk_laws.specs.CalmRun.{LiesInImage}
-use Rattle.walk_laws.specs.Detectable.{detectable}
+use Rattle.walk_laws.specs.Detectable.{accounted}
 use Rattle.walk_laws.specs.Settings.{Setting}
 use Rattle.walk_laws.specs.UnderMap.{NoneEscapes, home}
 use Rattle.stack_ops.specs.Ops.{is_overwrite}
 use Rattle.mirror_form_laws.specs.Passed.{supplies_none}
-use Rattle.mirror_laws.specs.OneGood.{AreBytes, OneGood, script_asks}
+use Rattle.mirror_laws.specs.OneGood.{AreBytes, OneGood, loses_none, script_asks}
 use Rattle.mirror_form_laws.specs.Forms.{is_good_on_legs, spares_other_leg}
 use Rattle.mirror_form_laws.specs.FormedMirror.{AllPutBytes, HasFormedLegs, HasStillLegs, PutsBytes, ServesLast}
 use Rattle.mirror_volume.proofs.Ground.{fits, legs, made-over, sizes}
@@ -36,13 +36,16 @@ use Rattle.script_form_laws.proofs.Formed.{lines-bytes}
 
 -- what the laws of the form say
 abbrev pub FormLaw : Type 0
-FormLaw = (m : Setting) (devices : List DeviceInfo) (half : ℕ) (ops : List Op) (opening : State) → HasFormedLegs m devices half ops opening → detectable m (script_asks m half ops opening) opening ≡ true
+FormLaw = (m : Setting) (devices : List DeviceInfo) (half : ℕ) (ops : List Op) (opening : State) → HasFormedLegs m devices half ops opening → accounted m (script_asks m half ops opening) opening ≡ true
+
+abbrev pub KeptLaw : Type 0
+KeptLaw = (m : Setting) (devices : List DeviceInfo) (half : ℕ) (ops : List Op) (opening : State) → HasFormedLegs m devices half ops opening → loses_none m (script_asks m half ops opening) ≡ true
 
 abbrev pub EscapeLaw : Type 0
 EscapeLaw = (m : Setting) (half : ℕ) (ops : List Op) (opening : State) → list_all supplies_none ops ≡ true → NoneEscapes m (script_asks m half ops opening) opening
 
 abbrev pub LegLaw : Type 0
-LegLaw = (m : Setting) (half : ℕ) (ops : List Op) → list_all (spares_other_leg half ops m.site.faults) m.site.faults ≡ true → list_any is_overwrite ops ≡ false → OneGood m half ops
+LegLaw = (m : Setting) (half : ℕ) (ops : List Op) (opening : State) → list_all (spares_other_leg half ops m.site.faults) m.site.faults ≡ true → list_any is_overwrite ops ≡ false → OneGood m half ops opening
 
 abbrev pub StillLaw : Type 0
 StillLaw = (m : Setting) (devices : List DeviceInfo) (half : ℕ) (ops : List Op) (opening : State) → HasStillLegs m devices half ops opening → ServesLast m half ops opening
@@ -100,8 +103,8 @@ module _ (s : Script) (devices : List DeviceInfo) (us : List Stored) (is : IsMir
     form = p.form;
   }
 
-  pub good-run : FormLaw → EscapeLaw → LegLaw → HoldsBytes us → IsFormedMirror s devices us → IsOneGoodRun s devices us
-  good-run shown none one bytes p =
+  pub good-run : FormLaw → KeptLaw → EscapeLaw → LegLaw → HoldsBytes us → IsFormedMirror s devices us → IsOneGoodRun s devices us
+  good-run known kept none one bytes p =
       let form = and_parts (list_all (is_good_on_legs s.mode.kind s.block (half_of s devices) s.faults s.ops) s.faults) (not (list_any is_overwrite s.ops)) p.form in
       record {
         ty = p.ty;
@@ -109,8 +112,9 @@ module _ (s : Script) (devices : List DeviceInfo) (us : List Stored) (is : IsMir
         clean = p.clean;
         equal = p.equal;
         no_escape = none m (half_of s devices) s.ops (opening_over s us) p.escapes;
-        shown = shown m devices (half_of s devices) s.ops (opening_over s us) (formed-legs none bytes p);
-        one_good = one m (half_of s devices) s.ops p.a_leg (not-true _ form.1);
+        accounted = known m devices (half_of s devices) s.ops (opening_over s us) (formed-legs none bytes p);
+        kept = kept m devices (half_of s devices) s.ops (opening_over s us) (formed-legs none bytes p);
+        one_good = one m (half_of s devices) s.ops (opening_over s us) p.a_leg (not-true _ form.1);
       }
 
   -- ---- without faults

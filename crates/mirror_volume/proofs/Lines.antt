@@ -11,7 +11,7 @@ use Rattle.stack_ops.specs.declared.op.Op.TheVariants.{Fetch, FetchPi, Fill, Ove
 use Rattle.stack_ops.specs.declared.reply.BadBlock.{BadBlock}
 use Rattle.stack_ops.specs.declared.reply.Reply.{Reply}
 use Rattle.stack_ops.specs.declared.reply.Reply.TheVariants.{Bad, Medium, Shown, Silent, Whole}
-use Rattle.mirror_volume.specs.LegsPassed.{RoseBy, listed_mediums, medium_lines}
+use Rattle.mirror_volume.specs.LegsPassed.{RoseBy, listed_mediums, medium_lines, medium_replies}
 use Rattle.volume_table.specs.declared.device.DeviceInfo.{DeviceInfo}
 use Rattle.volume_table.specs.Tables.{Table}
 use Rattle.walk_laws.specs.ScriptWalk.{bad_from, whole_or_bad}
@@ -23,9 +23,9 @@ use Rattle.mirror_laws.specs.Mirror.{neither}
 use Rattle.mirror_laws.specs.OnLegs.{listed_written}
 use Rattle.mirror_laws.specs.declared.marks.Marks.{Marks}
 use Rattle.mirror_volume.specs.Asked.{first_listed, found_after, fresh_on0, last_listed, pasted, rest_wanted, stretches}
-use Rattle.mirror_volume.specs.LegRuns.{LegRun, RanLegs, all_mediums, found_by, found_in, noted, replies_of}
+use Rattle.mirror_volume.specs.LegRuns.{LegRun, RanLegs, all_unscheduled, found_by, found_in, noted, replies_of}
 use Rattle.mirror_volume.specs.OnOps.{FetchedBy, OpBy, OpRan, OpTells, Sides, WroteBy}
-use Rattle.mirror_volume.proofs.Runs.{all_mediums-append}
+use Rattle.mirror_volume.proofs.Runs.{all_mediums, all_mediums-append, unfailing-mediums, NoneFails}
 use Rattle.rig_api.specs.State.{RigState}
 
 -- 1 for a block that is listed with the medium
@@ -242,6 +242,10 @@ rose-none o n l = inl (omega (arith, l))
 rose-by-one : (o n : ℕ) → o ≤ n → Rose o n → RoseBy 1 o n
 rose-by-one o n l h = grind (arith, l, h)
 
+-- by runs without `fail` lines
+by-runs : (t : Table) (devices : List DeviceInfo) (runs : List LegRun) (reply : Reply) (before after : RigState) → NoneFails runs → RanLegs t devices runs before after → medium_lines (reply ∷ []) ≤ all_mediums runs → RoseBy (medium_lines (reply ∷ [])) before.faults after.faults
+by-runs t devices runs reply before after none ran few = let e = unfailing-mediums runs none in rose-less (medium_lines (reply ∷ [])) (all_unscheduled runs) before.faults after.faults (omega (arith, few, e)) ran.medium
+
 -- as many lines of the reply as the count rose
 abbrev Told : Reply → (before after : RigState) → Type 0
 Told reply before after = RoseBy (medium_lines (reply ∷ [])) before.faults after.faults
@@ -263,15 +267,52 @@ op-lines s t devices half number (Put page off bytes) old new runs reply before 
 op-lines s t devices half number (Show seg) old new runs reply before after none by ran told = silent t devices runs reply before after ran (ap (λ (r : Reply). medium_lines (r ∷ [])) by.1)
 op-lines s t devices half number (Seal n body tuples app rtag) old new runs reply before after none by ran told = silent t devices runs reply before after ran (as-silent reply by.1)
 op-lines s t devices half number (Write v n body app) old new runs reply before after none by ran told =
-    rose-less (medium_lines (reply ∷ [])) (all_mediums runs) before.faults after.faults (lines-of-write s half number v n app (bytes_in old.pool body 0 (total body)) old.marks new.marks runs reply by.1) (ran.medium (op-unfailing s half none number (Write v n body app) old new runs reply by))
+    by-runs t devices runs reply before after (op-unfailing s half none number (Write v n body app) old new runs reply by) ran (lines-of-write s half number v n app (bytes_in old.pool body 0 (total body)) old.marks new.marks runs reply by.1)
 op-lines s t devices half number (Fetch v n body) old new runs reply before after none by ran told =
-    rose-less (medium_lines (reply ∷ [])) (all_mediums runs) before.faults after.faults (lines-of-read s half number v n body old new runs reply by) (ran.medium (op-unfailing s half none number (Fetch v n body) old new runs reply by))
+    by-runs t devices runs reply before after (op-unfailing s half none number (Fetch v n body) old new runs reply by) ran (lines-of-read s half number v n body old new runs reply by)
 op-lines s t devices half number (WritePi v n body tuples) old new runs reply before after none by ran told = silent t devices runs reply before after ran (as-silent reply by.1)
 op-lines s t devices half number (FetchPi v n body tuples) old new runs reply before after none by ran told = silent t devices runs reply before after ran (as-silent reply by.1)
 op-lines s t devices half number (Overwrite dev lba change) old new runs reply before after none by ran told = overwritten reply before after ran.faults by.1 told.medium
 op-lines s t devices half number Wait old new runs reply before after none by ran told = silent t devices runs reply before after ran (as-silent reply by.1)
 
+-- ---- whatever lines say that the medium fails
+
+-- as many lines of the runs, but for the blocks that fault lines name, and as many overwrites
+abbrev Unscheduled : List LegRun → Reply → (before after : RigState) → Type 0
+Unscheduled runs reply before after = RoseBy (all_unscheduled runs + medium_replies (reply ∷ [])) before.faults after.faults
+
+by-legs : (t : Table) (devices : List DeviceInfo) (runs : List LegRun) (reply : Reply) (before after : RigState) → RanLegs t devices runs before after → medium_replies (reply ∷ []) ≡ 0 → Unscheduled runs reply before after
+by-legs t devices runs reply before after ran e = rose-less (all_unscheduled runs + medium_replies (reply ∷ [])) (all_unscheduled runs) before.faults after.faults (omega (arith, e)) ran.medium
+
+by-overwrite : (runs : List LegRun) (reply : Reply) (before after : RigState) → runs ≡ [] → before.faults ≤ after.faults → (reply ≡ Silent) ⊎ (reply ≡ Medium) → (reply ≡ Medium → Rose before.faults after.faults) → Unscheduled runs reply before after
+by-overwrite runs reply before after none l (inl e) h = rw (none, e) (rose-none before.faults after.faults l)
+by-overwrite runs reply before after none l (inr e) h = let r = h e in rw (none, e) (rose-by-one before.faults after.faults l r)
+
+no-overwrite : (reply said : Reply) → reply ≡ said → medium_replies (said ∷ []) ≡ 0 → medium_replies (reply ∷ []) ≡ 0
+no-overwrite reply said e z = ap (λ (r : Reply). medium_replies (r ∷ [])) e ∙ z
+
+requested : (bad : List BadBlock) → medium_replies (whole_or_bad bad ∷ []) ≡ 0
+requested [] = refl
+requested (b ∷ bad) = refl
+
+pub op-unscheduled : (s : Script) (t : Table) (devices : List DeviceInfo) (half number : ℕ) (op : Op) (old new : Sides) (runs : List LegRun) (reply : Reply) (before after : RigState)
+    → OpBy s half number op old new runs reply → OpRan op t devices runs before after → OpTells op reply before after → RoseBy (all_unscheduled runs + medium_replies (reply ∷ [])) before.faults after.faults
+op-unscheduled s t devices half number (Fill seg byte) old new runs reply before after by ran told = by-legs t devices runs reply before after ran (no-overwrite reply Silent by.1 refl)
+op-unscheduled s t devices half number (Put page off bytes) old new runs reply before after by ran told = by-legs t devices runs reply before after ran (no-overwrite reply Silent by.1 refl)
+op-unscheduled s t devices half number (Show seg) old new runs reply before after by ran told = by-legs t devices runs reply before after ran (no-overwrite reply _ by.1 refl)
+op-unscheduled s t devices half number (Seal n body tuples app rtag) old new runs reply before after by ran told = by-legs t devices runs reply before after ran (no-overwrite reply Silent by.1 refl)
+op-unscheduled s t devices half number (Write v n body app) old new runs reply before after by ran told = by-legs t devices runs reply before after ran (no-overwrite reply _ by.1.reply_is (requested _))
+op-unscheduled s t devices half number (Fetch v n body) old new runs reply before after by ran told = by-legs t devices runs reply before after ran (no-overwrite reply _ by.reply_is (requested _))
+op-unscheduled s t devices half number (WritePi v n body tuples) old new runs reply before after by ran told = by-legs t devices runs reply before after ran (no-overwrite reply Silent by.1 refl)
+op-unscheduled s t devices half number (FetchPi v n body tuples) old new runs reply before after by ran told = by-legs t devices runs reply before after ran (no-overwrite reply Silent by.1 refl)
+op-unscheduled s t devices half number (Overwrite dev lba change) old new runs reply before after by ran told = by-overwrite runs reply before after ran.none ran.faults by.1 told.medium
+op-unscheduled s t devices half number Wait old new runs reply before after by ran told = by-legs t devices runs reply before after ran (no-overwrite reply Silent by.1 refl)
+
 -- ---- replies one after another
+
+pub overwrites-append : (xs ys : List Reply) → medium_replies (xs ++ ys) ≡ medium_replies xs + medium_replies ys
+overwrites-append [] ys = omega arith
+overwrites-append (x ∷ xs) ys = let e = overwrites-append xs ys in omega (arith, e)
 
 pub lines-append : (xs ys : List Reply) → medium_lines (xs ++ ys) ≡ medium_lines xs + medium_lines ys
 lines-append [] ys = omega arith

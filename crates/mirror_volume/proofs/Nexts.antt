@@ -15,20 +15,20 @@ use Rattle.stack_ops.specs.declared.op.Op.TheVariants.{Fetch, FetchPi, Fill, Ove
 use Rattle.stack_ops.specs.declared.reply.Reply.{Reply}
 use Rattle.stack_ops.specs.declared.reply.Reply.TheVariants.{Medium, Silent}
 use Rattle.script_text.specs.declared.script.Script.{Script}
-use Rattle.mirror_volume.specs.LegsPassed.{table_of, medium_lines, AreStored}
+use Rattle.mirror_volume.specs.LegsPassed.{table_of, medium_replies, AreStored}
 use Rattle.mirror_volume.proofs.LegsPassed.{told-shapes, told-stored, is_told}
-use Rattle.mirror_volume.specs.LegRuns.{LegRun, NamesNoMedium}
+use Rattle.mirror_volume.specs.LegRuns.{LegRun, NoneUnscheduled}
 use Rattle.mirror_volume.specs.OnOps.{DidOp, OpBy, OpRan, OpWalked, Sides}
 use Rattle.mirror_volume.specs.Standing.{HasLegDevices, IsBoundMirror, KeepsToWalk, StandsAt, half_of, op_at}
 
--- an overwrite that names no medium was made
-silent : (reply : Reply) → medium_lines (reply ∷ []) ≡ 0 → (reply ≡ Silent) ⊎ (reply ≡ Medium) → reply ≡ Silent
+-- an overwrite that doesn't reply that its store call failed was made
+silent : (reply : Reply) → medium_replies (reply ∷ []) ≡ 0 → (reply ≡ Silent) ⊎ (reply ≡ Medium) → reply ≡ Silent
 silent reply none (inl e) = e
-silent reply none (inr e) = let one : medium_lines (reply ∷ []) ≡ 1 = ap (λ (r : Reply). medium_lines (r ∷ [])) e in absurd (omega (arith, none, one))
+silent reply none (inr e) = let one : medium_replies (reply ∷ []) ≡ 1 = ap (λ (r : Reply). medium_replies (r ∷ [])) e in absurd (omega (arith, none, one))
 
--- where no line names the medium
+-- where no store call failed, by what is told
 pub op-walked : (s : Script) (t : Table) (devices : List DeviceInfo) (half number : ℕ) (op : Op) (old new : Sides) (before after : RigState) (runs : List LegRun) (reply : Reply) (us : List Stored)
-    → OpRan op t devices runs before after → DidOp s half number op old new before after runs reply → before.units ≡ Some us → NamesNoMedium runs (reply ∷ []) → (left : List Stored) × ((after.units ≡ Some left) × OpWalked op t us runs reply left)
+    → OpRan op t devices runs before after → DidOp s half number op old new before after runs reply → before.units ≡ Some us → NoneUnscheduled runs (reply ∷ []) → (left : List Stored) × ((after.units ≡ Some left) × OpWalked op t us runs reply left)
 op-walked s t devices half number (Fill seg byte) old new before after runs reply us ran did e none = ran.told us e none.legs
 op-walked s t devices half number (Put page off bytes) old new before after runs reply us ran did e none = ran.told us e none.legs
 op-walked s t devices half number (Show seg) old new before after runs reply us ran did e none = ran.told us e none.legs
@@ -38,7 +38,7 @@ op-walked s t devices half number (Fetch v n body) old new before after runs rep
 op-walked s t devices half number (WritePi v n body tuples) old new before after runs reply us ran did e none = ran.told us e none.legs
 op-walked s t devices half number (FetchPi v n body tuples) old new before after runs reply us ran did e none = ran.told us e none.legs
 op-walked s t devices half number (Overwrite dev lba change) old new before after runs reply us ran did e none =
-    let made = silent reply none.report did.0.1 in
+    let made = silent reply none.overwrites did.0.1 in
     (with_block us dev lba (changed us change (block_at us dev lba)), (did.1.silent made us e, (made, refl)))
 op-walked s t devices half number Wait old new before after runs reply us ran did e none = ran.told us e none.legs
 

@@ -1,9 +1,7 @@
 -- The script of the rows is bound as a mirror's, and meets the premises.
-use Rattle.std.proofs.Common.{◌≡◌, ◌<◌, ℕ, zero, suc, ◌+◌, true, List, [], ◌∷◌, get_or, refl, arith}
-use Rattle.std.specs.Prelude.{None, Some, nat_lt}
+use Rattle.std.proofs.Common.{◌≡◌, ◌<◌, ℕ, zero, suc, ◌+◌, true, [], get_or, refl, arith}
+use Rattle.std.specs.Prelude.{None, Some}
 use Rattle.script_lines.specs.declared.kind.ScriptKind.TheVariants.{BadFault}
-use Rattle.std.specs.List.{list_all}
-use Rattle.std.proofs.lemmas.Bool.{and_parts, ltb-true}
 use Rattle.pi_guard.specs.Guards.{crc, ip}
 use Rattle.pi_tuple.specs.declared.checks.PiType.TheVariants.{One}
 use Rattle.fault_schedule.specs.declared.fault.Crossing.TheVariants.{AdapterToHost, AdapterToTarget, HostToAdapter, MediumToTarget, TargetToAdapter, TargetToMedium}
@@ -21,8 +19,9 @@ use Rattle.script_text.specs.declared.script.Script.{Script}
 use Rattle.script_stack.specs.Causes.{table_of}
 use Rattle.mirror_volume.specs.LegsPassed.{mirror_fault}
 use Rattle.mirror_laws.specs.OneGood.{HasGoodLeg, IsUnnamed}
+use Rattle.mirror_volume.specs.Enough.{opening_over}
 use Rattle.mirror_volume.specs.Standing.{half_of, mirror_setting}
-use Rattle.mirror_volume.specs.Rows.{devices, script, still_script, us}
+use Rattle.mirror_volume.specs.Rows.{devices, failing_script, script, still_script, us}
 use Rattle.mirror_volume.specs.Premises.{IsFormedMirror, IsOneGoodRun, IsStillMirror}
 
 no_fault : table_fault script.entries devices 512 ≡ None
@@ -67,8 +66,9 @@ fetched MediumToTarget = refl
 fetched TargetToAdapter = refl
 fetched AdapterToHost = refl
 
-one_good : (u : ℕ) → u < 1 → HasGoodLeg m 1 script.ops u
-one_good zero l = record { leg = true; spares = (λ e. written, (λ e. fetched, tt)) }
+one_good : (u : ℕ) → u < 1 → HasGoodLeg m 1 script.ops (opening_over script us) u
+unfolding crc ip found_in to_medium from_medium to_wire from_wire run
+one_good zero l = record { leg = true; spares = (λ e. written, (λ e. fetched, tt)); serves = (λ e. refl, (λ e. refl, (λ e. refl, tt))) }
 one_good (suc u) l = absurd (omega (arith, l))
 
 pub one_good_row : IsOneGoodRun script devices us
@@ -79,7 +79,8 @@ one_good_row = record {
   clean = clean;
   equal = equal;
   no_escape = (λ h. refl, (λ h. refl, (tt, tt)));
-  shown = refl;
+  accounted = refl;
+  kept = refl;
   one_good = one_good;
 }
 
@@ -93,6 +94,21 @@ formed_row = record {
   a_leg = refl;
   escapes = refl;
   clean = clean;
+  equal = equal;
+}
+
+-- So it is where the medium of leg 0 fails the write.
+pub failing_bound : mirror_fault failing_script (table_of failing_script devices) devices ≡ None
+failing_bound = refl
+
+pub failing_row : IsFormedMirror failing_script devices us
+failing_row = record {
+  ty = refl;
+  protect = refl;
+  form = refl;
+  a_leg = refl;
+  escapes = refl;
+  clean = λ v l z. (let c = clean v l z in record { no_escape = c.no_escape; guard = c.guard; app = c.app; rtag = c.rtag });
   equal = equal;
 }
 

@@ -104,6 +104,7 @@ module _ (s : Script) (devices : List DeviceInfo) (us : List Stored) (is : IsMir
     equal = p.equal;
     bind = all-bound;
     no_escape = p.no_escape;
-    shown = p.shown;
+    accounted = p.accounted;
+    kept = p.kept;
     one_good = p.one_good;
   }

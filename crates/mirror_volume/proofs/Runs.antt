@@ -1,13 +1,14 @@
 -- Runs on the legs: none, one, and some after others.
-use Rattle.std.proofs.Common.{ℕ, ◌≡◌, ◌+◌, ◌≤◌, List, [], ◌∷◌, ◌++◌, length, min, inl, refl, sym, ap, subst, ◌∙◌, append_assoc, append-nil, arith}
+use Rattle.std.proofs.Common.{ℕ, false, ◌≡◌, ◌+◌, ◌≤◌, List, [], ◌∷◌, ◌++◌, length, min, inl, refl, sym, ap, subst, ◌∙◌, append_assoc, append-nil, arith}
+use Rattle.fault_schedule.specs.Altered.{has_fail}
 use Rattle.fault_schedule.specs.declared.fault.FaultLine.{FaultLine}
 use Rattle.rig_api.specs.Target.{Stored}
 use Rattle.script_text.specs.declared.script.Script.{Script}
-use Rattle.mirror_volume.specs.LegsPassed.{Ran, RoseBy, medium_lines, Stack}
-use Rattle.mirror_volume.proofs.LegsPassed.{known_from, none_unscheduled}
+use Rattle.mirror_volume.specs.LegsPassed.{Ran, RoseBy, medium_lines, unscheduled_mediums, Stack}
+use Rattle.mirror_volume.proofs.LegsPassed.{known_from, unfailing_lines}
 use Rattle.volume_table.specs.declared.device.DeviceInfo.{DeviceInfo}
 use Rattle.volume_table.specs.Tables.{Table}
-use Rattle.mirror_volume.specs.LegRuns.{AllBacked, AllFallen, AllWalked, GoOn, LegRun, NoneFails, RanLegs, all_mediums, all_records, armed_after}
+use Rattle.mirror_volume.specs.LegRuns.{AllBacked, AllFallen, AllOwn, AllWalked, GoOn, LegRun, RanLegs, all_records, all_unscheduled, armed_after, replies_of}
 use Rattle.rig_api.specs.State.{RigState}
 
 pub all_records-append : (xs ys : List LegRun) → all_records (xs ++ ys) ≡ all_records xs ++ all_records ys
@@ -34,25 +35,37 @@ pub armed-append : (xs ys : List LegRun) (was : List FaultLine) → armed_after 
 armed-append [] ys was = refl
 armed-append (x ∷ xs) ys was = armed-append xs ys x.own.faults
 
-pub all_mediums-append : (xs ys : List LegRun) → all_mediums (xs ++ ys) ≡ all_mediums xs + all_mediums ys
-all_mediums-append [] ys = omega arith
-all_mediums-append (x ∷ xs) ys = let e = all_mediums-append xs ys in omega (arith, e)
+pub all_unscheduled-append : (xs ys : List LegRun) → all_unscheduled (xs ++ ys) ≡ all_unscheduled xs + all_unscheduled ys
+all_unscheduled-append [] ys = omega arith
+all_unscheduled-append (x ∷ xs) ys = let e = all_unscheduled-append xs ys in omega (arith, e)
 
 pub rose-add : (a b o m n : ℕ) → o ≤ m → m ≤ n → RoseBy a o m → RoseBy b m n → RoseBy (a + b) o n
 rose-add a b o m n p q x y = grind arith
 
--- of the first of them, and of the last
-none_fails-first : (xs ys : List LegRun) → NoneFails (xs ++ ys) → NoneFails xs
-none_fails-first [] ys h = tt
-none_fails-first (x ∷ xs) ys h = (h.0, none_fails-first xs ys h.1)
+-- ---- without `fail` lines
 
-none_fails-last : (xs ys : List LegRun) → NoneFails (xs ++ ys) → NoneFails ys
-none_fails-last [] ys h = h
-none_fails-last (x ∷ xs) ys h = none_fails-last xs ys h.1
+-- No fault line of theirs says that the medium fails a block.
+abbrev pub NoneFails : List LegRun → Type 0
+NoneFails runs = AllOwn (λ own. has_fail own.faults ≡ false) runs
+
+-- how many lines of their replies name the medium
+abbrev pub all_mediums : List LegRun → ℕ
+all_mediums [] = 0
+all_mediums (r ∷ runs) = medium_lines (replies_of r) + all_mediums runs
+
+pub all_mediums-append : (xs ys : List LegRun) → all_mediums (xs ++ ys) ≡ all_mediums xs + all_mediums ys
+all_mediums-append [] ys = omega arith
+all_mediums-append (x ∷ xs) ys = let e = all_mediums-append xs ys in omega (arith, e)
+
+pub unfailing-mediums : (runs : List LegRun) → NoneFails runs → all_unscheduled runs ≡ all_mediums runs
+unfailing-mediums [] none = refl
+unfailing-mediums (r ∷ runs) none = let a = unfailing_lines r.own.faults (replies_of r) none.0 in let b = unfailing-mediums runs none.1 in omega (arith, a, b)
 
 pub none_fails-append : (xs ys : List LegRun) → NoneFails xs → NoneFails ys → NoneFails (xs ++ ys)
 none_fails-append [] ys h k = k
 none_fails-append (x ∷ xs) ys h k = (h.0, none_fails-append xs ys h.1 k)
+
+-- ---- none, one, and more
 
 rose-one : (a o n : ℕ) → RoseBy a o n → RoseBy (a + 0) o n
 rose-one a o n x = grind arith
@@ -66,11 +79,11 @@ ran-append t devices xs ys before between after h k = record {
   faults = (let a = h.faults in let b = k.faults in omega (arith, a, b));
   records = k.records ∙ ap (λ es. es ++ all_records ys) h.records ∙ append_assoc before.log (all_records xs) (all_records ys) ∙ ap (λ es. before.log ++ es) (sym (all_records-append xs ys));
   backed = all_backed-append t devices xs ys h.backed k.backed;
-  medium = λ none. subst (λ n. RoseBy n before.faults after.faults) (sym (all_mediums-append xs ys))
-      (rose-add (all_mediums xs) (all_mediums ys) before.faults between.faults after.faults h.faults k.faults (h.medium (none_fails-first xs ys none)) (k.medium (none_fails-last xs ys none)));
+  medium = subst (λ n. RoseBy n before.faults after.faults) (sym (all_unscheduled-append xs ys))
+      (rose-add (all_unscheduled xs) (all_unscheduled ys) before.faults between.faults after.faults h.faults k.faults h.medium k.medium);
   armed = k.armed ∙ ap (armed_after ys) h.armed ∙ sym (armed-append xs ys before.armed);
   told = λ us e none.
-      (let many = all_mediums-append xs ys in
+      (let many = all_unscheduled-append xs ys in
       let x = h.told us e (omega (arith, many, none)) in
       let y = k.told x.0 x.1.0 (omega (arith, many, none)) in
       (y.0, (y.1.0, all_walked-append t us x.0 y.0 xs ys x.1.1 y.1.1)));
@@ -94,7 +107,7 @@ ran-none t devices before after h = record {
   faults = (let e = h.faults in omega (arith, e));
   records = h.log ∙ sym (append-nil before.log);
   backed = tt;
-  medium = λ none. (let e = h.faults in inl (omega (arith, e)));
+  medium = (let e = h.faults in inl (omega (arith, e)));
   armed = h.armed;
   told = λ us e none. (us, (h.units ∙ e, refl));
   fallen = λ us e. (us, (h.units ∙ e, refl));
@@ -107,9 +120,9 @@ ran-one s t devices words before after r h = record {
   faults = h.faults;
   records = h.records ∙ ap (λ es. before.log ++ es) (sym (append-nil h.more));
   backed = (h.backed, (h.sends, tt));
-  medium = λ none. rose-one (medium_lines r.replies.items) before.faults after.faults (h.medium none.0);
+  medium = rose-one (unscheduled_mediums s.faults r.replies.items) before.faults after.faults h.medium;
   armed = h.armed_there;
-  told = λ us e none. (let known = known_from before after h.tells_blocks us e in (known.after, (known.ended, (known.after, (h.walked known (none_unscheduled s.faults r.replies.items (none-one (medium_lines r.replies.items) none)), refl)))));
+  told = λ us e none. (let known = known_from before after h.tells_blocks us e in (known.after, (known.ended, (known.after, (h.walked known (none-one (unscheduled_mediums s.faults r.replies.items) none), refl)))));
   fallen = λ us e. (let known = known_from before after h.tells_blocks us e in (known.after, (known.ended, (known.after, (h.fell known, refl)))));
 }
 

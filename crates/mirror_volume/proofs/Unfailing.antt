@@ -13,13 +13,11 @@ use Rattle.script_text.specs.declared.script.Script.{Script}
 use Rattle.mirror_laws.specs.declared.marks.Marks.{Marks}
 use Rattle.mirror_volume.specs.declared.piece.Piece.{Piece}
 use Rattle.mirror_volume.specs.Asked.{AreOf, fresh_on0, part_of, rest_wanted, stretches}
-use Rattle.mirror_volume.specs.Inner.{own_faults, pages_for, read_pi_script, read_script, write_script}
-use Rattle.mirror_volume.specs.LegRuns.{LegRun, NoneFails}
-use Rattle.mirror_laws.specs.Stretches.{Fine, Lost, Need, On0, On1}
-use Rattle.mirror_volume.specs.Mending.{AreMends, Mended, RepairBy, StretchBy, fresh_on1, stretch_len, whole_stretch}
+use Rattle.mirror_volume.specs.Inner.{own_faults, pages_for, read_script, write_script}
+use Rattle.mirror_volume.specs.LegRuns.{LegRun}
 use Rattle.mirror_volume.specs.OnOps.{FetchedBy, OpBy, Sides, WroteBy, whole_request}
 use Rattle.mirror_volume.proofs.Renumbered.{is_own, own_line}
-use Rattle.mirror_volume.proofs.Runs.{none_fails-append}
+use Rattle.mirror_volume.proofs.Runs.{NoneFails, none_fails-append}
 
 own-unfailing : (p : Piece) (request : ℕ) (faults : List FaultLine) → has_fail faults ≡ false → has_fail (own_faults p request faults) ≡ false
 own-unfailing p request [] h = h
@@ -40,9 +38,6 @@ module _ (s : Script) (half : ℕ) (none : has_fail s.faults ≡ false) where
 
   read : (p : Piece) → has_fail (read_script s half p).faults ≡ false
   read p = own-unfailing p 1 s.faults none
-
-  read-pi : (p : Piece) → has_fail (read_pi_script s half p).faults ≡ false
-  read-pi p = own-unfailing p 1 s.faults none
 
   -- nothing was run
   unasked : (runs : List LegRun) → runs ≡ [] → NoneFails runs
@@ -69,24 +64,3 @@ module _ (s : Script) (half : ℕ) (none : has_fail s.faults ≡ false) where
   op-unfailing op (FetchPi v n body tuples) old new runs reply by = unasked runs by.0.none
   op-unfailing op (Overwrite dev lba change) old new runs reply by = unasked runs by.0.none
   op-unfailing op Wait old new runs reply by = unasked runs by.0.none
-
-  mended : (n u : ℕ) (needs : List Need) (runs : List LegRun) → AreMends s half n u needs runs → NoneFails runs
-  mended n u [] [] are = tt
-  mended n u [] (r ∷ runs) are = absurd are
-  mended n u (Fine ∷ needs) runs are = mended n (suc u) needs runs are
-  mended n u (Lost ∷ needs) runs are = mended n (suc u) needs runs are
-  mended n u (On0 e ∷ needs) [] are = absurd are
-  mended n u (On0 e ∷ needs) (r ∷ runs) are = (written (record (whole_stretch u n) { n = 1 }) e.app e.body r.own are.0, mended n (suc u) needs runs are.1)
-  mended n u (On1 e ∷ needs) [] are = absurd are
-  mended n u (On1 e ∷ needs) (r ∷ runs) are = (written (record (whole_stretch u n) { n = 1; on1 = true }) e.app e.body r.own are.0, mended n (suc u) needs runs are.1)
-
-  stretch : (u n : ℕ) (old new : Mended) (runs : List LegRun) → StretchBy s half u n old new runs → NoneFails runs
-  stretch u n old new runs h =
-      subst NoneFails (sym h.runs_are)
-      (none_fails-append h.looks0 (h.looks1 ++ h.mends) (asked (read_pi_script s half) read-pi (whole_stretch u n) (stretches (fresh_on0 (take n (drop u old.marks)))) h.looks0 h.on0)
-      (none_fails-append h.looks1 h.mends (asked (read_pi_script s half) read-pi (record (whole_stretch u n) { on1 = true }) (stretches (fresh_on1 (take n (drop u old.marks)))) h.looks1 h.on1) (mended n u h.needs h.mends h.mends_are)))
-
-  pub repair-unfailing : (u many : ℕ) (old new : Mended) (runs : List LegRun) → RepairBy s half u many old new runs → NoneFails runs
-  repair-unfailing u zero old new runs h = unasked runs h.1
-  repair-unfailing u (suc many) old new runs h =
-      subst NoneFails (sym h.1.1.1.0) (none_fails-append h.1.0 h.1.1.0 (stretch u (min stretch_len (half - u)) old h.0 h.1.0 h.1.1.1.1.0) (repair-unfailing (u + stretch_len) many h.0 new h.1.1.0 h.1.1.1.1.1))

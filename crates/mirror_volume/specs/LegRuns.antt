@@ -1,6 +1,5 @@
-use Rattle.std.specs.Prelude.{ℕ, false, ◌≡◌, ◌+◌, ◌<◌, ◌≤◌, min, List, [], ◌∷◌, ◌++◌, drop, length, replicate, set, Option, Some, None}
+use Rattle.std.specs.Prelude.{ℕ, ◌≡◌, ◌+◌, ◌<◌, ◌≤◌, min, List, [], ◌∷◌, ◌++◌, drop, length, replicate, set, Option, Some, None}
 use Rattle.bio_core.specs.declared.fate.Why.{Why}
-use Rattle.fault_schedule.specs.Altered.{has_fail}
 use Rattle.fault_schedule.specs.declared.fault.FaultLine.{FaultLine}
 use Rattle.rig_api.specs.Log.{LogEntry}
 use Rattle.rig_api.specs.State.{RigState}
@@ -11,7 +10,7 @@ use Rattle.rig_api.specs.Target.{Stored}
 use Rattle.volume_table.specs.declared.device.DeviceInfo.{DeviceInfo}
 use Rattle.volume_table.specs.Tables.{Table}
 use Rattle.script_text.specs.declared.script.Script.{Script}
-use Rattle.mirror_volume.specs.LegsPassed.{HasFallen, HasWalked, IsBackedBy, SendsFor, by_words, RoseBy, medium_lines, Stack}
+use Rattle.mirror_volume.specs.LegsPassed.{HasFallen, HasWalked, IsBackedBy, SendsFor, by_words, RoseBy, medium_replies, unscheduled_mediums, Stack}
 
 -- Requests on the legs of a mirror, each as a stack of its own.
 
@@ -45,14 +44,10 @@ abbrev pub all_records : List LegRun → List LogEntry
 all_records [] = []
 all_records (r ∷ runs) = r.records ++ all_records runs
 
--- No fault line of theirs says that the medium fails a block.
-abbrev pub NoneFails : List LegRun → Type 0
-NoneFails runs = AllOwn (λ own. has_fail own.faults ≡ false) runs
-
--- how many lines of their replies name the medium
-abbrev pub all_mediums : List LegRun → ℕ
-all_mediums [] = 0
-all_mediums (r ∷ runs) = medium_lines (replies_of r) + all_mediums runs
+-- how many lines of their replies name the medium and are no block that a fault line of the run's own script says it fails
+abbrev pub all_unscheduled : List LegRun → ℕ
+all_unscheduled [] = 0
+all_unscheduled (r ∷ runs) = unscheduled_mediums r.own.faults (replies_of r) + all_unscheduled runs
 
 -- the faults that are armed after these runs: those of the last one's script, or those from before
 abbrev pub armed_after : List LegRun → List FaultLine → List FaultLine
@@ -79,21 +74,21 @@ abbrev pub AllFallen : Table → (us : List Stored) → List LegRun → (left : 
 AllFallen t us [] left = left ≡ us
 AllFallen t us (r ∷ runs) left = (next : List Stored) × (HasFallen r.own t us next (pool_of r) r.records (replies_of r) × AllFallen t next runs left)
 
--- No request on a leg names the medium, and no line of the report does.
-pub record NamesNoMedium (runs : List LegRun) (replies : List Reply) : Type 0 where
-  pub legs : all_mediums runs ≡ 0
-  pub report : medium_lines replies ≡ 0
+-- No store call failed, by what is told: no request on a leg names the medium but as fault lines of its own script say, and no overwrite replied that its call failed.
+pub record NoneUnscheduled (runs : List LegRun) (replies : List Reply) : Type 0 where
+  pub legs : all_unscheduled runs ≡ 0
+  pub overwrites : medium_replies replies ≡ 0
 
--- These were run over a rig, one after another: their records stand there in order, and back their replies. Where no fault line says that the medium fails a block, lines of these that name it are at most as many as the count of faults rose. The last one's faults are armed.
--- Where the rig tells its blocks, and no line of theirs names the medium, each was done at the target; and whatever lines name it, so it was but for what the store calls that failed left.
+-- These were run over a rig, one after another: their records stand there in order, and back their replies. Lines of these that name the medium, but for the blocks that fault lines name, are at most as many as the count of faults rose. The last one's faults are armed.
+-- Where the rig tells its blocks, and no line of theirs names the medium but as fault lines say, each was done at the target; and whatever lines name it, so it was but for what the store calls that failed left.
 pub record RanLegs (t : Table) (devices : List DeviceInfo) (runs : List LegRun) (before after : RigState) : Type 0 where
   pub standing : after.standing ≡ before.standing
   pub faults : before.faults ≤ after.faults
   pub records : after.log ≡ before.log ++ all_records runs
   pub backed : AllBacked t devices runs
-  pub medium : NoneFails runs → RoseBy (all_mediums runs) before.faults after.faults
+  pub medium : RoseBy (all_unscheduled runs) before.faults after.faults
   pub armed : after.armed ≡ armed_after runs before.armed
-  pub told : (us : List Stored) → before.units ≡ Some us → all_mediums runs ≡ 0 → (left : List Stored) × ((after.units ≡ Some left) × AllWalked t us runs left)
+  pub told : (us : List Stored) → before.units ≡ Some us → all_unscheduled runs ≡ 0 → (left : List Stored) × ((after.units ≡ Some left) × AllWalked t us runs left)
   pub fallen : (us : List Stored) → before.units ≡ Some us → (left : List Stored) × ((after.units ≡ Some left) × AllFallen t us runs left)
 
 -- ---- what was found of each block

@@ -1,8 +1,8 @@
 use Rattle.std.specs.Prelude.{ℕ, true, List, [], ◌∷◌}
 use Rattle.pi_guard.specs.declared.GuardKind.TheVariants.{Crc}
 use Rattle.pi_tuple.specs.declared.checks.PiType.TheVariants.{One}
-use Rattle.fault_schedule.specs.declared.fault.Crossing.TheVariants.{HostToAdapter}
-use Rattle.fault_schedule.specs.declared.fault.FaultKind.TheVariants.{Flip}
+use Rattle.fault_schedule.specs.declared.fault.Crossing.TheVariants.{HostToAdapter, TargetToMedium}
+use Rattle.fault_schedule.specs.declared.fault.FaultKind.TheVariants.{Fail, Flip}
 use Rattle.rig_api.specs.Image.{fresh}
 use Rattle.rig_api.specs.Target.{Stored}
 use Rattle.rig_api.specs.declared.units.UnitSpec.{UnitSpec}
@@ -40,6 +40,10 @@ script = record {
   ops = Write 0 1 (record { page = 0; off = 0; len = 512 } ∷ []) 0 ∷ Fetch 0 1 (record { page = 0; off = 0; len = 512 } ∷ []) ∷ [];
   lines = 7 ∷ 9 ∷ 10 ∷ [];
 }
+
+-- The same ops, where the medium of leg 0 fails the block of the write.
+abbrev pub failing_script : Script
+failing_script = record script { faults = record { op = 1; k = 0; at = TargetToMedium; kind = Fail } ∷ [] }
 
 -- The same ops without the fault, under protect fields under which no fault line is admitted.
 abbrev pub still_script : (protect : ℕ) → Script

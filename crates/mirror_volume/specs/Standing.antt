@@ -19,7 +19,7 @@ use Rattle.mirror_laws.specs.Repair.{mirror_repair}
 use Rattle.mirror_laws.specs.declared.marks.Marks.{Marks}
 use Rattle.stack_ops.specs.declared.op.Op.{Op}
 use Rattle.stack_ops.specs.declared.op.Op.TheVariants.{Wait}
-use Rattle.mirror_volume.specs.LegRuns.{LegRun, NamesNoMedium, all_mediums}
+use Rattle.mirror_volume.specs.LegRuns.{LegRun, NoneUnscheduled, all_unscheduled}
 use Rattle.mirror_volume.specs.OnOps.{Sides}
 
 -- How a mirror stands between two ops, over a rig that tells its blocks.
@@ -79,12 +79,12 @@ pub record IsRepairedAs (s : Script) (devices : List DeviceInfo) (us : List Stor
 
 -- ---- over a rig that tells its blocks
 
--- A mirror that stood at its walk still does after one more op, where neither a request of the op names the medium nor its reply.
+-- A mirror that stood at its walk still does after one more op, where no request of the op names the medium but as fault lines say, and its reply doesn't say that an overwrite failed.
 abbrev pub KeepsToWalk : Script → List DeviceInfo → (old new : Sides) → (before after : RigState) → (replies : List Reply) → (reply : Reply) → List LegRun → Type 0
-KeepsToWalk s devices old new before after replies reply runs = (us now : List Stored) → before.units ≡ Some now → NamesNoMedium runs (reply ∷ []) → StandsAt s devices us old replies now
+KeepsToWalk s devices old new before after replies reply runs = (us now : List Stored) → before.units ≡ Some now → NoneUnscheduled runs (reply ∷ []) → StandsAt s devices us old replies now
     → (left : List Stored) × ((after.units ≡ Some left) × StandsAt s devices us new (replies ++ (reply ∷ [])) left)
 
--- The repair of one that stood at its walk is the walk's, where no request of the repair names the medium.
+-- The repair of one that stood at its walk is the walk's, where no request of the repair names the medium but as fault lines say.
 abbrev pub RepairsAsWalk : Script → List DeviceInfo → Sides → (before after : RigState) → List Reply → List Marks → (repaired lost : ℕ) → List LegRun → Type 0
-RepairsAsWalk s devices sides before after replies marks repaired lost runs = (us now : List Stored) → before.units ≡ Some now → all_mediums runs ≡ 0 → StandsAt s devices us sides replies now
+RepairsAsWalk s devices sides before after replies marks repaired lost runs = (us now : List Stored) → before.units ≡ Some now → all_unscheduled runs ≡ 0 → StandsAt s devices us sides replies now
     → (left : List Stored) × ((after.units ≡ Some left) × IsRepairedAs s devices us (length replies) marks repaired lost left)

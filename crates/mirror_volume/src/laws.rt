@@ -13,7 +13,7 @@ ghost use Rattle.mirror_volume.specs.Standing.{IsMirrorOver, IsRepairedAs, Stand
 ghost use Rattle.mirror_volume.specs.OnOps.{Sides};
 ghost use Rattle.script_stack.specs.Causes.{table_of};
 ghost use Rattle.mirror_volume.specs.LegsPassed.{mirror_fault};
-ghost use Rattle.mirror_volume.specs.Rows.{devices, script, still_script, us};
+ghost use Rattle.mirror_volume.specs.Rows.{devices, failing_script, script, still_script, us};
 ghost use Rattle.mirror_volume.specs.Enough.{AllReadLast, HasReadLast, WasEnough};
 ghost use Rattle.mirror_volume.specs.Premises.{HoldsBytes, IsFormedMirror, IsOneGoodRun, IsStillMirror};
 
@@ -24,9 +24,9 @@ use mirror_form_laws::{
 };
 use mirror_laws::{a_mirror_reads_the_last_write, a_repair_makes_both_legs_equal};
 
-/// A law, over a rig that tells its blocks: where each block has a leg on which nothing alters it, each read of a mirror's
-/// walk is whole and has the data that were last accepted. And of a mirror all of whose ops are done, and which was
-/// repaired: both legs hold these, and no block is lost.
+/// A law, over a rig that tells its blocks: where each block has a leg on which nothing alters it and whose medium does
+/// what is asked of it, and no leg loses a block, each read of a mirror's walk is whole and has the data that were last
+/// accepted. And of a mirror all of whose ops are done, and which was repaired: both legs hold these, and no block is lost.
 pub fn one_good_leg_is_enough()
     ensures reads { (s : AnyScript) (devices : List AnyDevice) (us : List Stored) → IsMirrorOver s devices us → IsOneGoodRun s devices us → AllReadLast s devices us }
     ensures repaired { (s : AnyScript) (devices : List AnyDevice) (us left : List Stored) (marks : List AnyMarks) (repaired lost : ℕ)
@@ -68,12 +68,14 @@ pub fn a_read_that_is_done_has_the_last_write()
 {}
 
 /// That what these laws ask can be met: by a small script on a mirror over two formatted units, whose write leg 0
-/// refuses, and by the same script without its fault line, under any protect field. That one is bound as a mirror's, and
-/// so is this one under 011b and 100b.
+/// refuses, and by the same ops where the medium of leg 0 fails the write, or without a fault line, under any protect
+/// field. The first two are bound as a mirror's, and so is the third under 011b and 100b.
 pub fn premises_of_a_mirror_can_be_met()
     ensures one_good { IsOneGoodRun script devices us }
     ensures formed { IsFormedMirror script devices us }
+    ensures failing { IsFormedMirror failing_script devices us }
     ensures still { (protect : ℕ) → IsStillMirror (still_script protect) devices us }
     ensures bound { mirror_fault script (table_of script devices) devices ≡ None }
+    ensures failing_bound { mirror_fault failing_script (table_of failing_script devices) devices ≡ None }
     ensures still_bound { (mirror_fault (still_script 3) (table_of (still_script 3) devices) devices ≡ None) × (mirror_fault (still_script 4) (table_of (still_script 4) devices) devices ≡ None) }
 {}
