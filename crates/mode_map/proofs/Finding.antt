@@ -50,13 +50,13 @@ use Rattle.mode_map.proofs.Stages.{CameIn, WentOut, came-in, finds-guard, from-m
 abbrev pub Unescaped : PiType → MapEntry → Type 0
 Unescaped ty e = is_escaped (host_type ty) (record { guard = 0; app = e.app; rtag = e.own }) ≡ false
 
-open-host : (ty : PiType) (e : MapEntry) (g v : ℕ) → Unescaped ty e → is_escaped (host_type ty) (record { guard = g; app = e.app; rtag = tag_of (host_type ty) v e.own }) ≡ false
+pub open-host : (ty : PiType) (e : MapEntry) (g v : ℕ) → Unescaped ty e → is_escaped (host_type ty) (record { guard = g; app = e.app; rtag = tag_of (host_type ty) v e.own }) ≡ false
 open-host Zero e g v h = h
 open-host One e g v h = h
 open-host Two e g v h = h
 open-host Three e g v h = h
 
-open-wire : (ty : PiType) (e : MapEntry) (g a : ℕ) → is_zero ty ≡ false → Unescaped ty e → is_escaped ty (record { guard = g; app = e.app; rtag = tag_of ty a e.own }) ≡ false
+pub open-wire : (ty : PiType) (e : MapEntry) (g a : ℕ) → is_zero ty ≡ false → Unescaped ty e → is_escaped ty (record { guard = g; app = e.app; rtag = tag_of ty a e.own }) ≡ false
 open-wire Zero e g a z h = refl
 open-wire One e g a z h = h
 open-wire Two e g a z h = h
@@ -94,10 +94,10 @@ module _ (m : Setting) (b : Block) (protect : 0 < m.mode.protect) (mask : m.mode
   abbrev pub tuple_below : PiType → MapEntry → Tuple
   tuple_below ty e = record { guard = crc e.body; app = e.app; rtag = tag_of ty (here m b protect) e.own }
 
-  small-host : (ty : PiType) (e : MapEntry) → IsProper m e → Small (tuple_at_host ty e)
+  pub small-host : (ty : PiType) (e : MapEntry) → IsProper m e → Small (tuple_at_host ty e)
   small-host ty e p = record { guard = guard_below m.mode.kind e.body; app = p.app; rtag = rtag_below (host_type ty) b.virt e.own p.own }
 
-  small-below : (ty : PiType) (e : MapEntry) → IsProper m e → Small (tuple_below ty e)
+  pub small-below : (ty : PiType) (e : MapEntry) → IsProper m e → Small (tuple_below ty e)
   small-below ty e p = record { guard = guard_below Crc e.body; app = p.app; rtag = rtag_below ty (here m b protect) e.own p.own }
 
   -- ---- a clean way out
@@ -120,33 +120,33 @@ module _ (m : Setting) (b : Block) (protect : 0 < m.mode.protect) (mask : m.mode
   abbrev pub kept : Bool → Bool → PiType → MapEntry → MapEntry
   kept dix dif ty e = entry_of (quiet m dix dif ty) e.body (tuple_at_host ty e)
 
-  kept-body : (dix dif : Bool) (ty : PiType) (e : MapEntry) → (kept dix dif ty e).body ≡ e.body
+  pub kept-body : (dix dif : Bool) (ty : PiType) (e : MapEntry) → (kept dix dif ty e).body ≡ e.body
   kept-body dix dif ty e = by (all_pass (quiet m dix dif ty))
     where
       by : (c : Bool) → let k : MapEntry = (if c then record { body = e.body; app = e.app; own = own_in ty (tag_of (host_type ty) b.virt e.own) } else record { body = e.body; app = 0; own = 0 }) in k.body ≡ e.body
       by true = refl
       by false = refl
 
-  kept-open : (dix dif : Bool) (ty : PiType) (e : MapEntry) → Unescaped ty e → Unescaped ty (kept dix dif ty e)
+  pub kept-open : (dix dif : Bool) (ty : PiType) (e : MapEntry) → Unescaped ty e → Unescaped ty (kept dix dif ty e)
   kept-open dix dif ty e h = by (all_pass (quiet m dix dif ty))
     where
       by : (c : Bool) → Unescaped ty (if c then record { body = e.body; app = e.app; own = own_in ty (tag_of (host_type ty) b.virt e.own) } else record { body = e.body; app = 0; own = 0 })
       by true = open-kept ty e e.body b.virt h
       by false = open-bare ty e.body
 
-  kept-proper : (dix dif : Bool) (ty : PiType) (e : MapEntry) → IsProper m e → IsProper m (kept dix dif ty e)
+  pub kept-proper : (dix dif : Bool) (ty : PiType) (e : MapEntry) → IsProper m e → IsProper m (kept dix dif ty e)
   kept-proper dix dif ty e p =
       loud m dix dif ty (kept dix dif ty e)
       (proper_entry (quiet m dix dif ty) e.body (tuple_at_host ty e) p.size p.bytes (small-host ty e p) (unmasked m e.app mask) (λ _. mask))
 
-  goes-out : (dix dif : Bool) (ty : PiType) (e : MapEntry) → IsProper m e → Unescaped ty e →
+  pub goes-out : (dix dif : Bool) (ty : PiType) (e : MapEntry) → IsProper m e → Unescaped ty e →
       way_out [] (target []) (way dix dif ty) (held dix ty e) ≡ Stores (wire (quiet m dix dif ty) b (kept dix dif ty e)) (stored_as (quiet m dix dif ty) (here m b protect) (kept dix dif ty e))
   goes-out true dif ty e p h =
       goes_on m b protect dif ty e.body (tuple_at_host ty e) p.size p.bytes (small-host ty e p) (λ _. mask) (open-host ty e (guard_of m.mode.kind e.body) b.virt h)
       ∙ ap (λ o. goes (quiet m true dif ty) b o (kept true dif ty e)) (none-found dif ty e)
   goes-out false dif ty e p h = goes_bare m b protect dif ty e.body (tuple_at_host ty e) p.size p.bytes mask
 
-  clean-out : (dix dif : Bool) (ty : PiType) (e : MapEntry) → IsProper m e → Unescaped ty e →
+  pub clean-out : (dix dif : Bool) (ty : PiType) (e : MapEntry) → IsProper m e → Unescaped ty e →
       WentOut (way dix dif ty) (mapped_out (way dix dif ty) (held dix ty e)) (wire (quiet m dix dif ty) b (kept dix dif ty e)) (stored_as (quiet m dix dif ty) (here m b protect) (kept dix dif ty e))
   clean-out dix dif ty e p h = went-out (way dix dif ty) (mapped_out (way dix dif ty) (held dix ty e)) _ _ (goes-out dix dif ty e p h)
 
@@ -156,19 +156,19 @@ module _ (m : Setting) (b : Block) (protect : 0 < m.mode.protect) (mask : m.mode
       way_in [] (target []) (way dix dif ty) owner (stored_as (quiet m dix dif ty) (here m b protect) e) ≡ Delivers (wire (quiet m dix dif ty) b e) (handed (quiet m dix dif ty) b e)
   comes-in dix dif ty owner e p = comes_home m b protect dix dif ty owner e p (λ _. mask)
 
-  clean-in : (dix dif : Bool) (ty : PiType) (owner : Owner) (e : MapEntry) → IsProper m e → CameIn (way dix dif ty) owner (stored_as (quiet m dix dif ty) (here m b protect) e) (wire (quiet m dix dif ty) b e) (handed (quiet m dix dif ty) b e)
+  pub clean-in : (dix dif : Bool) (ty : PiType) (owner : Owner) (e : MapEntry) → IsProper m e → CameIn (way dix dif ty) owner (stored_as (quiet m dix dif ty) (here m b protect) e) (wire (quiet m dix dif ty) b e) (handed (quiet m dix dif ty) b e)
   clean-in dix dif ty owner e p = came-in (way dix dif ty) owner _ _ _ (comes-in dix dif ty owner e p)
 
   unseen : (dix dif : Bool) (ty : PiType) (owner : Owner) (e : MapEntry) → IsProper m e → seen_in_read (quiet m dix dif ty) b owner [] (stored_as (quiet m dix dif ty) (here m b protect) e) ≡ None
   unseen dix dif ty owner e p = ap seen_on_way_in (comes-in dix dif ty owner e p)
 
   -- the entry with other data
-  other-proper : (e : MapEntry) (body : List ℕ) → IsProper m e → length body ≡ m.size → AllBelow 256 body → IsProper m (record e { body = body })
+  pub other-proper : (e : MapEntry) (body : List ℕ) → IsProper m e → length body ≡ m.size → AllBelow 256 body → IsProper m (record e { body = body })
   other-proper e body p l h = record { size = l; bytes = h; app = p.app; own = p.own; expected = p.expected }
 
   -- ---- other data under an entry's tuple, from the medium
 
-  guard-asked : (dix dif : Bool) (ty : PiType) (e : MapEntry) (body : List ℕ) → IsProper m e → Unescaped ty e → Other m e body → is_zero ty ≡ false → not (eqb (passage [] (way dix dif ty)).protect 3) ≡ true →
+  pub guard-asked : (dix dif : Bool) (ty : PiType) (e : MapEntry) (body : List ℕ) → IsProper m e → Unescaped ty e → Other m e body → is_zero ty ≡ false → not (eqb (passage [] (way dix dif ty)).protect 3) ≡ true →
       found_in (passage [] (way dix dif ty)) (frame_of body (tuple_below ty e)) ≡ Some Guard
   unfolding found_in
   guard-asked dix dif ty e body p h o z g =
@@ -178,7 +178,7 @@ module _ (m : Setting) (b : Block) (protect : 0 < m.mode.protect) (mask : m.mode
   masked true app = ap (bit_and app) mask ∙ and_zero_r app ∙ sym (ap (bit_and m.mode.app) mask ∙ and_zero_r m.mode.app)
   masked false app = and_zero_r app ∙ sym (and_zero_r m.mode.app)
 
-  nothing-asked : (dix dif : Bool) (ty : PiType) (frame : List ℕ) → (passage [] (way dix dif ty)).protect ≡ 3 → found_in (passage [] (way dix dif ty)) frame ≡ None
+  pub nothing-asked : (dix dif : Bool) (ty : PiType) (frame : List ℕ) → (passage [] (way dix dif ty)).protect ≡ 3 → found_in (passage [] (way dix dif ty)) frame ≡ None
   unfolding found_in
   nothing-asked dix dif ty frame three =
       let p = passage [] (way dix dif ty) in
@@ -242,7 +242,7 @@ module _ (m : Setting) (b : Block) (protect : 0 < m.mode.protect) (mask : m.mode
       by false t = by-target dix true Three owner e body p h o refl (ap not t)
 
   -- where no tuple travels the wire has the data alone
-  wire-bare : (dix dif : Bool) (ty : PiType) (e : MapEntry) → is_zero ty ≡ true ⊎ dif ≡ false → wire (quiet m dix dif ty) b e ≡ e.body
+  pub wire-bare : (dix dif : Bool) (ty : PiType) (e : MapEntry) → is_zero ty ≡ true ⊎ dif ≡ false → wire (quiet m dix dif ty) b e ≡ e.body
   wire-bare dix false ty e h = refl
   wire-bare dix true Zero e h = refl
   wire-bare dix true One e h = absurd (one-of h)
@@ -283,16 +283,16 @@ module _ (m : Setting) (b : Block) (protect : 0 < m.mode.protect) (mask : m.mode
     same-passage dix dif ty at = ap (λ (s : ℤ). at_address dix dif ty (moved (way dix dif ty).lba s)) (no-shift b at AdapterToTarget off bytes b.op)
 
     -- the target, where neither of its crossings is the flip's, and where one is
-    medium-apart : (dix dif : Bool) (ty : PiType) (at : Crossing) (frame : List ℕ) → to_medium (flip at) (passage (flip at) (way dix dif ty)) frame
+    pub medium-apart : (dix dif : Bool) (ty : PiType) (at : Crossing) (frame : List ℕ) → to_medium (flip at) (passage (flip at) (way dix dif ty)) frame
         ≡ then_crossed (flip at) (Some (label_of b)) TargetToMedium (to_medium [] (passage [] (way dix dif ty)) (altered (flip at) AdapterToTarget (label_of b) frame))
     medium-apart dix dif ty at frame = ap (λ p. to_medium (flip at) p frame) (same-passage dix dif ty at) ∙ to-medium (flip at) (way dix dif ty) frame
 
-    wire-apart : (dix dif : Bool) (ty : PiType) (at : Crossing) (frame : List ℕ) → from_medium (flip at) (passage (flip at) (way dix dif ty)) frame
+    pub wire-apart : (dix dif : Bool) (ty : PiType) (at : Crossing) (frame : List ℕ) → from_medium (flip at) (passage (flip at) (way dix dif ty)) frame
         ≡ then_crossed (flip at) (Some (label_of b)) TargetToAdapter (from_medium [] (passage [] (way dix dif ty)) (altered (flip at) MediumToTarget (label_of b) frame))
     wire-apart dix dif ty at frame = ap (λ p. from_medium (flip at) p frame) (same-passage dix dif ty at) ∙ from-medium (flip at) (way dix dif ty) frame
 
     -- where the flip is at the host the rest of the way out is without it
-    rest-out : (dix dif : Bool) (ty : PiType) (x : Result (List ℕ) Check) → from_adapter (target (flip HostToAdapter)) (way dix dif ty) x ≡ from_adapter (target []) (way dix dif ty) x
+    pub rest-out : (dix dif : Bool) (ty : PiType) (x : Result (List ℕ) Check) → from_adapter (target (flip HostToAdapter)) (way dix dif ty) x ≡ from_adapter (target []) (way dix dif ty) x
     rest-out dix dif ty (Err c) = refl
     rest-out dix dif ty (Ok f) =
         ap (λ v. at_device f (by_target v))
@@ -333,7 +333,7 @@ module _ (m : Setting) (b : Block) (protect : 0 < m.mode.protect) (mask : m.mode
     -- ---- behind the adapter, on a way out
 
     -- up to the target the way is clean
-    onto-target : (dix dif : Bool) (ty : PiType) (at : Crossing) (e : MapEntry) → is_same at HostToAdapter ≡ false → IsProper m e → Unescaped ty e →
+    pub onto-target : (dix dif : Bool) (ty : PiType) (at : Crossing) (e : MapEntry) → is_same at HostToAdapter ≡ false → IsProper m e → Unescaped ty e →
         way_out (flip at) (target (flip at)) (way dix dif ty) (held dix ty e)
         ≡ at_device (wire (quiet m dix dif ty) b (kept dix dif ty e)) (by_target (to_medium (flip at) (passage (flip at) (way dix dif ty)) (wire (quiet m dix dif ty) b (kept dix dif ty e))))
     onto-target dix dif ty at e apart p h =
@@ -341,7 +341,7 @@ module _ (m : Setting) (b : Block) (protect : 0 < m.mode.protect) (mask : m.mode
         ap (from_adapter (target (flip at)) r)
         (to-wire (flip at) r (mapped_out r (held dix ty e)) ∙ ap (to_wire [] r) (altered-there b at HostToAdapter off bytes (mapped_out r (held dix ty e)) apart) ∙ (clean-out dix dif ty e p h).sent)
 
-    turns-kept : (dix dif : Bool) (ty : PiType) (e : MapEntry) → Turns e → Turns (kept dix dif ty e)
+    pub turns-kept : (dix dif : Bool) (ty : PiType) (e : MapEntry) → Turns e → Turns (kept dix dif ty e)
     turns-kept dix dif ty e t = by (all_pass (quiet m dix dif ty))
       where
         by : (c : Bool) → Turns (if c then record { body = e.body; app = e.app; own = own_in ty (tag_of (host_type ty) b.virt e.own) } else record { body = e.body; app = 0; own = 0 })
@@ -349,14 +349,14 @@ module _ (m : Setting) (b : Block) (protect : 0 < m.mode.protect) (mask : m.mode
         by false = record { inside = t.inside; other = record { size = t.other.size; bytes = t.other.bytes; shows = t.other.shows } }
 
     -- the data alone, on a wire or medium without tuples, is that of the entry with other data
-    stored-bare : (dix dif : Bool) (ty : PiType) (e : MapEntry) → IsProper m e → Unescaped ty e → Turns e → is_zero ty ≡ true ⊎ dif ≡ false →
+    pub stored-bare : (dix dif : Bool) (ty : PiType) (e : MapEntry) → IsProper m e → Unescaped ty e → Turns e → is_zero ty ≡ true ⊎ dif ≡ false →
         to_medium [] (passage [] (way dix dif ty)) (flipped off bytes e.body) ≡ Ok (stored_as (quiet m dix dif ty) (here m b protect) (kept dix dif ty (turned e)))
     stored-bare dix dif ty e p h t bare =
         ap (to_medium [] (passage [] (way dix dif ty))) (sym (wire-bare dix dif ty (kept dix dif ty (turned e)) bare ∙ kept-body dix dif ty (turned e)))
         ∙ (clean-out dix dif ty (turned e) (other-proper e (flipped off bytes e.body) p t.other.size t.other.bytes) h).stores
 
     -- what is accepted with other data and without a tuple is found by nobody
-    none-bare : (dix dif : Bool) (ty : PiType) (e : MapEntry) → IsProper m e → Unescaped ty e → Turns e → is_zero ty ≡ true ⊎ dif ≡ false →
+    pub none-bare : (dix dif : Bool) (ty : PiType) (e : MapEntry) → IsProper m e → Unescaped ty e → Turns e → is_zero ty ≡ true ⊎ dif ≡ false →
         seen_on_way_out (quiet m dix dif ty) b owner (at_device e.body (by_target (to_medium [] (passage [] (way dix dif ty)) (flipped off bytes e.body)))) ≡ None
     none-bare dix dif ty e p h t bare =
         ap (λ v. seen_on_way_out (quiet m dix dif ty) b owner (at_device e.body (by_target v))) (stored-bare dix dif ty e p h t bare)
@@ -364,7 +364,7 @@ module _ (m : Setting) (b : Block) (protect : 0 < m.mode.protect) (mask : m.mode
 
     -- ---- from the adapter to the target
 
-    to-target-apart : (dix dif : Bool) (ty : PiType) (frame : List ℕ) → to_medium (flip AdapterToTarget) (passage (flip AdapterToTarget) (way dix dif ty)) frame ≡ to_medium [] (passage [] (way dix dif ty)) (altered (flip AdapterToTarget) AdapterToTarget (label_of b) frame)
+    pub to-target-apart : (dix dif : Bool) (ty : PiType) (frame : List ℕ) → to_medium (flip AdapterToTarget) (passage (flip AdapterToTarget) (way dix dif ty)) frame ≡ to_medium [] (passage [] (way dix dif ty)) (altered (flip AdapterToTarget) AdapterToTarget (label_of b) frame)
     to-target-apart dix dif ty frame = medium-apart dix dif ty AdapterToTarget frame ∙ crossed-there b AdapterToTarget TargetToMedium off bytes _ refl
 
     -- the target looks at other data under an entry's tuple
@@ -446,7 +446,7 @@ module _ (m : Setting) (b : Block) (protect : 0 < m.mode.protect) (mask : m.mode
     -- ---- on a way in
 
     -- behind the target the rest of the way is without the flip
-    rest-in : (dix dif : Bool) (ty : PiType) (at : Crossing) (x : Result (List ℕ) Check) → is_same at AdapterToHost ≡ false → from_device (flip at) (way dix dif ty) (by_target x) ≡ from_device [] (way dix dif ty) (by_target x)
+    pub rest-in : (dix dif : Bool) (ty : PiType) (at : Crossing) (x : Result (List ℕ) Check) → is_same at AdapterToHost ≡ false → from_device (flip at) (way dix dif ty) (by_target x) ≡ from_device [] (way dix dif ty) (by_target x)
     rest-in dix dif ty at (Err c) apart = refl
     rest-in dix dif ty at (Ok f) apart = ap (at_host f) (from-wire (flip at) (way dix dif ty) f ∙ crossed-there b at AdapterToHost off bytes (from_wire [] (way dix dif ty) f) apart)
 
@@ -459,7 +459,7 @@ module _ (m : Setting) (b : Block) (protect : 0 < m.mode.protect) (mask : m.mode
         ∙ fetched-other dix dif ty MediumToTarget e p h t
 
     -- what the target sends is clean, up to a crossing behind it
-    sends-clean : (dix dif : Bool) (ty : PiType) (at : Crossing) (e : MapEntry) → IsProper m e → is_same at MediumToTarget ≡ false →
+    pub sends-clean : (dix dif : Bool) (ty : PiType) (at : Crossing) (e : MapEntry) → IsProper m e → is_same at MediumToTarget ≡ false →
         from_medium (flip at) (passage (flip at) (way dix dif ty)) (stored_as (quiet m dix dif ty) (here m b protect) e) ≡ then_crossed (flip at) (Some (label_of b)) TargetToAdapter (Ok (wire (quiet m dix dif ty) b e))
     sends-clean dix dif ty at e p apart =
         wire-apart dix dif ty at (stored_as (quiet m dix dif ty) (here m b protect) e)
@@ -501,7 +501,7 @@ module _ (m : Setting) (b : Block) (protect : 0 < m.mode.protect) (mask : m.mode
     -- ---- from the adapter to the host
 
     -- the tuple that the host gets, before its tag is mapped back
-    abbrev HostFrame : Bool → PiType → MapEntry → Type 0
+    abbrev pub HostFrame : Bool → PiType → MapEntry → Type 0
     HostFrame dif ty e = (u : Tuple) × (received (way true dif ty) (wire (quiet m true dif ty) b e) ≡ frame_of e.body u) × Small u × (u.guard ≡ guard_of m.mode.kind e.body) × (is_escaped (host_type ty) u ≡ false)
 
     inserted : (dif : Bool) (ty : PiType) (e : MapEntry) → received (way true dif ty) (wire (quiet m true dif ty) b e) ≡ frame_of e.body (record { guard = guard_of m.mode.kind e.body; app = 0; rtag = own_tag (host_type ty) (here m b protect) }) → HostFrame dif ty e
@@ -529,7 +529,7 @@ module _ (m : Setting) (b : Block) (protect : 0 < m.mode.protect) (mask : m.mode
         is_escaped (host_type ty) (record { guard = guard_of m.mode.kind e.body; app = e.app; rtag = tag_of ty (here m b protect) e.own }) ≡ false → HostFrame true ty e
     brought ty e p is free = (record { guard = guard_of m.mode.kind e.body; app = e.app; rtag = tag_of ty (here m b protect) e.own }, is, record { guard = guard_below m.mode.kind e.body; app = p.app; rtag = rtag_below ty (here m b protect) e.own p.own }, refl, free)
 
-    host-frame : (dif : Bool) (ty : PiType) (e : MapEntry) → IsProper m e → Unescaped ty e → HostFrame dif ty e
+    pub host-frame : (dif : Bool) (ty : PiType) (e : MapEntry) → IsProper m e → Unescaped ty e → HostFrame dif ty e
     host-frame false ty e p h = inserted false ty e refl
     host-frame true Zero e p h = inserted true Zero e refl
     host-frame true One e p h = brought One e p (hosted-frame m.mode.kind e.body e.app _ p.size) h
@@ -575,7 +575,7 @@ module _ (m : Setting) (b : Block) (protect : 0 < m.mode.protect) (mask : m.mode
 
 -- ---- every crossing
 
-served-some : (p : ℕ) → is_served p ≡ true → 0 < p
+pub served-some : (p : ℕ) → is_served p ≡ true → 0 < p
 served-some p h = grind arith
 
 wire-finder : (dif : Bool) (ty : PiType) (p : ℕ) →
@@ -586,10 +586,10 @@ wire-finder true One p = refl
 wire-finder true Two p = refl
 wire-finder true Three p = refl
 
-proper : (m : Setting) (e : MapEntry) → IsCleanBlock m e → IsProper m e
+pub proper : (m : Setting) (e : MapEntry) → IsCleanBlock m e → IsProper m e
 proper m e c = record { size = c.size; bytes = below 256 e.body c.bytes; app = c.app; own = c.own; expected = unmasked m e.app c.mask }
 
-turns : (m : Setting) (b : Block) (protect : 0 < m.mode.protect) (mask : m.mode.mask ≡ 0) (at : Crossing) (off : ℕ) (bytes : List ℕ) (owner : Owner) (e : MapEntry) → IsCleanBlock m e → ShowsIn m at off bytes e → Turns m b protect mask off bytes owner e
+pub turns : (m : Setting) (b : Block) (protect : 0 < m.mode.protect) (mask : m.mode.mask ≡ 0) (at : Crossing) (off : ℕ) (bytes : List ℕ) (owner : Owner) (e : MapEntry) → IsCleanBlock m e → ShowsIn m at off bytes e → Turns m b protect mask off bytes owner e
 turns m b protect mask at off bytes owner e c w = record {
   inside = subst (λ n. off + length bytes ≤ n) (sym c.size) w.inside;
   other = record { size = length-xored (byte_at off bytes) 0 e.body ∙ c.size; bytes = flipped-below off 0 bytes e.body (below 256 bytes w.below) (below 256 e.body c.bytes); shows = w.crc_shows };

@@ -26,7 +26,7 @@ same-crossing AdapterToHost = refl
 abbrev pub label_of : Block → Label
 label_of b = record { op = b.op; k = b.k }
 
-own-line : (b : Block) (at : Crossing) → (is_same at at && (eqb b.op b.op && eqb b.k b.k)) ≡ true
+pub own-line : (b : Block) (at : Crossing) → (is_same at at && (eqb b.op b.op && eqb b.k b.k)) ≡ true
 own-line b at = let x = same-crossing at in let y : eqb b.op b.op ≡ true = eq-eqb b.op b.op refl in let z : eqb b.k b.k ≡ true = eq-eqb b.k b.k refl in rw (x, y, z) refl
 
 -- what is named at its crossing, and nothing at another
@@ -36,7 +36,7 @@ named-here b at off bytes i = ap (λ c. bit_xor (if c then byte_at off bytes i e
 named-there : (b : Block) (at other : Crossing) (off : ℕ) (bytes : List ℕ) (i : ℕ) → is_same at other ≡ false → named (flip_of b at off bytes) other (label_of b) i ≡ 0
 named-there b at other off bytes i h = ap (λ c. bit_xor (if c && (eqb b.op b.op && eqb b.k b.k) then byte_at off bytes i else 0) 0) h
 
-xored-zero : (f : ℕ → ℕ) (i : ℕ) (xs : List ℕ) → ((k : ℕ) → f k ≡ 0) → xored_from f i xs ≡ xs
+pub xored-zero : (f : ℕ → ℕ) (i : ℕ) (xs : List ℕ) → ((k : ℕ) → f k ≡ 0) → xored_from f i xs ≡ xs
 xored-zero f i [] none = refl
 xored-zero f i (x ∷ xs) none = let e = ap (bit_xor x) (none i) ∙ xor_zero_r x in let rest = xored-zero f (i + 1) xs none in cc
 
@@ -72,7 +72,7 @@ crossed-there b at other off bytes (Ok frame) h = ap (λ f. Ok f) (altered-there
 crossed-there b at other off bytes (Err check) h = refl
 
 -- it moves no address
-unmoved : (c : Bool) → unwrap_or (if c then None else None) (pos 0) ≡ pos 0
+pub unmoved : (c : Bool) → unwrap_or (if c then None else None) (pos 0) ≡ pos 0
 unmoved true = refl
 unmoved false = refl
 

@@ -1,4 +1,17 @@
+pub mod Escapes
+pub mod Lines
+pub mod Unreadable
+pub mod Torn
+pub mod OtherAddress
+pub mod Misdirected
 pub mod Flips
 pub mod Stages
 pub mod Finding
 pub mod NearFlips
+pub mod Reading
+pub mod Kept
+pub mod FlipCuts
+pub mod DataFlips
+pub mod Astray
+pub mod WireShift
+pub mod AllFound

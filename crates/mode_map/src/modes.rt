@@ -11,13 +11,13 @@ use pi_guard::GuardKind;
 use pi_tuple::PiType;
 use std::alloc::{AllocError, Global};
 
-fn on_off(on: bool) -> &'static [u8]
+pub(crate) fn on_off(on: bool) -> &'static [u8]
     ensures { result.now ≡ on_off on }
 {
     if on { b"on" } else { b"off" }
 }
 
-fn protect_text(mode: &Mode) -> &'static [u8]
+pub(crate) fn protect_text(mode: &Mode) -> &'static [u8]
     ensures { result.now ≡ protect_text mode.now }
 {
     if !mode.dif {
@@ -42,7 +42,7 @@ fn seen_text(seen: Option<Seen>) -> &'static [u8]
 }
 
 /// A mode whose host guard is the CRC and that expects no application tag.
-fn mode_of(dix: bool, dif: bool, protect: u8) -> Mode
+pub(crate) fn mode_of(dix: bool, dif: bool, protect: u8) -> Mode
     ensures { result ≡ mode_of dix dif protect }
 {
     Mode {
