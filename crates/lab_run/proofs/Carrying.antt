@@ -1,5 +1,5 @@
 -- A call comes to its end, by its words, and what it answers to what is told.
-use Rattle.std.proofs.Common.{ℕ, ◌≡◌, List, Option, Some, None, Result, Ok, Err, refl, sym, ap, subst}
+use Rattle.std.proofs.Common.{ℕ, ◌≡◌, List, Option, Some, None, Result, Ok, Err, inl, inr, refl, sym, ap, subst}
 use Rattle.call_verdict.specs.Verdicts.{Cause, Done, IsPassedOn, Refused, Verdict, Work, Written, verdict_status}
 use Rattle.call_verdict.specs.declared.status.Status.{Status}
 use Rattle.call_verdict.proofs.Verdicts.{as_written}
@@ -7,7 +7,7 @@ use Rattle.dix_base.specs.Told.{Calm}
 use Rattle.dix_base.specs.Stores.{StoreState}
 use Rattle.lab_run.specs.Grammar.{command_in}
 use Rattle.lab_run.specs.declared.command.Command.{Command}
-use Rattle.lab_run.specs.declared.command.Command.TheVariants.{Help, Version, ShowUnits, ShowBlocks, Diff, Export, Import, Vectors, Judge, Explain, Sweep, Check}
+use Rattle.lab_run.specs.declared.command.Command.TheVariants.{Help, Version, ShowUnits, ShowBlocks, Diff, Export, Import, Vectors, Judge, Explain, Sweep, Check, Failures}
 use Rattle.rig_api.specs.State.{RigState}
 use Rattle.lab_run.specs.Calls.{Facts}
 use Rattle.lab_run.specs.Commands.{Came, Keeps, work_of}
@@ -41,6 +41,8 @@ answers (Some Judge) f v c = judges f v c
 answers (Some Explain) f v c = explains f v c
 answers (Some (Sweep byte units)) f v c = sweeps byte units f v c
 answers (Some (Check words)) f v c = checks words f v c
+answers (Some (Failures ty)) f (Refused r) c = inr (ap lab.status_of c)
+answers (Some (Failures ty)) f (Done x) c = inl refl
 
 -- where no sink had a fault the status is the verdict's
 as_said : (w : Work lab) (v : Verdict Refusal w.Yield) (out says : Sunk) (result : Status) → Said w v out says result → Calm out.faults out.faults_after → Calm says.faults says.faults_after → result ≡ verdict_status lab w v

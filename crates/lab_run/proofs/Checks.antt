@@ -6,7 +6,7 @@ use Rattle.call_verdict.specs.declared.status.Status.TheVariants as status
 use Rattle.dix_base.specs.Stores.{StoreState}
 use Rattle.dix_base.specs.Told.{Calm}
 use Rattle.dump_check.specs.declared.form.Dump.{Dump}
-use Rattle.dump_check.specs.declared.tally.Tally.{Tally}
+use Rattle.dump_check.specs.declared.tally.DumpTally.{DumpTally}
 use Rattle.dump_check.specs.declared.walking.CheckFault.TheVariants as fault
 use Rattle.dump_check.specs.declared.walking.CheckFault.{CheckFault}
 use Rattle.dump_check.specs.declared.walking.Checked.{Checked}
@@ -73,7 +73,7 @@ same_dump x d e p q = cc
 
 by_whole : (d : Dump) (c : Checked) (bytes all : List ℕ) → bytes ≡ all → c.tally ≡ tally_of d.form bytes → c.rest ≡ rest_of d.form bytes → whole_status c ≡ status_by d all
 by_whole d c bytes all e t r =
-    ap (λ (u : Tally). if ltb 0 c.rest then status.Input else done_status (ltb 0 u.bad)) t ∙ ap (λ (n : ℕ). if ltb 0 n then status.Input else done_status (ltb 0 (tally_of d.form bytes).bad)) r ∙ ap (status_by d) e
+    ap (λ (u : DumpTally). if ltb 0 c.rest then status.Input else done_status (ltb 0 u.bad)) t ∙ ap (λ (n : ℕ). if ltb 0 n then status.Input else done_status (ltb 0 (tally_of d.form bytes).bad)) r ∙ ap (status_by d) e
 
 told_by : (f : Facts) (r : Result Checked CheckFault) (d : Dump) (bytes all : List ℕ) → CameBy r d bytes f → f.left ≡ Some all → length all < MOST_BLOCKS → Calm f.reads f.reads_after → ended_status r d bytes ≡ status_by d all
 told_by f (Ok c) d bytes all x told few calm = by_whole d c bytes all (all_taken bytes all f.left f.left_after told x.0 x.1) x.2 x.3

@@ -23,7 +23,7 @@ use Rattle.lab_run.specs.declared.place.PlaceWord.{PlaceWord}
 use Rattle.rig_api.specs.Head.{head_of, units_of}
 use Rattle.rig_api.specs.State.{RigState}
 use Rattle.rig_api.specs.declared.units.UnitSpec.{UnitSpec}
-use Rattle.target_model.proofs.Bytes.{rise as rose_since}
+use Rattle.dix_base.proofs.Counts.{rose_later as rose_since}
 use Rattle.call_verdict.specs.Words.{image_in}
 use Rattle.lab_run.specs.Breaking.{EndsBy}
 use Rattle.lab_run.specs.Calls.{Facts, on_both, second_in, stretch_in}

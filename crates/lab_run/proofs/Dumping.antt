@@ -32,7 +32,7 @@ use Rattle.rig_api.specs.Frames.{joined}
 use Rattle.rig_api.specs.Image.{units_in}
 use Rattle.rig_api.specs.declared.units.UnitSpec.{UnitSpec}
 use Rattle.target_model.specs.Served.{AllLong}
-use Rattle.target_model.proofs.Bytes.{rise as rose_since}
+use Rattle.dix_base.proofs.Counts.{rose_later as rose_since}
 use Rattle.call_verdict.specs.Words.{image_in}
 use Rattle.lab_run.specs.Calls.{Facts, on_first, on_input, stretch_in}
 use Rattle.lab_run.specs.Commands.{Came}

@@ -1,5 +1,5 @@
 -- What `explain` with an image comes to.
-use Rattle.std.proofs.Common.{ℕ, ◌≡◌, ◌≤◌, ◌⊎◌, inl, inr, List, drop, Option, Some, None, Ok, Err, refl, sym, ap, subst, ◌∙◌, arith}
+use Rattle.std.proofs.Common.{ℕ, ◌≡◌, ◌≤◌, ◌⊎◌, inl, inr, ◌||◌, ltb, List, drop, Option, Some, None, Ok, Err, refl, sym, ap, subst, ◌∙◌, arith}
 use Rattle.call_refusal.specs.declared.refusal.Refusal.{Refusal as Stop}
 use Rattle.call_refusal.specs.declared.refusal.Refusal.TheVariants as stop
 use Rattle.call_verdict.specs.Verdicts.{Cause, Done, Refused, RunsOrWants, Verdict, Written, done_status, stop_status, verdict_status}
@@ -13,12 +13,16 @@ use Rattle.rig_discovery.specs.Openings.{HasOpened, OpenedOnce}
 use Rattle.call_refusal.specs.Causes.{CauseUntold}
 use Rattle.lab_run.specs.declared.command.Command.TheVariants.{Explain}
 use Rattle.rig_api.specs.Head.{head_fault, head_of}
+use Rattle.rig_api.specs.Log.{LogEntry}
 use Rattle.rig_api.specs.Telling.{Standing}
 use Rattle.rig_api.specs.State.{RigState}
 use Rattle.run_words.proofs.Marking.{marked_complete, misfit_complete, refused_complete}
 use Rattle.run_words.specs.Explained.{CauseNotRun, CauseUnexplained, HasExplained as HasRunExplained, HasMarked, HasMisfit, IsAtFault}
+use Rattle.run_words.specs.Ledgers.{book_in}
+use Rattle.run_words.specs.Lies.{Book, all_moved}
 use Rattle.run_words.specs.Sites.{sites_of}
 use Rattle.run_words.specs.Texts.{explained_by, explained_text}
+use Rattle.run_words.specs.Unseen.{all_unseen, unseen_of}
 use Rattle.run_words.specs.declared.explain.Explained.{Explained}
 use Rattle.run_words.specs.declared.explain.Unexplained.{Unexplained}
 use Rattle.script_text.specs.Bindings.{binding_fault}
@@ -31,7 +35,7 @@ use Rattle.call_verdict.specs.Words.{image_in}
 use Rattle.volume_table.specs.Faults.{table_fault}
 use Rattle.lab_run.specs.Calls.{Facts, on_rig}
 use Rattle.lab_run.specs.Commands.{Came}
-use Rattle.lab_run.specs.Explained.{Marked, Misfit, Ran, Told, explain_call, explain_work}
+use Rattle.lab_run.specs.Explained.{Marked, Misfit, Ran, Told, explain_call, explain_work, is_run_bad}
 use Rattle.lab_run.specs.Texts.{lab}
 use Rattle.lab_run.specs.declared.refusal.Refusal.{Refusal}
 use Rattle.lab_run.specs.declared.refusal.Refusal.TheVariants as refusal
@@ -100,24 +104,35 @@ goes_not_run stop.ReadFault f c = goes_refused stop.ReadFault f c
 
 -- ---- a call
 
-guided_text : (told : Explained) (f : Call) (h : HasRunExplained told f) → explained_by told.guide.sites.items told.guide.entries (drop told.run.first f.rig_after.log) told.run.stack.replies.items ≡ explained_text h.script (drop told.run.first f.rig_after.log) told.run.stack.replies.items
+-- how many blocks of reads nobody lists, by the ledger
+abbrev unseen_in : Explained → List LogEntry → ℕ
+unseen_in told log = all_unseen (book_in told.ledger) (all_moved told.ledger.size log) told.run.stack.replies.items
+
+guided_text : (told : Explained) (f : Call) (h : HasRunExplained told f) → explained_by told.guide.sites.items told.guide.entries (book_in told.ledger) (drop told.run.first f.rig_after.log) told.run.stack.replies.items ≡ explained_text h.script (drop told.run.first f.rig_after.log) told.run.stack.replies.items
 guided_text told f h =
     let log = drop told.run.first f.rig_after.log in
-    ap (λ x. explained_by x told.guide.entries log told.run.stack.replies.items) h.explained.guided.sites
-    ∙ ap (λ x. explained_by (sites_of h.script) x log told.run.stack.replies.items) h.explained.guided.entries
+    let replies = told.run.stack.replies.items in
+    ap (λ x. explained_by x told.guide.entries (book_in told.ledger) log replies) h.explained.guided.sites ∙ ap (λ x. explained_by (sites_of h.script) x (book_in told.ledger) log replies) h.explained.guided.entries
+    ∙ ap (λ x. explained_by (sites_of h.script) h.script.entries x log replies) h.explained.booked
+
+guided_status : (told : Explained) (f : Call) (h : HasRunExplained told f) → unseen_in told (drop told.run.first f.rig_after.log) ≡ unseen_of h.script (drop told.run.first f.rig_after.log) told.run.stack.replies.items
+guided_status told f h = ap (λ (b : Book). all_unseen b (all_moved b.size (drop told.run.first f.rig_after.log)) told.run.stack.replies.items) h.explained.booked
 
 pub told : (words : List (List ℕ)) (left left' : Option (List ℕ)) (reads reads' : ℕ) (rig rig' : RigState) (first second : StoreState) (x : Explained) (taken taken' : Option (List ℕ)) (o n : ℕ) (s : Status) →
     reads ≤ reads' → HasRunExplained x (explain_call (on_rig words left left' reads reads' rig rig' first second)) →
-    Written (done_status (has_bad x.run.stack.replies.items)) (explained_by x.guide.sites.items x.guide.entries (drop x.run.first rig'.log) x.run.stack.replies.items) taken taken' o n s →
+    Written (done_status (has_bad x.run.stack.replies.items || ltb 0 (unseen_in x (drop x.run.first rig'.log)))) (explained_by x.guide.sites.items x.guide.entries (book_in x.ledger) (drop x.run.first rig'.log) x.run.stack.replies.items) taken taken' o n s →
     Came (Some Explain) (Ok s) (on_rig words left left' reads reads' rig rig' first second) taken taken' o n
 told words left left' reads reads' rig rig' first second x taken taken' o n s k h t =
     let f = on_rig words left left' reads reads' rig rig' first second in
-    let bad = has_bad x.run.stack.replies.items in
+    let log = drop x.run.first rig'.log in
+    let replies = x.run.stack.replies.items in
+    let bad = is_run_bad h.script log replies in
+    let same = subst (λ (z : ℕ). Written (done_status (has_bad replies || ltb 0 z)) (explained_by x.guide.sites.items x.guide.entries (book_in x.ledger) log replies) taken taken' o n s) (guided_status x (explain_call f) h) t in
     record {
       comes = (
-        Ran h.script x.run (drop x.run.first rig'.log),
+        Ran h.script x.run log,
         record { read = h.read; ran = h.explained.ran; log_is = refl },
-        subst (λ (z : List ℕ). Written (done_status bad) z taken taken' o n s) (guided_text x (explain_call f) h) t,
+        subst (λ (z : List ℕ). Written (done_status bad) z taken taken' o n s) (guided_text x (explain_call f) h) same,
       );
       kept = record { source = k; rig = goes_run x.run h.script (image_in words) rig rig' h.explained.ran; first = refl; second = refl };
     }
@@ -183,7 +198,7 @@ stops_outside r f i c = refused_complete r (explain_call f) c i.text i.image i.s
 right : (f : Facts) (v : Verdict Refusal Told) → Cause lab explain_work v f → IsRightRun f → RunsOrWants (verdict_status lab explain_work v)
 right f (Refused (refusal.Stopped r)) c i = inr (for_memory r f i c (stops_outside r f i c))
 right f (Refused _) c i = absurd c
-right f (Done (Ran script run log)) c i = inl (done_is (has_bad run.stack.replies.items))
+right f (Done (Ran script run log)) c i = inl (done_is (is_run_bad script log run.stack.replies.items))
 right f (Done (Misfit said)) c i = absurd (misfit_complete said (explain_call f) c i.text i.image i.script i.left i.reads i.told i.head i.table i.bound i.source)
 right f (Done (Marked said)) c i = absurd (marked_complete said (explain_call f) c i.text i.image i.script i.left i.reads i.told i.head i.table i.bound i.source)
 

@@ -2,13 +2,15 @@
 use Rattle.std.proofs.Common.{◌≡◌, ℕ, ◌≤◌, Bool, true, false, eqb, List, [], ◌∷◌, Option, Some, None, refl, subst, arith}
 use Rattle.std.specs.Prelude.{codes, if◌then◌else◌}
 use Rattle.std.specs.Str.{bytes_eq}
+use Rattle.call_verdict.specs.Units.{type_in}
 use Rattle.call_verdict.specs.Words.{laid_out, units_in}
+use Rattle.pi_tuple.specs.declared.checks.PiType.{PiType}
 use Rattle.lab_run.specs.CheckWords.{check_words_in, plain_words}
 use Rattle.lab_run.specs.declared.check_words.CheckWords.{CheckWords}
-use Rattle.lab_run.specs.Grammar.{PlaceAhead, alone, alone_behind, behind_image, check_of, check_with, command_by, command_in, diff_ahead, diff_of, diff_with, explain_of, export_of, exported, flip_in, image_and_place, import_of, imported, laid_in, show_of, shown, shown_at, shown_behind, shown_place, sweep_of, sweep_with, unless_zero, vectors_of}
+use Rattle.lab_run.specs.Grammar.{PlaceAhead, alone, alone_behind, behind_image, check_of, check_with, command_by, command_in, diff_ahead, diff_of, diff_with, explain_of, export_of, exported, failures_of, failures_with, flip_in, image_and_place, import_of, imported, laid_in, show_of, shown, shown_at, shown_behind, shown_place, sweep_of, sweep_with, unless_zero, vectors_of}
 use Rattle.lab_run.specs.Places.{place_in}
 use Rattle.lab_run.specs.declared.command.Command.{Command}
-use Rattle.lab_run.specs.declared.command.Command.TheVariants.{Help, Version, ShowUnits, ShowBlocks, Diff, Export, Import, Vectors, Judge, Explain, Sweep, Check}
+use Rattle.lab_run.specs.declared.command.Command.TheVariants.{Help, Version, ShowUnits, ShowBlocks, Diff, Export, Import, Vectors, Judge, Explain, Sweep, Check, Failures}
 use Rattle.image_text.specs.declared.layout.Layout.{Layout}
 use Rattle.lab_run.specs.declared.place.PlaceWord.{PlaceWord}
 use Rattle.script_words.specs.Hexes.{byte_in}
@@ -30,6 +32,7 @@ IsGood (Some Judge) = Unit {0}
 IsGood (Some Explain) = Unit {0}
 IsGood (Some (Sweep byte units)) = (1 ≤ byte) × (is_layout units ≡ true)
 IsGood (Some (Check said)) = Unit {0}
+IsGood (Some (Failures ty)) = Unit {0}
 
 -- ---- the words of a sweep
 
@@ -112,6 +115,14 @@ good_checked : (o : Option CheckWords) → IsGood (check_with o)
 good_checked None = tt
 good_checked (Some said) = tt
 
+good_failures_with : (o : Option PiType) (words : List (List ℕ)) → IsGood (failures_with o words)
+good_failures_with None words = tt
+good_failures_with (Some ty) words = good_alone (Failures ty) words tt
+
+good_failures : (words : List (List ℕ)) → IsGood (failures_of words)
+good_failures [] = tt
+good_failures (word ∷ words) = good_failures_with (type_in word) words
+
 -- ---- the words
 
 good_if : (b : Bool) (c d : Option Command) → IsGood c → IsGood d → IsGood (if b then c else d)
@@ -120,7 +131,8 @@ good_if false c d p q = q
 
 good_by : (verb : List ℕ) (words : List (List ℕ)) → IsGood (command_by verb words)
 good_by verb words =
-    let checking : Option Command = if bytes_eq verb (codes "check") then check_of words else None in
+    let failing : Option Command = if bytes_eq verb (codes "failures") then failures_of words else None in
+    let checking : Option Command = if bytes_eq verb (codes "check") then check_of words else failing in
     let sweep : Option Command = if bytes_eq verb (codes "sweep") then sweep_of words else checking in
     let explain : Option Command = if bytes_eq verb (codes "explain") then explain_of words else sweep in
     let vectors : Option Command = if bytes_eq verb (codes "vectors") then vectors_of words else explain in
@@ -138,7 +150,8 @@ good_by verb words =
     (good_if (bytes_eq verb (codes "vectors")) (vectors_of words) explain (good_behind Vectors (behind_image words) tt)
     (good_if (bytes_eq verb (codes "explain")) (explain_of words) sweep (good_explain words)
     (good_if (bytes_eq verb (codes "sweep")) (sweep_of words) checking (good_sweep words)
-    (good_if (bytes_eq verb (codes "check")) (check_of words) None (good_checked (check_words_in words (Some plain_words))) tt)))))))))
+    (good_if (bytes_eq verb (codes "check")) (check_of words) failing (good_checked (check_words_in words (Some plain_words)))
+    (good_if (bytes_eq verb (codes "failures")) (failures_of words) None (good_failures words) tt))))))))))
 
 good : (words : List (List ℕ)) → IsGood (command_in words)
 good [] = tt

@@ -20,7 +20,7 @@ use Rattle.lab_run.specs.declared.place.PlaceWord.{PlaceWord}
 use Rattle.rig_api.specs.State.{RigState}
 use Rattle.rig_api.specs.declared.rig.RigFault.{RigFault}
 use Rattle.rig_api.specs.declared.units.UnitSpec.{UnitSpec}
-use Rattle.target_model.proofs.Bytes.{rise as rose_since}
+use Rattle.dix_base.proofs.Counts.{rose_later as rose_since}
 use Rattle.call_verdict.specs.Words.{image_in}
 use Rattle.lab_run.specs.Calls.{Facts, on_first}
 use Rattle.lab_run.specs.Commands.{Came}

@@ -4,12 +4,13 @@ use Rattle.call_verdict.specs.Verdicts.{Comes, Work}
 use Rattle.call_verdict.specs.declared.status.Status.{Status}
 use Rattle.call_verdict.specs.declared.status.Status.TheVariants as status
 use Rattle.lab_run.specs.declared.command.Command.{Command}
-use Rattle.lab_run.specs.declared.command.Command.TheVariants.{Help, Version, ShowUnits, ShowBlocks, Diff, Export, Import, Vectors, Judge, Explain, Sweep, Check}
+use Rattle.lab_run.specs.declared.command.Command.TheVariants.{Help, Version, ShowUnits, ShowBlocks, Diff, Export, Import, Vectors, Judge, Explain, Sweep, Check, Failures}
 use Rattle.lab_run.specs.Calls.{Facts}
 use Rattle.lab_run.specs.Checking.{check_work}
 use Rattle.lab_run.specs.Comparing.{diff_work}
 use Rattle.lab_run.specs.Dumping.{WritesPlace, export_work, import_work}
 use Rattle.lab_run.specs.Explained.{explain_work}
+use Rattle.lab_run.specs.Failing.{failures_work}
 use Rattle.lab_run.specs.Judging.{judge_work}
 use Rattle.lab_run.specs.Keeping.{LeavesAll, ReadsBoth, ReadsFirst, ReadsSource, UsesRig}
 use Rattle.lab_run.specs.Showing.{list_work, show_work}
@@ -56,6 +57,7 @@ work_of (Some Judge) = judge_work
 work_of (Some Explain) = explain_work
 work_of (Some (Sweep byte units)) = sweep_work byte units
 work_of (Some (Check words)) = check_work words
+work_of (Some (Failures ty)) = failures_work ty
 
 -- what stays as it was, whatever they come to
 abbrev pub Keeps : Option Command → Facts → Type 0
@@ -72,6 +74,7 @@ Keeps (Some Judge) f = ReadsSource f
 Keeps (Some Explain) f = UsesRig f
 Keeps (Some (Sweep byte units)) f = ReadsSource f
 Keeps (Some (Check words)) f = ReadsSource f
+Keeps (Some (Failures ty)) f = LeavesAll f
 
 -- What the function of a command answers, and what stays as it was.
 pub record Came (c : Option Command) (result : Result Status Refusal) (f : Facts) (old new : Option (List ℕ)) (o n : ℕ) : Type 0 where

@@ -1,13 +1,15 @@
-use Rattle.std.specs.Prelude.{ℕ, ◌≡◌, List, drop, Some, None, Ok}
+use Rattle.std.specs.Prelude.{ℕ, ◌≡◌, Bool, ◌||◌, ltb, List, drop, Some, None, Ok}
 use Rattle.dix_base.specs.Told.{Calm}
 use Rattle.call_verdict.specs.Words.{image_in}
 use Rattle.rig_api.specs.Head.{head_fault, head_of}
 use Rattle.rig_api.specs.Log.{LogEntry}
 use Rattle.run_words.specs.Explained.{CauseNotRun, HasMarked, HasMisfit}
 use Rattle.run_words.specs.Texts.{explained_text}
+use Rattle.run_words.specs.Unseen.{unseen_of}
 use Rattle.script_text.specs.Bindings.{binding_fault}
 use Rattle.script_text.specs.Language.{script_in}
 use Rattle.script_text.specs.declared.script.Script.{Script}
+use Rattle.stack_ops.specs.declared.reply.Reply.{Reply}
 use Rattle.run_command.specs.Texts.{has_bad}
 use Rattle.run_command.specs.Verdict.{Facts as Call, HasRead, HasRun, devices_of, table_over}
 use Rattle.run_command.specs.declared.verdict.Finished.{Finished}
@@ -32,13 +34,17 @@ pub data Told : Type 0 where
   Marked : (said : List ℕ) → Told
   Misfit : (said : List ℕ) → Told
 
+-- Some block is listed, or some block of a read isn't what was last accepted though nobody lists it.
+abbrev pub is_run_bad : Script → List LogEntry → List Reply → Bool
+is_run_bad script log replies = has_bad replies || ltb 0 (unseen_of script log replies)
+
 -- the status of what is told
 abbrev pub told_status : Told → Status
-told_status (Ran script run log) = done_status (has_bad run.stack.replies.items)
+told_status (Ran script run log) = done_status (is_run_bad script log run.stack.replies.items)
 told_status (Marked said) = status.Input
 told_status (Misfit said) = status.Image
 
--- the report of the run, the records of the call in words, and where the listed blocks stand and lie; or the marked text
+-- the report of the run, the records of the call in words, where the listed blocks stand and lie, and which blocks of reads nobody lists though they aren't what was last accepted; or the marked text
 abbrev pub told_text : Told → List ℕ
 told_text (Ran script run log) = explained_text script log run.stack.replies.items
 told_text (Marked said) = said

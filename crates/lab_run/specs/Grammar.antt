@@ -1,14 +1,16 @@
 use Rattle.std.specs.Prelude.{ℕ, true, false, eqb, if◌then◌else◌, List, [], ◌∷◌, codes, Option, Some, None}
 use Rattle.std.specs.Str.{bytes_eq}
 use Rattle.rig_api.specs.declared.units.UnitSpec.{UnitSpec}
+use Rattle.call_verdict.specs.Units.{type_in}
 use Rattle.call_verdict.specs.Words.{is_name, laid_out, units_in}
+use Rattle.pi_tuple.specs.declared.checks.PiType.{PiType}
 use Rattle.script_words.specs.Hexes.{byte_in}
 use Rattle.lab_run.specs.CheckWords.{check_words_in, plain_words}
 use Rattle.lab_run.specs.Layouts.{layout_in}
 use Rattle.lab_run.specs.declared.check_words.CheckWords.{CheckWords}
 use Rattle.lab_run.specs.Places.{place_in}
 use Rattle.lab_run.specs.declared.command.Command.{Command}
-use Rattle.lab_run.specs.declared.command.Command.TheVariants.{Help, Version, ShowUnits, ShowBlocks, Diff, Export, Import, Vectors, Judge, Explain, Sweep, Check}
+use Rattle.lab_run.specs.declared.command.Command.TheVariants.{Help, Version, ShowUnits, ShowBlocks, Diff, Export, Import, Vectors, Judge, Explain, Sweep, Check, Failures}
 use Rattle.image_text.specs.declared.layout.Layout.{Layout}
 use Rattle.lab_run.specs.declared.place.PlaceWord.{PlaceWord}
 
@@ -150,6 +152,15 @@ check_with (Some said) = Some (Check said)
 abbrev pub check_of : List (List ℕ) → Option Command
 check_of words = check_with (check_words_in words (Some plain_words))
 
+abbrev pub failures_with : Option PiType → List (List ℕ) → Option Command
+failures_with None words = None
+failures_with (Some ty) words = alone (Failures ty) words
+
+-- T
+abbrev pub failures_of : List (List ℕ) → Option Command
+failures_of [] = None
+failures_of (word ∷ words) = failures_with (type_in word) words
+
 -- the command of this name with these words behind it
 abbrev pub command_by : List ℕ → List (List ℕ) → Option Command
 command_by verb words =
@@ -163,7 +174,8 @@ command_by verb words =
     else (if bytes_eq verb (codes "explain") then explain_of words
     else (if bytes_eq verb (codes "sweep") then sweep_of words
     else (if bytes_eq verb (codes "check") then check_of words
-    else None)))))))))
+    else (if bytes_eq verb (codes "failures") then failures_of words
+    else None))))))))))
 
 -- the command of the words, where they are in the grammar
 abbrev pub command_in : List (List ℕ) → Option Command

@@ -12,6 +12,7 @@ pub mod Dumping
 pub mod Judging
 pub mod Vectors
 pub mod Explained
+pub mod Failing
 pub mod Swept
 pub mod Commands
 pub mod Sinks

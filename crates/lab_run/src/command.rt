@@ -3,13 +3,14 @@
 ghost use Rattle.std.specs.Prelude.{◌≡◌, IfNone, IfSome, None, Some, string_bytes};
 ghost use Rattle.std.specs.Str.{bytes_eq};
 ghost use Rattle.call_verdict.specs.Words.{word_bytes};
-ghost use Rattle.lab_run.specs.Grammar.{alone, behind_image, check_of, command_by, command_in, diff_of, explain_of, export_of, flip_in, image_and_place, import_of, laid_in, layout_alone, show_of, shown, shown_place, sweep_of, vectors_of};
+ghost use Rattle.lab_run.specs.Grammar.{alone, behind_image, check_of, command_by, command_in, diff_of, explain_of, export_of, failures_of, flip_in, image_and_place, import_of, laid_in, layout_alone, show_of, shown, shown_place, sweep_of, vectors_of};
 
 use crate::check_words::{CheckWords, check_words};
 use crate::layout::layout_of;
 use crate::place::{PlaceWord, place_of};
-use call_verdict::{UnitList, is_name, laid_out};
+use call_verdict::{UnitList, is_name, laid_out, type_of};
 use image_text::Layout;
+use pi_tuple::PiType;
 use script_words::byte;
 
 /// A command of the program. Those that work on an image name it by the word behind their own, and
@@ -41,6 +42,8 @@ pub enum Command {
     Sweep { byte: u8, units: UnitList },
     /// `check FLAG VALUE ..`: writes the bad blocks of the dump on standard input.
     Check { words: CheckWords },
+    /// `failures T`: writes who finds which failure, for a type.
+    Failures(PiType),
 }
 
 fn is_word(word: &String, text: &[u8]) -> bool
@@ -208,6 +211,15 @@ fn check_of(words: &[String]) -> Option<Command>
     Some(Command::Check { words })
 }
 
+/// `T` behind `failures`.
+fn failures_of(words: &[String]) -> Option<Command>
+    ensures { result ≡ failures_of (word_bytes words.now) }
+{
+    let (word, rest) = words.split_first()?;
+    let ty = type_of(word.as_bytes())?;
+    alone(Command::Failures(ty), rest)
+}
+
 /// The command of the words, or `None` where they are not in the grammar.
 pub(crate) fn command_of(words: &[String]) -> Option<Command>
     ensures { result ≡ command_in (word_bytes words.now) }
@@ -249,6 +261,9 @@ fn command_by(verb: &String, words: &[String]) -> Option<Command>
     }
     if is_word(verb, b"check") {
         return check_of(words);
+    }
+    if is_word(verb, b"failures") {
+        return failures_of(words);
     }
     None
 }

@@ -1,12 +1,16 @@
 //! Explaining the run of a script.
 
-ghost use Rattle.std.specs.Prelude.{◌≡◌, ◌≤◌, Some, drop, length, IfOk};
+ghost use Rattle.std.specs.Prelude.{◌≡◌, ◌≤◌, ◌||◌, Some, drop, length, ltb, IfOk};
 ghost use Rattle.call_verdict.specs.Words.{word_bytes};
 ghost use Rattle.call_verdict.specs.Verdicts.{IsPassedOn, Written, done_status};
 ghost use Rattle.dix_base.specs.Stores.{StoreState};
 ghost use Rattle.lab_run.specs.declared.command.Command.{Command};
+ghost use Rattle.run_words.specs.Explained.{IsReady};
+ghost use Rattle.run_words.specs.Ledgers.{book_in};
+ghost use Rattle.run_words.specs.Lies.{all_moved};
 ghost use Rattle.run_words.specs.Sites.{Guides};
 ghost use Rattle.run_words.specs.Texts.{explained_by};
+ghost use Rattle.run_words.specs.Unseen.{all_unseen};
 ghost use Rattle.run_command.specs.Texts.{has_bad};
 ghost use Rattle.lab_run.specs.Calls.{on_rig};
 ghost use Rattle.lab_run.specs.Commands.{Came};
@@ -22,13 +26,14 @@ use std::alloc::Global;
 fn tell_run<R: Rig, O: Sink>(out: &mut O, told: &Explained, rig: &R) -> Status
     requires records { told.now.run.first ≤ length (R.state rig.now).log }
     requires guides { Guides told.now.guide told.now.run.stack.replies.items }
-    ensures written { Written (done_status (has_bad told.now.run.stack.replies.items))
-        (explained_by told.now.guide.sites.items told.now.guide.entries (drop told.now.run.first (R.state rig.now).log) told.now.run.stack.replies.items)
+    requires ready { IsReady told.now (R.state rig.now).log }
+    ensures written { Written (done_status (has_bad told.now.run.stack.replies.items || ltb 0 (all_unseen (book_in told.now.ledger) (all_moved told.now.ledger.size (drop told.now.run.first (R.state rig.now).log)) told.now.run.stack.replies.items)))
+        (explained_by told.now.guide.sites.items told.now.guide.entries (book_in told.now.ledger) (drop told.now.run.first (R.state rig.now).log) told.now.run.stack.replies.items)
         (O.taken out.old) (O.taken out.new) (O.faults out.old) (O.faults out.new) result }
     ensures handed { IsPassedOn result (O.passed out.new) (O.taken out.new) }
 {
     match print_explained(out, told, rig) {
-        Ok(()) => status_for(told.run.has_bad()),
+        Ok(unseen) => status_for(told.run.has_bad() || unseen > 0),
         Err(Failed) => Status::WriteFault,
     }
 }

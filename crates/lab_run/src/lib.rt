@@ -10,6 +10,7 @@ mod comparing;
 mod dumps;
 mod explaining;
 mod exporting;
+mod failing;
 mod finding;
 mod from;
 mod importing;

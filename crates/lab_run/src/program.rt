@@ -14,6 +14,7 @@ use crate::command::{Command, command_of};
 use crate::comparing::diff;
 use crate::explaining::explain;
 use crate::exporting::export;
+use crate::failing::failures;
 use crate::importing::import;
 use crate::judging::judge;
 use crate::playing::vectors;
@@ -72,13 +73,14 @@ fn answer<S: Source, R: Rig, A: Store, B: Store, O: Sink>(
         Command::Explain => explain(alloc, words, input, rig, out),
         Command::Sweep { byte, units } => sweep(alloc, words, byte, &units, input, out),
         Command::Check { words: said } => check(alloc, words, said, input, out),
+        Command::Failures(ty) => failures(alloc, ty, out),
     }
 }
 
 /// Runs the program on its words, without its own name: does the command that they are, and writes its
 /// text to `out`, or the line of its refusal to `says`. `show` and `export` work on the first store, `diff` on both,
 /// `import` on the source and the first store, `vectors` on the source and the rig, `explain` on the source and, where
-/// it has an image, on the rig, `sweep` and `check` on the source.
+/// it has an image, on the rig, `sweep` and `check` on the source; `failures` on none of them.
 pub fn run<S: Source, R: Rig, A: Store, B: Store, O: Sink, E: Sink>(
     alloc: Global,
     words: &[String],

@@ -1,6 +1,6 @@
 -- The blocks that a run lists lie in the volume to which its script is bound.
 use Rattle.std.proofs.Common.{ℕ, suc, ◌≡◌, ◌+◌, ◌≤◌, ◌<◌, Bool, true, false, List, [], ◌∷◌, length, drop, map, Option, Some, None, All, refl, sym, ap, subst, ◌∙◌, arith}
-use Rattle.std.proofs.lemmas.List.{length-map}
+use Rattle.std.proofs.lemmas.List.{length-drop, length-map}
 use Rattle.std.proofs.lemmas.List.Elements.{All-cons, All-nil}
 use Rattle.bio_core.specs.declared.fate.Why.{Why}
 use Rattle.block_path.specs.Acts.{State, act, tell}
@@ -27,7 +27,11 @@ use Rattle.walk_laws.specs.Settings.{Setting}
 use Rattle.walk_laws.specs.Steps.{Step, each_from, steps_of}
 use Rattle.walk_laws.proofs.InSteps.{each_length}
 use Rattle.run_command.specs.Verdict.{HasRun}
-use Rattle.run_words.specs.Explained.{WasExplained}
+use Rattle.run_command.specs.Working.{IsSound}
+use Rattle.run_words.specs.Explained.{IsReady, WasExplained}
+use Rattle.run_words.specs.Ledgers.{IsKept, IsNew, LieInside, book_in}
+use Rattle.run_words.specs.Lies.{Book, asked_from, asked_one}
+use Rattle.run_words.specs.declared.ledger.Ledger.{Ledger}
 use Rattle.run_words.specs.Sites.{AreInside, Guides, IsGuideOf, IsInside, first_block, sites_from, sites_of}
 use Rattle.run_words.specs.declared.guide.Guide.{Guide}
 use Rattle.run_command.specs.declared.verdict.Finished.{Finished}
@@ -104,5 +108,42 @@ guides_run run s name old new g h is =
       inside = subst (λ x. AreInside (volume_len x) g.sites.items r) same (subst (λ (x : List OpSite). AreInside (volume_len h.table.entries) x r) (sym is.sites) inside);
     }
 
-pub explained_so : (run : Finished) (guide : Guide) (s : Script) (name : List ℕ) (old new : RigState) → HasRun run s name old new → IsGuideOf s guide → WasExplained (record { run = run; guide = guide }) s name old new
-explained_so run guide s name old new h is = record { ran = h; guided = is; guides = guides_run run s name old new guide h is }
+-- ---- the ledger
+
+asked_inside : (most s : ℕ) (t : Table) (devices : List DeviceInfo) (size : ℕ) (op : Op) → most ≡ volume_len t.entries → op_fault t devices size op ≡ None → (asked_one s op).first + (asked_one s op).count ≤ most
+asked_inside most s t devices size (Fill seg byte) e h = omega arith
+asked_inside most s t devices size (Put page off bytes) e h = omega arith
+asked_inside most s t devices size (Show seg) e h = omega arith
+asked_inside most s t devices size (Seal n body tuples app rtag) e h = omega arith
+asked_inside most s t devices size (Write v n body app) e h = let inside = in-range t v n h in omega (arith, inside, e)
+asked_inside most s t devices size (Fetch v n body) e h = let inside = in-range t v n h in omega (arith, inside, e)
+asked_inside most s t devices size (WritePi v n body tuples) e h = let inside = in-range t v n h in omega (arith, inside, e)
+asked_inside most s t devices size (FetchPi v n body tuples) e h = let inside = in-range t v n h in omega (arith, inside, e)
+asked_inside most s t devices size (Overwrite dev lba change) e h = omega arith
+asked_inside most s t devices size Wait e h = omega arith
+
+lie_inside : (most s : ℕ) (t : Table) (devices : List DeviceInfo) (size : ℕ) (ops : List Op) (lines : List ℕ) → most ≡ volume_len t.entries → length lines ≡ length ops → ops_fault t devices size ops lines ≡ None → LieInside most (asked_from s ops)
+lie_inside most s t devices size [] lines e l h = tt
+lie_inside most s t devices size (op ∷ ops) [] e l h = absurd (omega (arith, l))
+lie_inside most s t devices size (op ∷ ops) (line ∷ lines) e l h =
+    let n = line-none line (op_fault t devices size op) (ops_fault t devices size ops lines) h in
+    (asked_inside most s t devices size op e n.0, lie_inside most (s + (asked_one s op).count) t devices size ops lines e (omega (arith, l)) n.1)
+
+lines_of_ops : (s : Script) → IsSound s → length (drop (length s.faults) s.lines) ≡ length s.ops
+lines_of_ops s is = let l = length-drop (length s.faults) s.lines in let sum = is.lines in omega (arith, l, sum)
+
+all_ready : (run : Finished) (guide : Guide) (begun ledger : Ledger) (s : Script) (name : List ℕ) (old new : RigState) → IsSound s → HasRun run s name old new → IsGuideOf s guide → IsNew s begun → IsKept ledger new.log → ledger.first ≡ run.first → book_in ledger ≡ book_in begun
+    → IsReady (record { run = run; guide = guide; ledger = ledger }) new.log
+all_ready run guide begun ledger s name old new is h g made kept first book =
+    let asked : ledger.asked.items ≡ asked_from 0 s.ops = ap (λ (b : Book). b.asked) (book ∙ made.book) in
+    let most : volume_len guide.entries ≡ volume_len h.table.entries = ap volume_len (g.entries ∙ sym h.made.entries) in
+    record {
+      kept = kept;
+      since = first;
+      inside = subst (λ x. LieInside (volume_len guide.entries) x) (sym asked) (lie_inside (volume_len guide.entries) 0 h.table h.devices s.block s.ops (drop (length s.faults) s.lines) most (lines_of_ops s is) (bound s h.table h.devices h.bound).ops);
+    }
+
+pub explained_so : (run : Finished) (guide : Guide) (begun ledger : Ledger) (s : Script) (name : List ℕ) (old new : RigState) → IsSound s → HasRun run s name old new → IsGuideOf s guide → IsNew s begun → IsKept ledger new.log → ledger.first ≡ run.first → book_in ledger ≡ book_in begun
+    → WasExplained (record { run = run; guide = guide; ledger = ledger }) s name old new
+explained_so run guide begun ledger s name old new is h g made kept first book =
+    record { ran = h; guided = g; guides = guides_run run s name old new guide h g; booked = book ∙ made.book; ready = all_ready run guide begun ledger s name old new is h g made kept first book }

@@ -3,6 +3,7 @@ use Rattle.dix_base.specs.Told.{Calm, Took}
 use Rattle.fault_marks.specs.Entries.{misfit_text}
 use Rattle.fault_marks.specs.Texts.{marked_text}
 use Rattle.rig_api.specs.Head.{head_fault, head_of}
+use Rattle.rig_api.specs.Log.{LogEntry}
 use Rattle.rig_api.specs.State.{RigState}
 use Rattle.script_text.specs.Bindings.{binding_fault}
 use Rattle.script_text.specs.Language.{script_in}
@@ -14,6 +15,9 @@ use Rattle.call_refusal.specs.declared.refusal.Refusal.TheVariants as refusal
 use Rattle.dix_base.specs.Reading.{IsWhole, most_bytes}
 use Rattle.volume_table.specs.Faults.{table_fault}
 use Rattle.volume_table.specs.declared.fault.VolumeKind.{VolumeKind}
+use Rattle.volume_table.specs.Places.{volume_len}
+use Rattle.run_words.specs.Ledgers.{IsKept, LieInside, book_in}
+use Rattle.run_words.specs.Lies.{book_of}
 use Rattle.run_words.specs.Sites.{Guides, IsGuideOf}
 use Rattle.run_words.specs.declared.explain.Explained.{Explained}
 use Rattle.run_words.specs.declared.explain.Unexplained.{Unexplained}
@@ -21,11 +25,19 @@ use Rattle.run_words.specs.declared.explain.Unexplained.TheVariants.{Marked, Mis
 
 -- What a call comes to that runs a script to explain it.
 
--- The script was run over the image of this name, and the guide is that of the script.
+-- The ledger knows the records of the run, and each block of its requests lies in the volume.
+pub record IsReady (e : Explained) (log : List LogEntry) : Type 0 where
+  pub kept : IsKept e.ledger log
+  pub since : e.ledger.first ≡ e.run.first
+  pub inside : LieInside (volume_len e.guide.entries) e.ledger.asked.items
+
+-- The script was run over the image of this name, and guide and ledger are those of the script.
 pub record WasExplained (e : Explained) (script : Script) (name : List ℕ) (old new : RigState) : Type 0 where
   pub ran : HasRun e.run script name old new
   pub guided : IsGuideOf script e.guide
   pub guides : Guides e.guide e.run.stack.replies.items
+  pub booked : book_in e.ledger ≡ book_of script
+  pub ready : IsReady e new.log
 
 -- The source was read to its end, and its script was run and is explained.
 pub record HasExplained (e : Explained) (f : Facts) : Type 0 where

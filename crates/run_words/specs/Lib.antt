@@ -1,5 +1,9 @@
 pub mod Commands
 pub mod Vectors
 pub mod Explained
+pub mod Judged
+pub mod Ledgers
+pub mod Lies
 pub mod Sites
 pub mod Texts
+pub mod Unseen

@@ -37,6 +37,10 @@ no_site = record { line = 0; first = 0 }
 abbrev pub site_of : List OpSite → ℕ → OpSite
 site_of sites number = if eqb number 0 then no_site else slice_index_or sites (number - 1) no_site
 
+-- op i, from 0
+abbrev pub site_at : List OpSite → (i : ℕ) → OpSite
+site_at sites i = slice_index_or sites i no_site
+
 -- The guide is that of this script.
 pub record IsGuideOf (script : Script) (g : Guide) : Type 0 where
   pub sites : g.sites.items ≡ sites_of script

@@ -9,7 +9,9 @@ use Rattle.script_text.specs.declared.script.Script.{Script}
 use Rattle.volume_table.specs.Places.{place_in}
 use Rattle.volume_table.specs.declared.entry.Entry.{Entry as Extent}
 use Rattle.run_words.specs.Commands.{command_line}
+use Rattle.run_words.specs.Lies.{Book, all_moved, book_of}
 use Rattle.run_words.specs.Sites.{site_of, sites_of}
+use Rattle.run_words.specs.Unseen.{all_lines}
 use Rattle.run_words.specs.declared.guide.OpSite.{OpSite}
 use Rattle.run_words.specs.declared.labels.Run.{Run}
 
@@ -99,10 +101,10 @@ all_listed entries number (s ∷ sites) (r ∷ replies) = reply_lines entries nu
 abbrev pub words_text : List OpSite → List Extent → (records : List LogEntry) → List Reply → List ℕ
 words_text sites entries records replies = record_lines 0 sites records ++ all_listed entries 1 sites replies
 
--- behind the report
-abbrev pub explained_by : List OpSite → List Extent → (records : List LogEntry) → List Reply → List ℕ
-explained_by sites entries records replies = report replies ++ words_text sites entries records replies
+-- behind the report; and which blocks of reads aren't what was last accepted, though nobody lists them
+abbrev pub explained_by : List OpSite → List Extent → Book → (records : List LogEntry) → List Reply → List ℕ
+explained_by sites entries b records replies = report replies ++ (words_text sites entries records replies ++ all_lines sites entries b (all_moved b.size records) replies)
 
 -- the same of a script
 abbrev pub explained_text : Script → (records : List LogEntry) → List Reply → List ℕ
-explained_text script records replies = explained_by (sites_of script) script.entries records replies
+explained_text script records replies = explained_by (sites_of script) script.entries (book_of script) records replies

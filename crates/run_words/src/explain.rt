@@ -7,9 +7,12 @@ ghost use Rattle.script_lines.specs.declared.kind.ScriptKind.{ScriptKind};
 ghost use Rattle.script_text.specs.Language.{script_in};
 ghost use Rattle.run_command.specs.Verdict.{Facts};
 ghost use Rattle.run_command.specs.Working.{IsSound};
+ghost use Rattle.run_words.specs.Ledgers.{IsNew};
+ghost use Rattle.run_words.specs.Sites.{IsGuideOf};
 ghost use Rattle.run_words.specs.Explained.{CauseUnexplained, CauseUnrun, ExplainsText, HasExplained, IsComplete, IsHaltOf, IsMisfitSaid, IsSaid, WasExplained};
 
 use crate::guide::Guide;
+use crate::ledger::Ledger;
 use call_refusal::{Refusal, TOO_LONG};
 use dix_base::{Source, Unread, read_all};
 use fault_marks::{marked_text, misfit_text};
@@ -17,7 +20,7 @@ use rig_api::Rig;
 use run_command::{Finished, run_script};
 use script_laws::a_read_script_keeps_the_rules;
 use script_text::{Script, ScriptFault, ScriptKind, read_script};
-use std::alloc::Global;
+use std::alloc::{AllocError, Global};
 use volume_table::VolumeKind;
 
 /// A script that was run to its end, with what tells where its blocks stand and lie.
@@ -27,6 +30,8 @@ pub struct Explained {
     pub run: Finished,
     /// The guide of the script.
     pub guide: Guide,
+    /// What judges its reads.
+    pub ledger: Ledger,
 }
 
 /// Why nothing is explained.
@@ -87,6 +92,14 @@ fn halted(alloc: Global, text: &[u8], refusal: Refusal) -> Unexplained
     }
 }
 
+/// What tells where the blocks of a script stand and lie, and what judges its reads. The one error is want of memory.
+fn tools_of(alloc: Global, script: &Script) -> Result<(Guide, Ledger), AllocError>
+    requires { IsSound script.now }
+    ensures { IfOk result (λ tools. IsGuideOf script.now tools.0 × IsNew script.now tools.1) }
+{
+    Ok((Guide::of(alloc, script)?, Ledger::of(alloc, script)?))
+}
+
 /// Runs the script of a text over the image of this name.
 fn explain_script<R: Rig>(
     alloc: Global,
@@ -101,12 +114,15 @@ fn explain_script<R: Rig>(
         MatchResult result (λ e. WasExplained e script image.now old new) (λ u. CauseUnrun u text.now script image.now old new) }
     ensures traced { IfOk result (λ e. e.run.first ≤ length (R.state rig.new).log) }
 {
-    let guide = match Guide::of(alloc, &script) {
-        Ok(guide) => guide,
+    let (guide, mut ledger) = match tools_of(alloc, &script) {
+        Ok(tools) => tools,
         Err(_) => return Err(Unexplained::Refused(Refusal::Memory)),
     };
     match run_script(alloc, image, script, rig) {
-        Ok(run) => Ok(Explained { run, guide }),
+        Ok(run) => {
+            ledger.keep(rig, run.first);
+            Ok(Explained { run, guide, ledger })
+        }
         Err(refusal) => Err(halted(alloc, text, refusal)),
     }
 }

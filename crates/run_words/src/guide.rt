@@ -1,7 +1,7 @@
 //! Where the ops of a script stand in it.
 
 ghost use Rattle.std.specs.Prelude.{◌≡◌, IfOk};
-ghost use Rattle.run_words.specs.Sites.{IsGuideOf, first_block, site_of, sites_from};
+ghost use Rattle.run_words.specs.Sites.{IsGuideOf, first_block, site_at, site_of, sites_from};
 ghost use Rattle.run_command.specs.Working.{IsSound};
 
 use script_text::Script;
@@ -60,6 +60,16 @@ fn sites_from(alloc: Global, lines: &[u32], ops: &[Op]) -> Result<Vec<OpSite>, A
         rest = more;
     }
     Ok(sites)
+}
+
+/// The site of op `i`, from 0.
+pub(crate) fn site_at(sites: &[OpSite], i: usize) -> OpSite
+    ensures { result ≡ site_at sites.now i }
+{
+    match sites.get(i) {
+        Some(site) => *site,
+        None => NO_SITE,
+    }
 }
 
 /// The site of the op of this number, from 1.

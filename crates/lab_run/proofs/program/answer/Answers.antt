@@ -1,6 +1,6 @@
 use Rattle.std.proofs.Common.{None, Some, Ok, Err, refl, sym, ap, ◌∙◌}
 use Rattle.lab_run.specs.declared.command.Command.{Command}
-use Rattle.lab_run.specs.declared.command.Command.TheVariants.{Help, Version, ShowUnits, ShowBlocks, Diff, Export, Import, Vectors, Judge, Explain, Sweep, Check}
+use Rattle.lab_run.specs.declared.command.Command.TheVariants.{Help, Version, ShowUnits, ShowBlocks, Diff, Export, Import, Vectors, Judge, Explain, Sweep, Check, Failures}
 use Rattle.lab_run.specs.declared.refusal.Refusal.TheVariants as refusal
 use Rattle.lab_run.proofs.Carrying.{came_by}
 use Rattle.lab_run.proofs.program.answer.Goals as goal
@@ -46,3 +46,7 @@ returns-in-Sweep-clause-came g c = came_by (Some (Sweep c.in-Sweep.byte c.in-Swe
 
 pub returns-in-Check-clause-came : goal.returns-in-Check-clause-came
 returns-in-Check-clause-came g c = came_by (Some (Check c.in-Check.said)) c.check.result _ _ _ _ _ (sym c.command_of.ensures ∙ c.in-Some.is ∙ ap (λ (x : Command). Some x) c.in-Check.is) (c.check.ensures.came _ _ _)
+
+pub returns-in-Failures-clause-came : goal.returns-in-Failures-clause-came
+returns-in-Failures-clause-came g c =
+    came_by (Some (Failures c.in-Failures.ty)) c.failures.result _ _ _ _ _ (sym c.command_of.ensures ∙ c.in-Some.is ∙ ap (λ (x : Command). Some x) c.in-Failures.is) (record { comes = c.failures.ensures.comes _; kept = record { source = (refl, refl); rig = refl; first = refl; second = refl } })

@@ -4,7 +4,7 @@ use Rattle.volume_table.specs.declared.entry.Entry.{Entry}
 use Rattle.run_words.specs.Sites.{AreInside}
 use Rattle.run_words.specs.Texts.{words_text}
 use Rattle.run_words.specs.declared.guide.OpSite.{OpSite}
-use Rattle.report_text.proofs.Written.{as_text, flushed, stops}
+use Rattle.report_text.proofs.Written.{as_text}
 use Rattle.run_words.proofs.text.print_words.Goals as goal
 
 pub print_parts-requires-clause-table : goal.print_parts-requires-clause-table
@@ -15,14 +15,8 @@ print_parts-requires-clause-inside g c =
     subst (λ (es : List Entry). AreInside (volume_len es) c.as_slice-sites.result.now c.args.replies.now) (sym c.as_slice-entries.ensures)
     (subst (λ (s : List OpSite). AreInside (volume_len c.args.guide.now.entries) s c.args.replies.now) (sym c.as_slice-sites.ensures.value) c.requires.guides.inside)
 
-pub returns-in_err-print_parts-clause-wrote : goal.returns-in_err-print_parts-clause-wrote
-returns-in_err-print_parts-clause-wrote g c =
+pub returns : goal.returns
+returns g c =
     let log = drop c.args.from (g.R.Rig.state c.args.rig.now).log in
     let text = ap (λ s. words_text s c.as_slice-entries.result.now log c.args.replies.now) c.as_slice-sites.ensures.value ∙ ap (λ e. words_text c.args.guide.now.sites.items e log c.args.replies.now) c.as_slice-entries.ensures in
-    as_text text (stops c.from_residual.result c.from_residual.ensures.0 c.in_err-print_parts.ensures)
-
-pub returns-clause-wrote : goal.returns-clause-wrote
-returns-clause-wrote g c =
-    let log = drop c.args.from (g.R.Rig.state c.args.rig.now).log in
-    let text = ap (λ s. words_text s c.as_slice-entries.result.now log c.args.replies.now) c.as_slice-sites.ensures.value ∙ ap (λ e. words_text c.args.guide.now.sites.items e log c.args.replies.now) c.as_slice-entries.ensures in
-    as_text text (flushed c.flush.result c.in_ok-print_parts.ensures c.flush.ensures.same c.flush.ensures.calm c.flush.ensures.cause c.flush.ensures.count)
+    as_text text c.print_parts.ensures
