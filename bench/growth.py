@@ -42,6 +42,12 @@ def image(blocks, bad=False, name="image"):
     return path(name)
 
 
+def dump(blocks, bad=False):
+    """The blocks of such an image with their tuples, as a dump of a device has them."""
+    with open(image(blocks, bad), "rb") as it:
+        return it.read()[-FRAME * blocks :]
+
+
 def segments(blocks):
     """So many blocks of whole pages, from the first on and again where there are more."""
     return ",".join(f"{page % PAGES}:0:{min(8, blocks - page * 8) * BLOCK}" for page in range((blocks + 7) // 8))
@@ -112,6 +118,9 @@ SHAPES = [
     ("export", 16384, lambda n: ([DIXLAB, "export", image(n), "0", "interleaved"], None)),
     ("import", 16384, lambda n: ([DIXLAB, "import", image(n), "0", "plain"], bytes(BLOCK * n))),
     ("diff: blocks that differ", 16384, lambda n: ([DIXLAB, "diff", image(n), "0", image(n, True, "other"), "0"], None)),
+    ("check", 16384, lambda n: ([DIXLAB, "check"], dump(n))),
+    ("check: bad blocks", 16384, lambda n: ([DIXLAB, "check"], dump(n, True))),
+    ("battery", 1024, lambda n: (["tools/battery", f"1:{n}"], None)),
     ("vectors: requests of a block", 256, lambda n: ([DIXLAB, "vectors", image(16384)], listed(n))),
     ("explain a run: requests of a block", 256, lambda n: ([DIXLAB, "explain", image(16384)], listed(n))),
     ("explain: a fault behind skipped lines", 131072, lambda n: ([DIXLAB, "explain"], script(8, []) + b"# 8901\n" * n + b"write\n")),
